@@ -1,0 +1,3 @@
+pub mod ListLaws
+mod Computing
+mod Cases

@@ -1,0 +1,71 @@
+-- Laws of lists and tests that the theorems share.
+use Prim.Native.Nat.{ℕ, zero, suc, _+_, _*_, _≤_, _<_}
+use native.Mathlib.Nat.{le-of-suc-le-suc, not-suc-le-zero, suc-mul, zero-mul, add-comm}
+use native.Mathlib.Omega.{arith}
+use mathlib.Core.Path.{_≡_, refl, sym, ap, _∙_}
+use mathlib.Core.Bool.{Bool, true, false, not, _&&_, _||_, cond, false≢true}
+use mathlib.Core.List.{List, [], _∷_, _++_, map}
+use lib.ListN.{length, getD, set, take, replicate, length-append, length-take, length-replicate}
+use Rattle.rules.specs.Lists.{any, all, pad, cells, Every}
+
+-- a test passes or it fails
+pub by-bool : {P : Type 0} (b : Bool) → (b ≡ true → P) → (b ≡ false → P) → P
+by-bool true t f = t refl
+by-bool false t f = f refl
+
+pub or-false : (a b : Bool) → (a || b) ≡ false → (a ≡ false) × (b ≡ false)
+or-false true b h = absurd (false≢true (sym h))
+or-false false b h = (refl, h)
+
+pub and-true : (a b : Bool) → (a && b) ≡ true → (a ≡ true) × (b ≡ true)
+and-true true b h = (refl, h)
+and-true false b h = absurd (false≢true h)
+
+-- ---- Every
+
+pub every-map : {A : Type 0} {Q R : A → Type 0} → ((x : A) → Q x → R x) → (l : List A) → Every Q l → Every R l
+every-map h [] e = tt
+every-map h (x ∷ xs) e = (h x (e .0), every-map h xs (e .1))
+
+-- at any place, where the default has the property; and at a place that is there
+pub every-get : {A : Type 0} (Q : A → Type 0) (l : List A) (i : ℕ) (d : A) → Q d → Every Q l → Q (getD l i d)
+every-get Q [] i d h e = h
+every-get Q (x ∷ xs) zero d h e = e .0
+every-get Q (x ∷ xs) (suc i) d h e = every-get Q xs i d h (e .1)
+
+pub every-at : {A : Type 0} (Q : A → Type 0) (l : List A) (i : ℕ) (d : A) → i < length l → Every Q l → Q (getD l i d)
+every-at Q [] i d h e = absurd (not-suc-le-zero h)
+every-at Q (x ∷ xs) zero d h e = e .0
+every-at Q (x ∷ xs) (suc i) d h e = every-at Q xs i d (le-of-suc-le-suc h) (e .1)
+
+pub every-set : {A : Type 0} (Q : A → Type 0) (l : List A) (i : ℕ) (a : A) → Q a → Every Q l → Every Q (set l i a)
+every-set Q [] i a h e = tt
+every-set Q (x ∷ xs) zero a h e = (h, e .1)
+every-set Q (x ∷ xs) (suc i) a h e = (e .0, every-set Q xs i a h (e .1))
+
+pub every-append : {A : Type 0} (Q : A → Type 0) (l k : List A) → Every Q l → Every Q k → Every Q (l ++ k)
+every-append Q [] k e h = h
+every-append Q (x ∷ xs) k e h = (e .0, every-append Q xs k (e .1) h)
+
+pub every-snoc : {A : Type 0} (Q : A → Type 0) (l : List A) (a : A) → Q a → Every Q l → Every Q (l ++ (a ∷ []))
+every-snoc Q l a h e = every-append Q l (a ∷ []) e (h, tt)
+
+pub length-snoc : {A : Type 0} (l : List A) (a : A) → length (l ++ (a ∷ [])) ≡ length l + 1
+length-snoc l a = length-append l (a ∷ [])
+
+-- no element passes the test
+pub any-false : {A : Type 0} (f : A → Bool) (l : List A) → any f l ≡ false → Every (λ x. f x ≡ false) l
+unfolding any
+any-false f [] h = tt
+any-false f (x ∷ xs) h = let p = or-false (f x) (any f xs) h in (p .0, any-false f xs (p .1))
+
+-- ---- pad and cells
+
+pub length-pad : {A : Type 0} (n : ℕ) (d : A) (xs : List A) → length (pad n d xs) ≡ n
+unfolding pad
+length-pad n d xs = length-take n (xs ++ replicate n d) ∙ omega (arith, length-append xs (replicate n d), length-replicate n d)
+
+pub length-cells : {A : Type 0} (f : A → List ℕ) (w : ℕ) → ((a : A) → length (f a) ≡ w) → (xs : List A) → length (cells f xs) ≡ length xs * w
+unfolding cells
+length-cells f w e [] = sym (zero-mul w)
+length-cells f w e (x ∷ xs) = length-append (f x) (cells f xs) ∙ rw (e x, length-cells f w e xs, suc-mul) (add-comm w (length xs * w))

@@ -1,0 +1,81 @@
+-- What the box offers, as functions of what is lent: the answer, and every lent word afterwards.
+use Prim.Native.Nat.{ℕ, zero, suc}
+use mathlib.Core.Path.{_≡_}
+use mathlib.Core.Bool.{Bool, true, false, _||_, cond}
+use mathlib.Core.List.{List, [], _∷_, _++_}
+use lib.Dec.{ltb}
+use lib.ListN.{length, drop}
+use Rattle.rules.specs.declared.Mosts.{Mosts}
+use Rattle.rules.specs.Mosts as Most
+use Rattle.rules.specs.Numbers as No
+use Rattle.rules.specs.Lists.{pad}
+use Rattle.rules.specs.Script.{Program}
+use Rattle.rules.specs.Reading.{Reading, turnedAway, accepted, reading}
+use Rattle.rules.specs.State.{State, start}
+use Rattle.rules.specs.Run.{run, Answer, refused, answer}
+use Rattle.rules.specs.Reach.{roots, Lists}
+use Rattle.rules.specs.Tables.{programWords, stateWords}
+
+-- "1 overlong: text or turns too long", "9 short table: a lent table or list under its length"
+unfoldable pub longText : List ℕ → Bool
+longText text = ltb Most.text (length text)
+
+unfoldable pub longTurns : List ℕ → Bool
+longTurns turns = ltb Most.turns (length turns)
+
+unfoldable pub shortTable : List ℕ → Bool
+shortTable table = ltb (length table) Most.words
+
+-- ---- "reading a script into a program table"
+
+unfoldable pub readCall : Mosts → (text program : List ℕ) → Reading
+readCall m text program = reading m (longText text) (shortTable program) text
+
+-- "Numbers 1 to 9 change no lent word." "words past them keep their value"
+abbrev pub programAfter : Reading → List ℕ → List ℕ
+programAfter (turnedAway k n) program = program
+programAfter (accepted P) program = programWords P ++ drop Most.words program
+
+-- ---- "running a script on a list of turns"
+
+unfoldable pub runCall : Mosts → (text turns program state : List ℕ) → Reading
+runCall m text turns program state = reading m (longText text || longTurns turns) (shortTable program || shortTable state) text
+
+abbrev pub runAnswer : Mosts → List ℕ → Reading → Answer
+runAnswer m turns (turnedAway k n) = refused k n
+runAnswer m turns (accepted P) = answer m P (run m P turns)
+
+abbrev pub stateAfter : Mosts → List ℕ → Reading → List ℕ → List ℕ
+stateAfter m turns (turnedAway k n) state = state
+stateAfter m turns (accepted P) state = stateWords (run m P turns .state) ++ drop Most.words state
+
+-- ---- "a reach report": "takes a run's inputs, a thread and a list of 256 words. It runs, then lists ..., then zeros, with their number."
+
+unfoldable pub reachCall : Mosts → (text turns program state list : List ℕ) → Reading
+reachCall m text turns program state list =
+    reading m (longText text || longTurns turns) (shortTable program || (shortTable state || ltb (length list) Most.reachList)) text
+
+pub data Report : Type 0 where
+  unreported : (number line : ℕ) → Report
+  reached : (count : ℕ) → Report
+
+-- on the state S and a thread that was started: the order of `objects` is free
+pub record Reports (S : State) (t : ℕ) (list : List ℕ) (report : Report) (after : List ℕ) : Type 0 where
+  pub objects : List ℕ
+  pub lists : Lists (S .objects) (roots S t) objects
+  pub answers : report ≡ reached (length objects)
+  pub leaves : after ≡ pad Most.reachList 0 objects ++ drop Most.reachList list
+
+-- the list keeps its words
+pub record Unreported (number line : ℕ) (list : List ℕ) (report : Report) (after : List ℕ) : Type 0 where
+  pub answers : report ≡ unreported number line
+  pub leaves : after ≡ list
+
+-- "17 no thread: report on a thread never started", "17 comes last"
+abbrev pub ReportsOn : State → ℕ → Bool → List ℕ → Report → List ℕ → Type 0
+ReportsOn S t true list report after = Reports S t list report after
+ReportsOn S t false list report after = Unreported No.noThread 0 list report after
+
+abbrev pub ReachReport : Mosts → (turns : List ℕ) → (thread : ℕ) → Reading → List ℕ → Report → List ℕ → Type 0
+ReachReport m turns t (turnedAway k n) list report after = Unreported k n list report after
+ReachReport m turns t (accepted P) list report after = let S = run m P turns .state in ReportsOn S t (ltb t (length (S .threads))) list report after

@@ -1,0 +1,32 @@
+-- Small functions on lists that the definitions share.
+use Prim.Native.Nat.{ℕ}
+use mathlib.Core.Bool.{Bool, true, false, _&&_, _||_}
+use mathlib.Core.List.{List, [], _∷_, _++_}
+use lib.Dec.{eqb}
+use lib.ListN.{take, replicate}
+
+abbrev pub among : ℕ → List ℕ → Bool
+among c [] = false
+among c (x ∷ xs) = eqb c x || among c xs
+
+unfoldable pub any : {A : Type 0} → (A → Bool) → List A → Bool
+any f [] = false
+any f (x ∷ xs) = f x || any f xs
+
+unfoldable pub all : {A : Type 0} → (A → Bool) → List A → Bool
+all f [] = true
+all f (x ∷ xs) = f x && all f xs
+
+-- exactly n: made up by d, or cut
+unfoldable pub pad : {A : Type 0} → ℕ → A → List A → List A
+pad n d xs = take n (xs ++ replicate n d)
+
+-- records one after the other
+unfoldable pub cells : {A : Type 0} → (A → List ℕ) → List A → List ℕ
+cells f [] = []
+cells f (x ∷ xs) = f x ++ cells f xs
+
+-- each of the list has the property
+abbrev pub Every : {A : Type 0} → (A → Type 0) → List A → Type 0
+Every Q [] = Unit {0}
+Every Q (x ∷ xs) = Q x × Every Q xs

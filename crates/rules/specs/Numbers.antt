@@ -1,0 +1,75 @@
+-- The numbers of document 01's "Turning away". Each stands here and nowhere else.
+use Prim.Native.Nat.{ℕ}
+use mathlib.Core.Bool.{Bool, _||_}
+use lib.Dec.{eqb}
+
+-- text or turns too long
+abbrev pub overlong : ℕ
+overlong = 1
+
+-- a byte outside the list
+abbrev pub strayByte : ℕ
+strayByte = 2
+
+-- not a form, out of its place, or without its LF
+abbrev pub malformed : ℕ
+malformed = 3
+
+-- a most, or 255, exceeded
+abbrev pub overCount : ℕ
+overCount = 4
+
+-- slot not yet filled in its block
+abbrev pub unbound : ℕ
+unbound = 5
+
+-- take of slot 0 in a method
+abbrev pub selfTaken : ℕ
+selfTaken = 6
+
+-- no block, or the last one open
+abbrev pub unfinished : ℕ
+unfinished = 7
+
+-- no such kind or block, wrong sort of block, operands unlike the kind's fields, block 0 not a thread
+abbrev pub dangling : ℕ
+dangling = 8
+
+-- a lent table or list under its length
+abbrev pub shortTable : ℕ
+shortTable = 9
+
+abbrev pub absent : ℕ
+absent = 10
+
+abbrev pub noField : ℕ
+noField = 11
+
+abbrev pub noMethod : ℕ
+noMethod = 12
+
+abbrev pub wrongThing : ℕ
+wrongThing = 13
+
+-- the grounds of a permission stop: something local to another thread; a second reference to an iso; any other
+pub data Ground : Type 0 where
+  foreign alias other : Ground
+
+abbrev pub permission : Ground → ℕ
+permission foreign = 14
+permission alias = 14
+permission other = 14
+
+abbrev pub cast : ℕ
+cast = 15
+
+abbrev pub usedUp : ℕ
+usedUp = 16
+
+-- report on a thread never started
+abbrev pub noThread : ℕ
+noThread = 17
+
+-- "Permission is 14 and cast is 15": the numbers of the guards
+abbrev pub isGuard : ℕ → Bool
+isGuard n = eqb n (permission foreign) || eqb n (permission alias) || eqb n (permission other) || eqb n cast

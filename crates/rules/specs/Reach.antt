@@ -1,0 +1,71 @@
+-- The reach of a thread: "every object reached from the thread's slots, in all frames, and on through fields".
+use Prim.Native.Nat.{ℕ, zero, suc, _+_, _≤_}
+use mathlib.Core.Path.{_≡_}
+use mathlib.Core.Bool.{Bool, true, false, cond}
+use mathlib.Core.List.{List, [], _∷_, _++_}
+use mathlib.Core.Logic.{_↔_}
+use lib.Dec.{eqb}
+use lib.ListN.{length}
+use Rattle.rules.specs.declared.Value.{Value}
+use Rattle.rules.specs.declared.Value.the-variants.{Absent, Obj, Chan}
+use Rattle.rules.specs.Lists.{among}
+use Rattle.rules.specs.State.{Object, Frame, State, objectAt, threadAt}
+
+-- how many of these values are object n
+abbrev pub isObject : ℕ → Value → ℕ
+isObject n Absent = 0
+isObject n (Obj k) = cond (eqb k n) 1 0
+isObject n (Chan c) = 0
+
+unfoldable pub count : ℕ → List Value → ℕ
+count n [] = 0
+count n (v ∷ vs) = isObject n v + count n vs
+
+-- x is reached from object n: it is n, or a field of what is reached
+pub data Reaches (os : List Object) (n : ℕ) : ℕ → Type 0 where
+  here : {x : ℕ} → n ≡ x → Reaches os n x
+  more : {y x : ℕ} → Reaches os n y → 1 ≤ count x (objectAt os y .fields) → Reaches os n x
+
+pub record ReachedFrom (os : List Object) (vs : List Value) (x : ℕ) : Type 0 where
+  pub first : ℕ
+  pub held : 1 ≤ count first vs
+  pub reaches : Reaches os first x
+
+-- where a thread's reach starts: its slots, in all frames. "Messages in channels are not followed. A finished thread reaches nothing."
+unfoldable pub slotsOf : List Frame → List Value
+slotsOf [] = []
+slotsOf (f ∷ fs) = f .slots ++ slotsOf fs
+
+unfoldable pub roots : State → ℕ → List Value
+roots S t = slotsOf (threadAt S t .frames)
+
+unfoldable pub times : ℕ → List ℕ → ℕ
+times n [] = 0
+times n (x ∷ xs) = cond (eqb x n) 1 0 + times n xs
+
+-- "lists every object reached .., each once, in any order": the order is free
+pub record Lists (os : List Object) (vs : List Value) (out : List ℕ) : Type 0 where
+  pub reached : (x : ℕ) → (1 ≤ times x out) ↔ ReachedFrom os vs x
+  pub once : (x : ℕ) → times x out ≤ 1
+
+-- One such list: depth first, fields in order, each object as it is first met. `k` bounds the visits.
+unfoldable mutual
+  pub walk : (k : ℕ) → List Object → (met : List ℕ) → List Value → List ℕ
+  walk zero os met vs = met
+  walk (suc k) os met [] = met
+  walk (suc k) os met (Absent ∷ vs) = walk k os met vs
+  walk (suc k) os met (Chan c ∷ vs) = walk k os met vs
+  walk (suc k) os met (Obj n ∷ vs) = visit k (among n met) os met n vs
+
+  pub visit : (k : ℕ) → (isMet : Bool) → List Object → (met : List ℕ) → ℕ → List Value → List ℕ
+  visit zero b os met n vs = met
+  visit (suc k) true os met n vs = walk k os met vs
+  visit (suc k) false os met n vs = walk k os (met ++ (n ∷ [])) (objectAt os n .fields ++ vs)
+
+-- visits that suffice from v values: two for each value and each field
+unfoldable pub visits : List Object → ℕ → ℕ
+visits [] v = v + v + 1
+visits (o ∷ os) v = length (o .fields) + length (o .fields) + visits os v
+
+unfoldable pub reachList : List Object → List Value → List ℕ
+reachList os vs = walk (visits os (length vs)) os [] vs

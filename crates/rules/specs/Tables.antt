@@ -1,0 +1,101 @@
+-- Both tables to the word: "8,192 words of 16 bits each", "unused words among the 8,192 are zero". docs/LAYOUT.md says the same in prose.
+use Prim.Native.Nat.{ℕ, zero, suc, _+_, _*_}
+use mathlib.Core.List.{List, [], _∷_, _++_, map}
+use lib.ListN.{length}
+use Rattle.rules.specs.declared.Cap.the-variants.{Imm}
+use Rattle.rules.specs.declared.Value.{Value}
+use Rattle.rules.specs.declared.Value.the-variants.{Absent, Obj, Chan}
+use Rattle.rules.specs.Mosts as Most
+use Rattle.rules.specs.Lists.{pad, cells}
+use Rattle.rules.specs.Script.{Operand, reads, takes, Expr, value, field, swap, call, new, cast, spawn, send, recv, Line, bind, give, Sort, thread, method, Kind, Form, kind, opens, line, Program, rank, linesOf}
+use Rattle.rules.specs.State.{Object, Frame, Sender, ready, waiting, Thread, noThread, Channel, emptyChannel, State}
+
+-- ---- The program table
+
+-- an operand: twice its slot, and one more where it takes
+abbrev pub operandWord : Operand → ℕ
+operandWord (reads s) = s * 2
+operandWord (takes s) = s * 2 + 1
+
+-- an item of a list: one more, so that 0 stands after the last
+abbrev pub operandItem : Operand → ℕ
+operandItem w = suc (operandWord w)
+
+-- a line: the number of its form, and its parts as they are written
+unfoldable pub lineWords : Form → List ℕ
+lineWords (kind K) = 1 ∷ K .fields ∷ map suc (K .methods)
+lineWords (opens thread) = 2 ∷ []
+lineWords (opens method) = 3 ∷ []
+lineWords (line (give w)) = 4 ∷ operandWord w ∷ []
+lineWords (line (bind (value w))) = 5 ∷ operandWord w ∷ []
+lineWords (line (bind (field s f))) = 6 ∷ s ∷ f ∷ []
+lineWords (line (bind (swap s f w))) = 7 ∷ s ∷ f ∷ operandWord w ∷ []
+lineWords (line (bind (call s i w))) = 8 ∷ s ∷ i ∷ operandWord w ∷ []
+lineWords (line (bind (new k n ws))) = 9 ∷ rank k ∷ n ∷ map operandItem ws
+lineWords (line (bind (cast k w))) = 10 ∷ rank k ∷ operandWord w ∷ []
+lineWords (line (bind (spawn b))) = 11 ∷ b ∷ []
+lineWords (line (bind (send s w))) = 12 ∷ s ∷ operandWord w ∷ []
+lineWords (line (bind (recv s))) = 13 ∷ s ∷ []
+
+unfoldable pub row : Form → List ℕ
+row F = pad 8 0 (lineWords F)
+
+-- for each block the number of the line after its opener; n is the first line's number
+unfoldable pub firstLines : ℕ → List Form → List ℕ
+firstLines n [] = []
+firstLines n (kind K ∷ Fs) = firstLines (suc n) Fs
+firstLines n (opens o ∷ Fs) = suc n ∷ firstLines (suc n) Fs
+firstLines n (line x ∷ Fs) = firstLines (suc n) Fs
+
+-- words 0 to 2 count kinds, blocks and lines; 64 first lines from 8; 672 lines of 8 words from 72
+unfoldable pub programWords : Program → List ℕ
+programWords P =
+    pad 8 0 (length (P .kinds) ∷ length (P .blocks) ∷ length (linesOf P) ∷ [])
+    ++ (pad 64 0 (firstLines 0 (linesOf P)) ++ (pad 5376 0 (cells row (linesOf P)) ++ pad 2744 0 []))
+
+-- ---- The state table
+
+-- 0 absent, 1 + n an object, 257 + c a channel
+abbrev pub word : Value → ℕ
+word Absent = 0
+word (Obj n) = n + 1
+word (Chan c) = c + 257
+
+-- what stands in places that are not used: its words are zero
+abbrev pub unmade : Object
+unmade = record { cap = Imm; kind = 0; creator = 0; fields = [] }
+
+abbrev pub noFrame : Frame
+noFrame = record { block = 0; line = 0; slots = [] }
+
+-- capability, kind, creator, a spare word, four fields
+unfoldable pub objectWords : Object → List ℕ
+objectWords o = rank (o .cap) ∷ o .kind ∷ o .creator ∷ 0 ∷ map word (pad 4 Absent (o .fields))
+
+-- block, line, the number of filled slots, sixteen slots
+unfoldable pub frameWords : Frame → List ℕ
+frameWords f = f .block ∷ f .line ∷ length (f .slots) ∷ map word (pad 16 Absent (f .slots))
+
+-- 0 ready, 1 + i waiting as the sender of message i
+abbrev pub senderWord : Sender → ℕ
+senderWord ready = 0
+senderWord (waiting i) = i + 1
+
+unfoldable pub outermostFirst : List Frame → List Frame
+outermostFirst [] = []
+outermostFirst (f ∷ fs) = outermostFirst fs ++ (f ∷ [])
+
+-- the number of frames, the sender, sixteen frames
+unfoldable pub threadWords : Thread → List ℕ
+threadWords t = length (t .frames) ∷ senderWord (t .sender) ∷ cells frameWords (pad 16 noFrame (outermostFirst (t .frames)))
+
+-- message, message number
+unfoldable pub channelWords : Channel → List ℕ
+channelWords c = word (c .message) ∷ c .number ∷ []
+
+-- words 0 and 1 count objects and threads; 256 objects of 8 words from 8; 16 threads of 306 from 2,056; 16 channels of 2 from 6,952
+unfoldable pub stateWords : State → List ℕ
+stateWords S =
+    pad 8 0 (length (S .objects) ∷ length (S .threads) ∷ [])
+    ++ (cells objectWords (pad 256 unmade (S .objects))
+    ++ (cells threadWords (pad 16 noThread (S .threads)) ++ (cells channelWords (pad 16 emptyChannel (S .channels)) ++ pad 1208 0 [])))
