@@ -1,14 +1,19 @@
-// The types that the definitions (specs/) share with the code, the words of K, and who may hold whom.
+// The types that the definitions (specs/) share with the code, who may hold whom, and the words of K.
 ghost use mathlib.Core.Path.{_≡_};
+ghost use Prim.Native.Nat.{_<_};
+ghost use lib.ListN.{getD, length};
+ghost use Rattle.rules.specs.Script.{rank};
+ghost use Rattle.rules.specs.Templates.{capWord};
+ghost use Rattle.rules.specs.Turn.{mayHold};
 
-// Document 01: a value is absent, an object number or a channel number.
+// "A value is absent, an object number or a channel number."
 pub enum Value {
     Absent,
     Obj(u16),
     Chan(u16),
 }
 
-// Document 01's K, in the order imm < iso < local < unsafe.
+// "Capabilities are ordered imm < iso < local < unsafe".
 pub enum Cap {
     Imm,
     Iso,
@@ -16,11 +21,91 @@ pub enum Cap {
     Unsafe,
 }
 
-// The mosts that two scripts on one box would share.
+// The mosts of a script that two scripts on one box would share (specs/Mosts has their values).
 pub struct Mosts {
     pub kinds: usize,
     pub blocks: usize,
     pub lets: usize,
     pub objects: usize,
     pub threads: usize,
+}
+
+// "a table of four rows by four columns states this". Row: the holder; column: the value.
+pub const HOLDS: [[bool; 4]; 4] = [
+    [true, false, false, false],
+    [true, true, false, false],
+    [true, true, true, false],
+    [true, true, true, true],
+];
+
+// The place of a capability in the order.
+pub fn cap_rank(c: Cap) -> usize
+    ensures { λ r. ⌜ r ≡ rank c ⌝ }
+    ensures { λ r. ⌜ r < 4 ⌝ }
+{
+    match c {
+        Cap::Imm => 0,
+        Cap::Iso => 1,
+        Cap::Local => 2,
+        Cap::Unsafe => 3,
+    }
+}
+
+// "A holder may hold a value of its own or a lesser capability".
+pub fn may_hold(holder: Cap, value: Cap) -> bool
+    ensures { λ r. ⌜ r ≡ mayHold holder value ⌝ }
+{
+    let row = cap_rank(holder);
+    let column = cap_rank(value);
+    HOLDS[row][column]
+}
+
+// "K is one of the words".
+pub const IMM: [u8; 3] = *b"imm";
+
+pub const ISO: [u8; 3] = *b"iso";
+
+pub const LOCAL: [u8; 5] = *b"local";
+
+pub const UNSAFE: [u8; 6] = *b"unsafe";
+
+// How many letters the word of a capability has.
+pub fn cap_length(c: Cap) -> usize
+    ensures { λ r. ⌜ r ≡ length (capWord c) ⌝ }
+{
+    match c {
+        Cap::Imm => 3,
+        Cap::Iso => 3,
+        Cap::Local => 5,
+        Cap::Unsafe => 6,
+    }
+}
+
+// Letter i of the word of a capability, and 0 past its end.
+pub fn cap_letter(c: Cap, i: usize) -> u8
+    ensures { λ r. ⌜ r ≡ getD (capWord c) i 0 ⌝ }
+{
+    match c {
+        Cap::Imm => {
+            if i < 3 {
+                return IMM[i];
+            }
+        }
+        Cap::Iso => {
+            if i < 3 {
+                return ISO[i];
+            }
+        }
+        Cap::Local => {
+            if i < 5 {
+                return LOCAL[i];
+            }
+        }
+        Cap::Unsafe => {
+            if i < 6 {
+                return UNSAFE[i];
+            }
+        }
+    }
+    0
 }
