@@ -1,52 +1,10 @@
 -- The starred bench cases of document 01, as one table: each is computed from its text.
-use Prim.Native.Nat.{ℕ}
 use Prim.Native.String as S
-use mathlib.Core.Path.{_≡_, refl}
-use mathlib.Core.Bool.{Bool, true, false}
-use mathlib.Core.List.{List, [], _∷_, map}
-use Rattle.rules.specs.Mosts.{mosts}
+use mathlib.Core.Path.{refl}
+use mathlib.Core.List.{List, [], _∷_}
 use Rattle.rules.specs.Text.{bytes}
-use Rattle.rules.specs.Script.{Program}
-use Rattle.rules.specs.Reading.{Reading, turnedAway, accepted, script}
-use Rattle.rules.specs.Run.{Answer, refused, ended, halted, finished, stuck, openEnd}
-use Rattle.rules.specs.Stripped.{strip}
-use Rattle.rules.specs.Calls.{runAnswer}
-use Rattle.rules.specs.Input.{Outcome, ranOn, printed}
-use Rattle.rules.proofs.Computing.{reads-texts, runs-programs, prints-runs}
-
--- guarded, or with every K changed to unsafe once it is read
-data Run : Type 0 where
-  guarded stripped : Run
-
--- what document 01 states of a case: its answer, and for A what is printed
-data Output : Type 0 where
-  unstated : Output
-  prints : List ℕ → Output
-
-record Case : Type 0 where
-  text : S.String
-  turns : List ℕ
-  run : Run
-  answer : Answer
-  output : Output
-
-readFor : Run → Reading → Reading
-readFor guarded r = r
-readFor stripped (turnedAway k n) = turnedAway k n
-readFor stripped (accepted P) = accepted (strip P)
-
-readingOf : Case → Reading
-readingOf c = readFor (c .run) (script mosts (bytes (c .text)))
-
-outputFor : Output → List ℕ → Output
-outputFor unstated l = unstated
-outputFor (prints _) l = prints l
-
-found : Case → Answer × Output
-found c = (runAnswer mosts (c .turns) (readingOf c), outputFor (c .output) (printed (ranOn mosts (c .turns) (readingOf c))))
-
-answers : S.String → List ℕ → Run → Answer → Case
-answers s ts r a = record { text = s; turns = ts; run = r; answer = a; output = unstated }
+use Rattle.rules.specs.Run.{refused, ended, halted, finished, stuck, openEnd}
+use Rattle.rules.proofs.Computing.{Case, guarded, stripped, prints, answers, AllHold, computed}
 
 caseD : S.String
 caseD = "(kind (fields 0) (does))\n(thread)\n(let (new iso 0))\n(give (read 1))\n"
@@ -57,7 +15,7 @@ cases =
     record {
       text = "(kind (fields 0) (does))\n(thread)\n(let (spawn 1))\n(let (new iso 0))\n(let (send 1 (take 2)))\n(give (read 1))\n(thread)\n(let (recv 0))\n(give (take 1))\n";
       turns = 0 ∷ 0 ∷ 0 ∷ 1 ∷ 0 ∷ [];
-      run = guarded;
+      way = guarded;
       answer = ended openEnd 5;
       output = prints (bytes "(end open 5)\n(object 0 iso 0 0)\n(channel 1 empty)\n(thread 0 ready 0 3 absent (chan 1) absent (chan 1))\n(thread 1 ready 1 1 (chan 1) (obj 0))\n");
     }
@@ -84,6 +42,6 @@ cases =
     ∷ []
 
 -- the one fact
-every-case : map found cases ≡ map (λ c. (c .answer, c .output)) cases
-unfolding found readingOf readFor outputFor answers caseD cases reads-texts runs-programs prints-runs
+every-case : AllHold cases
+unfolding caseD cases computed
 every-case = refl

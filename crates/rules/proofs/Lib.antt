@@ -1,3 +1,4 @@
 pub mod ListLaws
-mod Computing
+pub mod Computing
 mod Cases
+mod Readings
