@@ -2,7 +2,7 @@
 use Prim.Native.Nat.{ℕ}
 use Prim.Native.String as S
 use mathlib.Core.Path.{_≡_}
-use mathlib.Core.List.{List, [], _∷_, map}
+use mathlib.Core.List.{List, map}
 use Rattle.rules.specs.Mosts.{mosts}
 use Rattle.rules.specs.Text.{bytes, allowed, stray, lines}
 use Rattle.rules.specs.Reading.{Reading, turnedAway, accepted, script, targetsIn, operandsIn, numbersIn, slotsIn, slotsFilled, isOutside, inMethod, inPlace, overMost, over255, isUnbound, takesFirst, takesSelf, oneMore, readOn, formStep, lineStep, finish, scan, sameSort, isSort, dangles, opened, link}

@@ -2,3 +2,5 @@ pub mod ListLaws
 pub mod Computing
 mod Cases
 mod Readings
+pub mod Simulation
+pub mod Demand3

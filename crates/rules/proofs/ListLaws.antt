@@ -1,11 +1,11 @@
 -- Laws of lists and tests that the theorems share.
-use Prim.Native.Nat.{ℕ, zero, suc, _+_, _*_, _≤_, _<_}
+use Prim.Native.Nat.{ℕ, zero, suc, _+_, _*_, _<_}
 use native.Mathlib.Nat.{le-of-suc-le-suc, not-suc-le-zero, suc-mul, zero-mul, add-comm}
 use native.Mathlib.Omega.{arith}
 use mathlib.Core.Path.{_≡_, refl, sym, ap, _∙_}
-use mathlib.Core.Bool.{Bool, true, false, not, _&&_, _||_, cond, false≢true}
+use mathlib.Core.Bool.{Bool, true, false, _&&_, _||_, false≢true}
 use mathlib.Core.List.{List, [], _∷_, _++_, map}
-use lib.ListN.{length, getD, set, take, replicate, length-append, length-take, length-replicate}
+use lib.ListN.{length, getD, set, replicate, length-append, length-take, length-replicate}
 use Rattle.rules.specs.Lists.{any, all, pad, cells, Every}
 
 -- a test passes or it fails
@@ -58,6 +58,22 @@ pub any-false : {A : Type 0} (f : A → Bool) (l : List A) → any f l ≡ false
 unfolding any
 any-false f [] h = tt
 any-false f (x ∷ xs) h = let p = or-false (f x) (any f xs) h in (p .0, any-false f xs (p .1))
+
+-- where no element can pass the test, and where what passes one test passes another
+pub any-none : {A : Type 0} (f : A → Bool) → ((x : A) → f x ≡ false) → (l : List A) → any f l ≡ false
+unfolding any
+any-none f h [] = refl
+any-none f h (x ∷ xs) = rw (h x) (any-none f h xs)
+
+pub all-weaker : {A : Type 0} (f g : A → Bool) → ((x : A) → f x ≡ true → g x ≡ true) → (l : List A) → all f l ≡ true → all g l ≡ true
+unfolding all
+all-weaker f g h [] e = refl
+all-weaker f g h (x ∷ xs) e = let p = and-true (f x) (all f xs) e in rw (h x (p .0), all-weaker f g h xs (p .1))
+
+pub map-set : {A B : Type 0} (f : A → B) (l : List A) (i : ℕ) (a : A) → map f (set l i a) ≡ set (map f l) i (f a)
+map-set f [] i a = refl
+map-set f (x ∷ xs) zero a = refl
+map-set f (x ∷ xs) (suc i) a = ap (f x ∷_) (map-set f xs i a)
 
 -- ---- pad and cells
 

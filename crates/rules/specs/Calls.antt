@@ -1,17 +1,16 @@
 -- What the box offers, as functions of what is lent: the answer, and every lent word afterwards.
-use Prim.Native.Nat.{ℕ, zero, suc}
+use Prim.Native.Nat.{ℕ}
 use mathlib.Core.Path.{_≡_}
-use mathlib.Core.Bool.{Bool, true, false, _||_, cond}
-use mathlib.Core.List.{List, [], _∷_, _++_}
+use mathlib.Core.Bool.{Bool, true, false, _||_}
+use mathlib.Core.List.{List, _++_}
 use lib.Dec.{ltb}
 use lib.ListN.{length, drop}
 use Rattle.rules.specs.declared.Mosts.{Mosts}
 use Rattle.rules.specs.Mosts as Most
 use Rattle.rules.specs.Numbers as No
 use Rattle.rules.specs.Lists.{pad}
-use Rattle.rules.specs.Script.{Program}
 use Rattle.rules.specs.Reading.{Reading, turnedAway, accepted, reading}
-use Rattle.rules.specs.State.{State, start}
+use Rattle.rules.specs.State.{State}
 use Rattle.rules.specs.Run.{run, Answer, refused, answer}
 use Rattle.rules.specs.Reach.{roots, Lists}
 use Rattle.rules.specs.Tables.{programWords, stateWords}

@@ -1,7 +1,6 @@
 -- "The printed run": what boxrun prints for every answer, byte for byte.
-use Prim.Native.Nat.{ℕ, zero, suc}
+use Prim.Native.Nat.{ℕ, suc}
 use Prim.Native.String as S
-use mathlib.Core.Bool.{Bool, true, false}
 use mathlib.Core.List.{List, [], _∷_, _++_, map}
 use lib.ListN.{drop}
 use Rattle.rules.specs.declared.Value.{Value}

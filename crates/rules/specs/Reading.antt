@@ -1,15 +1,15 @@
 -- Reading a script: refusals 1 to 9 in document 01's order, each with its number and line.
-use Prim.Native.Nat.{ℕ, zero, suc, _+_}
+use Prim.Native.Nat.{ℕ, suc, _+_}
 use mathlib.Core.Bool.{Bool, true, false, not, _&&_, _||_, cond}
 use mathlib.Core.List.{List, [], _∷_, _++_, map}
 use lib.Dec.{ltb, leb, eqb}
-use lib.ListN.{length, getD}
+use lib.ListN.{length}
 use Rattle.rules.specs.declared.Mosts.{Mosts}
 use Rattle.rules.specs.Mosts as Most
 use Rattle.rules.specs.Numbers as No
 use Rattle.rules.specs.Lists.{any}
 use Rattle.rules.specs.Text.{stray, lines}
-use Rattle.rules.specs.Script.{Operand, reads, takes, Expr, value, field, swap, call, new, cast, spawn, send, recv, Line, bind, give, Sort, thread, method, Kind, Form, kind, opens, line, Program, programOf, kindAt, blockAt}
+use Rattle.rules.specs.Script.{Operand, reads, takes, value, field, swap, call, new, cast, spawn, send, recv, bind, give, Sort, thread, method, Form, kind, opens, line, Program, programOf, kindAt, blockAt}
 use Rattle.rules.specs.Templates.{Taken, took, unfit, decode}
 
 -- ---- What a form names

@@ -1,7 +1,7 @@
 -- Stripping and erasing, and demand 3: the stripped script matches the guarded one.
 use Prim.Native.Nat.{ℕ, suc, _≤_, _<_}
 use mathlib.Core.Path.{_≡_}
-use mathlib.Core.Bool.{Bool, true, false}
+use mathlib.Core.Bool.{true, false}
 use mathlib.Core.List.{List, map}
 use mathlib.Core.Logic.{_⊎_}
 use lib.ListN.{length, take}
@@ -10,7 +10,7 @@ use Rattle.rules.specs.declared.Mosts.{Mosts}
 use Rattle.rules.specs.Numbers as No
 use Rattle.rules.specs.Script.{Expr, value, field, swap, call, new, cast, spawn, send, recv, Block, Program}
 use Rattle.rules.specs.State.{Object, State}
-use Rattle.rules.specs.Run.{Run, Stop, none, stopped, run, finished, stuck, endOf, allFinished}
+use Rattle.rules.specs.Run.{Run, none, stopped, run, stuck, endOf, allFinished}
 use Rattle.rules.specs.Tables.{stateWords}
 
 -- "once it is read, every K in it is changed to unsafe"
@@ -52,6 +52,17 @@ module _ (m : Mosts) (P : Program) (ts : List ℕ) where
     pub before : r i .stop ≡ none
     pub then-stopped : r (suc i) .stop ≡ stopped number thread block line
 
+  -- "has stopped .. by that turn for permission or cast"
+  pub record GuardStopsBy (i : ℕ) : Type 0 where
+    pub at : ℕ
+    pub early : at ≤ i
+    pub number : ℕ
+    pub thread : ℕ
+    pub block : ℕ
+    pub line : ℕ
+    pub stops : StopsAt guarded at number thread block line
+    pub guard : No.isGuard number ≡ true
+
   -- Demand 3, sentence by sentence.
   pub record Matches : Type 0 where
     -- "At the start and after every turn before the guarded run stops, tables are equal, capabilities aside,"
@@ -70,6 +81,4 @@ module _ (m : Mosts) (P : Program) (ts : List ℕ) where
     -- "The stripped run never stops for permission or cast;"
     pub never-guard : (i k t b l : ℕ) → StopsAt stripped i k t b l → No.isGuard k ≡ false
     -- "if it stops, the guarded run has stopped at that turn with that number, or by that turn for permission or cast."
-    pub has-cause : (i k t b l : ℕ) → StopsAt stripped i k t b l
-        → StopsAt guarded i k t b l
-        ⊎ ((j : ℕ) × (j ≤ i) × (k′ : ℕ) × (t′ : ℕ) × (b′ : ℕ) × (l′ : ℕ) × StopsAt guarded j k′ t′ b′ l′ × (No.isGuard k′ ≡ true))
+    pub has-cause : (i k t b l : ℕ) → StopsAt stripped i k t b l → StopsAt guarded i k t b l ⊎ GuardStopsBy i

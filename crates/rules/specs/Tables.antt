@@ -1,13 +1,12 @@
 -- Both tables to the word: "8,192 words of 16 bits each", "unused words among the 8,192 are zero". docs/LAYOUT.md says the same in prose.
-use Prim.Native.Nat.{ℕ, zero, suc, _+_, _*_}
+use Prim.Native.Nat.{ℕ, suc, _+_, _*_}
 use mathlib.Core.List.{List, [], _∷_, _++_, map}
 use lib.ListN.{length}
 use Rattle.rules.specs.declared.Cap.the-variants.{Imm}
 use Rattle.rules.specs.declared.Value.{Value}
 use Rattle.rules.specs.declared.Value.the-variants.{Absent, Obj, Chan}
-use Rattle.rules.specs.Mosts as Most
 use Rattle.rules.specs.Lists.{pad, cells}
-use Rattle.rules.specs.Script.{Operand, reads, takes, Expr, value, field, swap, call, new, cast, spawn, send, recv, Line, bind, give, Sort, thread, method, Kind, Form, kind, opens, line, Program, rank, linesOf}
+use Rattle.rules.specs.Script.{Operand, reads, takes, value, field, swap, call, new, cast, spawn, send, recv, bind, give, thread, method, Form, kind, opens, line, Program, rank, linesOf}
 use Rattle.rules.specs.State.{Object, Frame, Sender, ready, waiting, Thread, noThread, Channel, emptyChannel, State}
 
 -- ---- The program table

@@ -1,5 +1,5 @@
 -- One turn of one thread: operands first, then the checks in the order that document 01's "Machine" writes them, then the new state.
-use Prim.Native.Nat.{ℕ, zero, suc, _+_}
+use Prim.Native.Nat.{ℕ, suc, _+_}
 use mathlib.Core.Bool.{Bool, true, false, not, _&&_, _||_}
 use mathlib.Core.List.{List, [], _∷_, _++_}
 use lib.Dec.{leb, ltb, eqb}
@@ -14,7 +14,7 @@ use Rattle.rules.specs.Numbers as No
 use Rattle.rules.specs.Numbers.{foreign, alias, other}
 use Rattle.rules.specs.Lists.{any}
 use Rattle.rules.specs.Script.{Program, Operand, reads, takes, Expr, value, field, swap, call, new, cast, spawn, send, recv, Line, bind, give, rank, kindAt, lineAt}
-use Rattle.rules.specs.State.{Object, Frame, Sender, ready, waiting, Thread, Channel, State, emptyChannel, objectAt, threadAt, channelAt, slotAt}
+use Rattle.rules.specs.State.{Object, Frame, Sender, ready, waiting, Channel, State, emptyChannel, objectAt, threadAt, channelAt, slotAt}
 
 -- ---- What a part of a turn comes to: it goes on with a value, it waits (or idles), or it stops with a number.
 
