@@ -2,5 +2,7 @@ pub mod ListLaws
 pub mod Computing
 mod Cases
 mod Readings
+pub mod Scanned
+pub mod Accepted
 pub mod Simulation
 pub mod Demand3

@@ -3,7 +3,7 @@ use Prim.Native.Nat.{ℕ, zero, suc, _+_, _*_, _<_}
 use native.Mathlib.Nat.{le-of-suc-le-suc, not-suc-le-zero, suc-mul, zero-mul, add-comm}
 use native.Mathlib.Omega.{arith}
 use mathlib.Core.Path.{_≡_, refl, sym, ap, _∙_}
-use mathlib.Core.Bool.{Bool, true, false, _&&_, _||_, false≢true}
+use mathlib.Core.Bool.{Bool, true, false, _&&_, _||_, cond, false≢true}
 use mathlib.Core.List.{List, [], _∷_, _++_, map}
 use lib.ListN.{length, getD, set, replicate, length-append, length-take, length-replicate}
 use Rattle.rules.specs.Lists.{any, all, pad, cells, Every}
@@ -17,9 +17,19 @@ pub or-false : (a b : Bool) → (a || b) ≡ false → (a ≡ false) × (b ≡ f
 or-false true b h = absurd (false≢true (sym h))
 or-false false b h = (refl, h)
 
+pub or-false₃ : (a b c : Bool) → (a || b || c) ≡ false → (a ≡ false) × (b ≡ false) × (c ≡ false)
+or-false₃ true b c h = absurd (false≢true (sym h))
+or-false₃ false true c h = absurd (false≢true (sym h))
+or-false₃ false false c h = (refl, refl, h)
+
 pub and-true : (a b : Bool) → (a && b) ≡ true → (a ≡ true) × (b ≡ true)
 and-true true b h = (refl, h)
 and-true false b h = absurd (false≢true h)
+
+-- where the answer is z and the first arm is not, the test failed and the second arm is z
+pub other-arm : {A : Type 0} (b : Bool) (x y z : A) → (x ≡ z → ⊥) → cond b x y ≡ z → (b ≡ false) × (y ≡ z)
+other-arm true x y z n h = absurd (n h)
+other-arm false x y z n h = (refl, h)
 
 -- ---- Every
 
@@ -46,6 +56,10 @@ every-set Q (x ∷ xs) (suc i) a h e = (e .0, every-set Q xs i a h (e .1))
 pub every-append : {A : Type 0} (Q : A → Type 0) (l k : List A) → Every Q l → Every Q k → Every Q (l ++ k)
 every-append Q [] k e h = h
 every-append Q (x ∷ xs) k e h = (e .0, every-append Q xs k (e .1) h)
+
+pub every-parts : {A : Type 0} (Q : A → Type 0) (l k : List A) → Every Q (l ++ k) → Every Q l × Every Q k
+every-parts Q [] k e = (tt, e)
+every-parts Q (x ∷ xs) k e = let r = every-parts Q xs k (e .1) in ((e .0, r .0), r .1)
 
 pub every-snoc : {A : Type 0} (Q : A → Type 0) (l : List A) (a : A) → Q a → Every Q l → Every Q (l ++ (a ∷ []))
 every-snoc Q l a h e = every-append Q l (a ∷ []) e (h, tt)
