@@ -6,3 +6,6 @@ pub mod Scanned
 pub mod Accepted
 pub mod Simulation
 pub mod Demand3
+pub mod Counts
+pub mod Walks
+pub mod TableWords

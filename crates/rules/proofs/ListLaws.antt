@@ -1,11 +1,12 @@
 -- Laws of lists and tests that the theorems share.
-use Prim.Native.Nat.{ℕ, zero, suc, _+_, _*_, _<_}
+use Prim.Native.Nat.{ℕ, zero, suc, _+_, _-_, _*_, _≤_, _<_}
 use native.Mathlib.Nat.{le-of-suc-le-suc, not-suc-le-zero, suc-mul, zero-mul, add-comm}
 use native.Mathlib.Omega.{arith}
 use mathlib.Core.Path.{_≡_, refl, sym, ap, _∙_}
 use mathlib.Core.Bool.{Bool, true, false, _&&_, _||_, cond, false≢true}
 use mathlib.Core.List.{List, [], _∷_, _++_, map}
-use lib.ListN.{length, getD, set, replicate, length-append, length-take, length-replicate}
+use lib.ListN.{length, getD, set, take, replicate, length-append, length-take, length-replicate, drop}
+use lib.Seq.{take-at, drop-at, take-append-seam, drop-append-seam, take-append-add}
 use Rattle.rules.specs.Lists.{any, all, pad, cells, Every}
 
 -- a test passes or it fails
@@ -61,6 +62,19 @@ pub every-parts : {A : Type 0} (Q : A → Type 0) (l k : List A) → Every Q (l 
 every-parts Q [] k e = (tt, e)
 every-parts Q (x ∷ xs) k e = let r = every-parts Q xs k (e .1) in ((e .0, r .0), r .1)
 
+pub every-image : {A B : Type 0} (Q : B → Type 0) (f : A → B) (xs : List A) → Every (λ x. Q (f x)) xs → Every Q (map f xs)
+every-image Q f [] e = tt
+every-image Q f (x ∷ xs) e = (e .0, every-image Q f xs (e .1))
+
+pub every-take : {A : Type 0} (Q : A → Type 0) (n : ℕ) (xs : List A) → Every Q xs → Every Q (take n xs)
+every-take Q zero xs e = tt
+every-take Q (suc n) [] e = tt
+every-take Q (suc n) (x ∷ xs) e = (e .0, every-take Q n xs (e .1))
+
+pub every-replicate : {A : Type 0} (Q : A → Type 0) (n : ℕ) (d : A) → Q d → Every Q (replicate n d)
+every-replicate Q zero d h = tt
+every-replicate Q (suc n) d h = (h, every-replicate Q n d h)
+
 pub every-snoc : {A : Type 0} (Q : A → Type 0) (l : List A) (a : A) → Q a → Every Q l → Every Q (l ++ (a ∷ []))
 every-snoc Q l a h e = every-append Q l (a ∷ []) e (h, tt)
 
@@ -99,3 +113,29 @@ pub length-cells : {A : Type 0} (f : A → List ℕ) (w : ℕ) → ((a : A) → 
 unfolding cells
 length-cells f w e [] = sym (zero-mul w)
 length-cells f w e (x ∷ xs) = length-append (f x) (cells f xs) ∙ rw (e x, length-cells f w e xs, suc-mul) (add-comm w (length xs * w))
+
+pub every-pad : {A : Type 0} (Q : A → Type 0) (n : ℕ) (d : A) (xs : List A) → Q d → Every Q xs → Every Q (pad n d xs)
+unfolding pad
+every-pad Q n d xs h e = every-take Q n (xs ++ replicate n d) (every-append Q xs (replicate n d) e (every-replicate Q n d h))
+
+pub every-cells : {A : Type 0} (Q : ℕ → Type 0) (f : A → List ℕ) (xs : List A) → Every (λ x. Every Q (f x)) xs → Every Q (cells f xs)
+unfolding cells
+every-cells Q f [] e = tt
+every-cells Q f (x ∷ xs) e = every-append Q (f x) (cells f xs) (e .0) (every-cells Q f xs (e .1))
+
+pub append-cut : {A : Type 0} (xs ys us vs : List A) → length xs ≡ length ys → xs ++ us ≡ ys ++ vs → (xs ≡ ys) × (us ≡ vs)
+append-cut xs ys us vs l e = (
+  sym (take-at xs us (length ys) l) ∙ ap (take (length ys)) e ∙ take-append-seam ys vs,
+  sym (drop-at xs us (length ys) l) ∙ ap (drop (length ys)) e ∙ drop-append-seam ys vs,
+)
+
+pub pad-front : {A : Type 0} (n : ℕ) (d : A) (xs : List A) → length xs ≤ n → pad n d xs ≡ xs ++ take (n - length xs) (replicate n d)
+unfolding pad
+pad-front n d xs h =
+    let e : n ≡ length xs + (n - length xs) = omega arith in
+    ap (λ k. take k (xs ++ replicate n d)) e ∙ take-append-add xs (replicate n d) (n - length xs)
+
+-- n records of w words
+
+pub length-records : {A : Type 0} (f : A → List ℕ) (w : ℕ) → ((a : A) → length (f a) ≡ w) → (n : ℕ) (d : A) (xs : List A) → length (cells f (pad n d xs)) ≡ n * w
+length-records f w e n d xs = length-cells f w e (pad n d xs) ∙ ap (λ k. k * w) (length-pad n d xs)

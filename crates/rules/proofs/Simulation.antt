@@ -123,7 +123,7 @@ sim-permit f a o no-foreign no-alias no-other =
 
 -- ---- Erased objects
 
-object-erased : (os : List Object) (n : ℕ) → objectAt (map eraseObject os) n ≡ eraseObject (objectAt os n)
+pub object-erased : (os : List Object) (n : ℕ) → objectAt (map eraseObject os) n ≡ eraseObject (objectAt os n)
 unfolding objectAt eraseObject
 object-erased os n = List·getD-map eraseObject os n noObject
 

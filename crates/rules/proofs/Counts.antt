@@ -1,0 +1,142 @@
+-- `count` and `times` as sums: an object or a number is in a list where it counts at least once.
+use Prim.Native.Nat.{ℕ, zero, suc, _+_, _≤_, _<_}
+use native.Mathlib.Omega.{arith}
+use mathlib.Core.Path.{_≡_, refl, sym, _∙_}
+use mathlib.Core.Bool.{Bool, true, false, cond, true≢false}
+use mathlib.Core.List.{List, [], _∷_, _++_}
+use mathlib.Core.Logic.{_⊎_, inl, inr}
+use lib.Dec.{T, ltb, ltb→lt, nltb→le, eqb, eqb→eq, eqb-refl, eqb·zero-suc, eqb·suc-zero, eqb·suc-suc}
+use lib.ListN.{length}
+use Rattle.rules.specs.declared.Value.{Value}
+use Rattle.rules.specs.declared.Value.the-variants.{Absent, Obj, Chan}
+use Rattle.rules.specs.Lists.{among, Every}
+use Rattle.rules.specs.Script.{Program}
+use Rattle.rules.specs.State.{Frame}
+use Rattle.rules.specs.Reach.{isObject, count, times}
+use Rattle.rules.specs.Fits.{InRange, IsObject, FrameFits, FramesFit}
+use Rattle.rules.proofs.ListLaws.{by-bool, every-map}
+
+pub sum-cases : (a b : ℕ) → 1 ≤ a + b → (1 ≤ a) ⊎ (1 ≤ b)
+sum-cases zero b h = inr (omega arith)
+sum-cases (suc a) b h = inl (omega arith)
+
+-- ---- what fits
+
+pub object-in-range : (o c : ℕ) (v : Value) → IsObject o v → InRange o c v
+object-in-range o c Absent h = absurd h
+object-in-range o c (Obj n) h = h
+object-in-range o c (Chan k) h = absurd h
+
+pub each-frame : (P : Program) (o c : ℕ) (fs : List Frame) → FramesFit P o c fs → Every (FrameFits P o c) fs
+each-frame P o c [] h = tt
+each-frame P o c (f ∷ fs) h = (h .0, every-map (λ g k. k .frame) fs (h .1))
+
+-- ---- one value
+
+pub object-self : (n : ℕ) → isObject n (Obj n) ≡ 1
+object-self n = go (eqb n n) (eqb-refl n)
+  where
+    go : (b : Bool) → T b → cond {A = ℕ} b 1 0 ≡ 1
+    go true t = refl
+    go false t = absurd t
+
+pub object-equal : (x n : ℕ) → 1 ≤ isObject x (Obj n) → n ≡ x
+object-equal x n = go (eqb n x) (eqb→eq n x)
+  where
+    go : (b : Bool) → (T b → n ≡ x) → 1 ≤ cond {A = ℕ} b 1 0 → n ≡ x
+    go true e h = e tt
+    go false e h = absurd (omega arith)
+
+-- an object that is met
+pub object-met : (x n : ℕ) (xs : List ℕ) → 1 ≤ times n xs → isObject x (Obj n) ≤ times x xs
+object-met x n xs h = by-bool (eqb n x) (λ e. rw (e, ← eqb→eq n x (rw e tt)) h) (λ e. rw e (omega arith))
+
+object-range : (o c x : ℕ) (v : Value) → InRange o c v → 1 ≤ isObject x v → x < o
+object-range o c x Absent r h = absurd (omega arith)
+object-range o c x (Obj n) r h = let e = object-equal x n h in omega arith
+object-range o c x (Chan k) r h = absurd (omega arith)
+
+-- ---- lists of values and of numbers
+
+pub count-append : (n : ℕ) (us vs : List Value) → count n (us ++ vs) ≡ count n us + count n vs
+unfolding count
+count-append n [] vs = omega arith
+count-append n (u ∷ us) vs = omega (arith, count-append n us vs)
+
+pub times-append : (n : ℕ) (xs ys : List ℕ) → times n (xs ++ ys) ≡ times n xs + times n ys
+unfolding times
+times-append n [] ys = omega arith
+times-append n (x ∷ xs) ys = omega (arith, times-append n xs ys)
+
+pub times-snoc : (n : ℕ) (xs : List ℕ) (x : ℕ) → times n (xs ++ (x ∷ [])) ≡ times n xs + isObject n (Obj x)
+unfolding times
+times-snoc n xs x = omega (arith, times-append n xs (x ∷ []))
+
+-- only what is in range is among values that are in range
+pub count-range : (o c x : ℕ) (vs : List Value) → Every (InRange o c) vs → 1 ≤ count x vs → x < o
+unfolding count
+count-range o c x [] e h = absurd (omega arith)
+count-range o c x (v ∷ vs) e h = go (sum-cases (isObject x v) (count x vs) h) (count-range o c x vs (e .1))
+  where
+    go : (1 ≤ isObject x v) ⊎ (1 ≤ count x vs) → (1 ≤ count x vs → x < o) → x < o
+    go (inl a) k = object-range o c x v (e .0) a
+    go (inr a) k = k a
+
+-- ---- the test of `among` asks for the count
+
+eqb-sym : (m n : ℕ) → eqb m n ≡ eqb n m
+eqb-sym zero zero = refl
+eqb-sym zero (suc n) = eqb·zero-suc n ∙ sym (eqb·suc-zero n)
+eqb-sym (suc m) zero = eqb·suc-zero m ∙ sym (eqb·zero-suc m)
+eqb-sym (suc m) (suc n) = eqb·suc-suc m n ∙ eqb-sym m n ∙ sym (eqb·suc-suc n m)
+
+pub times-among : (n : ℕ) (xs : List ℕ) → among n xs ≡ true → 1 ≤ times n xs
+unfolding times
+times-among n [] h = absurd (true≢false (sym h))
+times-among n (x ∷ xs) h =
+    by-bool (eqb x n) (λ e. rw e (omega arith))
+    (λ e. let k : among n xs ≡ true = rw (eqb-sym n x, e) at h in omega (arith, times-among n xs k))
+
+pub times-not-among : (n : ℕ) (xs : List ℕ) → among n xs ≡ false → times n xs ≡ 0
+unfolding times
+times-not-among n [] h = refl
+times-not-among n (x ∷ xs) h =
+    by-bool (eqb x n) (λ e. absurd (true≢false (rw (eqb-sym n x, e) at h)))
+    (λ e. rw e (omega (arith, times-not-among n xs (rw (eqb-sym n x, e) at h))))
+
+-- ---- numbers below n, none twice, are at most n
+
+-- how many entries are below n
+below : ℕ → List ℕ → ℕ
+below zero xs = 0
+below (suc n) xs = times n xs + below n xs
+
+below-once : (n : ℕ) (xs : List ℕ) → ((x : ℕ) → times x xs ≤ 1) → below n xs ≤ n
+unfolding below
+below-once zero xs h = omega arith
+below-once (suc n) xs h = omega (arith, h n, below-once n xs h)
+
+below-more : (n x : ℕ) (xs : List ℕ) → below n xs ≤ below n (x ∷ xs)
+unfolding below times
+below-more zero x xs = omega arith
+below-more (suc n) x xs = omega (arith, below-more n x xs)
+
+below-one-more : (n x : ℕ) (xs : List ℕ) → x < n → below n xs < below n (x ∷ xs)
+unfolding below times
+below-one-more zero x xs h = absurd (omega arith)
+below-one-more (suc n) x xs h = by-bool (ltb x n) (λ e. omega (arith, below-one-more n x xs (ltb→lt x n (rw e tt)))) (λ e. last (nltb→le x n (rw e tt)))
+  where
+    last : n ≤ x → below (suc n) xs < below (suc n) (x ∷ xs)
+    last k =
+        let e : x ≡ n = omega arith in
+        let self : isObject n (Obj x) ≡ 1 = rw e (object-self n) in
+        omega (arith, below-more n x xs)
+
+below-all : (n : ℕ) (xs : List ℕ) → ((x : ℕ) → 1 ≤ times x xs → x < n) → length xs ≤ below n xs
+unfolding times
+below-all n [] h = omega arith
+below-all n (x ∷ xs) h =
+    omega (arith, below-one-more n x xs (h x (omega (arith, object-self x))), below-all n xs (λ y k. h y (omega arith)))
+
+pub few-entries : (n : ℕ) (xs : List ℕ) → ((x : ℕ) → 1 ≤ times x xs → x < n) → ((x : ℕ) → times x xs ≤ 1) → length xs ≤ n
+few-entries n xs h once = omega (arith, below-all n xs h, below-once n xs once)

@@ -1,0 +1,244 @@
+-- The walk meets exactly what is reached, each object once: what is reached is met or lies behind a value to come, and the visits suffice.
+use Prim.Native.Nat.{ℕ, zero, suc, _+_, _≤_, _<_, zero-le}
+use native.Mathlib.Omega.{arith}
+use mathlib.Core.Path.{_≡_, refl, ap}
+use mathlib.Core.Bool.{Bool, true, false}
+use mathlib.Core.List.{List, [], _∷_, _++_, map}
+use mathlib.Core.Logic.{_⊎_, inl, inr}
+use lib.Dec.{eqb, eqb→eq}
+use lib.ListN.{length, length-append}
+use Rattle.rules.specs.declared.Value.{Value}
+use Rattle.rules.specs.declared.Value.the-variants.{Absent, Obj, Chan}
+use Rattle.rules.specs.declared.Mosts.{Mosts}
+use Rattle.rules.specs.Lists.{among, Every}
+use Rattle.rules.specs.Script.{Program}
+use Rattle.rules.specs.State.{Object, noObject, Frame, Thread, noThread, State, objectAt, threadAt}
+use Rattle.rules.specs.Stripped.{eraseObject, erase}
+use Rattle.rules.specs.Fits.{InRange, ObjectFits, ThreadFits, Fits}
+use Rattle.rules.specs.Reach.{isObject, count, times, Reaches, here, more, ReachedFrom, slotsOf, roots, Lists, walk, visit, visits, reachList}
+use Rattle.rules.proofs.ListLaws.{by-bool, every-map, every-get, every-append}
+use Rattle.rules.proofs.Simulation.{object-erased}
+use Rattle.rules.proofs.Counts.{sum-cases, object-self, object-equal, object-met, object-in-range, each-frame, count-append, times-snoc, count-range, times-among, times-not-among, few-entries}
+
+pub reaches-trans : (os : List Object) (a b x : ℕ) → Reaches os a b → Reaches os b x → Reaches os a x
+reaches-trans os a b x p (here e) = rw (← e) p
+reaches-trans os a b x p (more {y = y} q h) = more (reaches-trans os a b y p q) h
+
+-- ---- the walk as a relation: from the numbers met, over the values to come, to all numbers met
+
+pub data Walked (os : List Object) : List ℕ → List Value → List ℕ → Type 0 where
+  done : {met : List ℕ} → Walked os met [] met
+  -- no object, or one that is met
+  skip : {met out : List ℕ} {v : Value} {vs : List Value} → ((x : ℕ) → isObject x v ≤ times x met) → Walked os met vs out → Walked os met (v ∷ vs) out
+  meet : {met out : List ℕ} {n : ℕ} {vs : List Value}
+      → times n met ≡ 0 → Walked os (met ++ (n ∷ [])) (objectAt os n .fields ++ vs) out → Walked os met (Obj n ∷ vs) out
+
+module _ (os : List Object) where
+  -- x is met, or among the values to come
+  abbrev Ahead : List ℕ → List Value → ℕ → Type 0
+  Ahead met vs x = 1 ≤ times x met + count x vs
+
+  -- as n is met and its fields come first, only they are added
+  ahead-meet : (x n : ℕ) (met : List ℕ) (vs : List Value)
+      → times x (met ++ (n ∷ [])) + count x (objectAt os n .fields ++ vs) ≡ times x met + count x (Obj n ∷ vs) + count x (objectAt os n .fields)
+  unfolding count
+  ahead-meet x n met vs = omega (arith, times-snoc x met n, count-append x (objectAt os n .fields) vs)
+
+  -- what is ahead is met in the end
+  met-ahead : {met out : List ℕ} {vs : List Value} → Walked os met vs out → (x : ℕ) → Ahead met vs x → 1 ≤ times x out
+  unfolding count
+  met-ahead done x h = omega arith
+  met-ahead (skip k w) x h = met-ahead w x (omega (arith, k x))
+  met-ahead (meet {met = met} {n = n} {vs = vs} k w) x h = met-ahead w x (omega (arith, ahead-meet x n met vs))
+
+  -- the fields of what is met are ahead, and so they are met in the end
+  met-fields : {met out : List ℕ} {vs : List Value} → Walked os met vs out
+      → ((y x : ℕ) → 1 ≤ times y met → 1 ≤ count x (objectAt os y .fields) → Ahead met vs x)
+      → (y x : ℕ) → 1 ≤ times y out → 1 ≤ count x (objectAt os y .fields) → 1 ≤ times x out
+  unfolding count
+  met-fields done o y x l h = omega (arith, o y x l h)
+  met-fields (skip k w) o y x l h = met-fields w (λ z u a b. omega (arith, k u, o z u a b)) y x l h
+  met-fields (meet {met = met} {n = n} {vs = vs} k w) o y x l h =
+      met-fields w (λ z u a b. go z u (sum-cases (times z met) (isObject z (Obj n)) (omega (arith, times-snoc z met n))) b) y x l h
+    where
+      go : (z u : ℕ) → (1 ≤ times z met) ⊎ (1 ≤ isObject z (Obj n)) → 1 ≤ count u (objectAt os z .fields)
+          → Ahead (met ++ (n ∷ [])) (objectAt os n .fields ++ vs) u
+      go z u (inl a) b = omega (arith, ahead-meet u n met vs, o z u a b)
+      go z u (inr a) b =
+          let f : 1 ≤ count u (objectAt os n .fields) = rw (object-equal z n a) b in
+          omega (arith, ahead-meet u n met vs)
+
+  -- what holds ahead, and passes on to fields, holds of all that is met
+  met-only : (Q : ℕ → Type 0) → ((y x : ℕ) → Q y → 1 ≤ count x (objectAt os y .fields) → Q x)
+      → {met out : List ℕ} {vs : List Value} → Walked os met vs out → ((x : ℕ) → Ahead met vs x → Q x) → (x : ℕ) → 1 ≤ times x out → Q x
+  unfolding count
+  met-only Q pass done q x l = q x (omega arith)
+  met-only Q pass (skip k w) q x l = met-only Q pass w (λ y a. q y (omega arith)) x l
+  met-only Q pass (meet {met = met} {n = n} {vs = vs} k w) q x l =
+      met-only Q pass w (λ y a. go y (sum-cases (times y met + count y (Obj n ∷ vs)) (count y (objectAt os n .fields)) (omega (arith, ahead-meet y n met vs)))) x l
+    where
+      go : (y : ℕ) → Ahead met (Obj n ∷ vs) y ⊎ (1 ≤ count y (objectAt os n .fields)) → Q y
+      go y (inl a) = q y a
+      go y (inr a) = pass n y (q n (omega (arith, object-self n))) a
+
+  met-once : {met out : List ℕ} {vs : List Value} → Walked os met vs out → ((x : ℕ) → times x met ≤ 1) → (x : ℕ) → times x out ≤ 1
+  met-once done o = o
+  met-once (skip k w) o = met-once w o
+  met-once (meet {met = met} {n = n} k w) o =
+      met-once w
+      (λ x.
+      rw (times-snoc x met n)
+      (by-bool (eqb n x) (λ e. rw (e, ← eqb→eq n x (rw e tt), k) (omega arith)) (λ e. rw e (omega (arith, o x)))))
+
+  pub walked-lists : {vs : List Value} {out : List ℕ} → Walked os [] vs out → Lists os vs out
+  unfolding times
+  walked-lists {vs} {out} w =
+      record {
+        reached = λ x. (met-only (ReachedFrom os vs) on w (λ y l. record { first = y; held = omega arith; reaches = here refl }) x, λ r. through (r .first) x (r .held) (r .reaches));
+        once = met-once w (λ x. omega arith);
+      }
+    where
+      on : (y x : ℕ) → ReachedFrom os vs y → 1 ≤ count x (objectAt os y .fields) → ReachedFrom os vs x
+      on y x r h = record { first = r .first; held = r .held; reaches = more (r .reaches) h }
+
+      through : (n x : ℕ) → 1 ≤ count n vs → Reaches os n x → 1 ≤ times x out
+      through n x l (here e) = rw (← e) (met-ahead w n (omega arith))
+      through n x l (more {y = y} p h) = met-fields w (λ z u a b. absurd (omega arith)) y x (through n y l p) h
+
+-- ---- the visits suffice: two for each value to come and for each field of an object not yet met
+
+abbrev unlessMet : (times fields : ℕ) → ℕ
+unlessMet zero l = l
+unlessMet (suc t) l = 0
+
+unless-less : (t u l : ℕ) → t ≤ u → unlessMet u l ≤ unlessMet t l
+unless-less zero zero l h = omega arith
+unless-less zero (suc u) l h = omega arith
+unless-less (suc t) zero l h = absurd (omega arith)
+unless-less (suc t) (suc u) l h = omega arith
+
+-- the fields of the objects not yet met, of which the first has number i
+unmet : List ℕ → ℕ → List Object → ℕ
+unmet met i [] = 0
+unmet met i (o ∷ os) = unlessMet (times i met) (length (o .fields)) + unmet met (suc i) os
+
+unmet-less : (met : List ℕ) (n i : ℕ) (os : List Object) → unmet (met ++ (n ∷ [])) i os ≤ unmet met i os
+unfolding unmet
+unmet-less met n i [] = omega arith
+unmet-less met n i (o ∷ os) =
+    omega (arith, unless-less (times i met) (times i (met ++ (n ∷ []))) (length (o .fields)) (omega (arith, times-snoc i met n)), unmet-less met n (suc i) os)
+
+-- meeting n spends its fields
+unmet-meet : (met : List ℕ) (n i j : ℕ) (os : List Object) → times n met ≡ 0 → i + j ≡ n
+    → unmet (met ++ (n ∷ [])) i os + length (objectAt os j .fields) ≤ unmet met i os
+unfolding unmet objectAt
+unmet-meet met n i j [] k e = omega arith
+unmet-meet met n i zero (o ∷ os) k e =
+    let q : i ≡ n = omega arith in
+    let m : times n (met ++ (n ∷ [])) ≡ 1 = omega (arith, times-snoc n met n, object-self n) in
+    rw (q, m, k) (omega (arith, unmet-less met n (suc n) os))
+unmet-meet met n i (suc j) (o ∷ os) k e =
+    omega (
+      arith,
+      unless-less (times i met) (times i (met ++ (n ∷ []))) (length (o .fields)) (omega (arith, times-snoc i met n)),
+      unmet-meet met n (suc i) j os k (omega arith),
+    )
+
+visits-are : (os : List Object) (i v : ℕ) → visits os v ≡ v + v + (unmet [] i os + unmet [] i os) + 1
+unfolding visits unmet times
+visits-are [] i v = omega arith
+visits-are (o ∷ os) i v = omega (arith, visits-are os (suc i) v)
+
+module _ (os : List Object) where
+  mutual
+    unfolding walk visit
+
+    walk-walked : (k : ℕ) (met : List ℕ) (vs : List Value) → length vs + length vs + (unmet met 0 os + unmet met 0 os) < k → Walked os met vs (walk k os met vs)
+    walk-walked zero met vs h = absurd (omega arith)
+    walk-walked (suc k) met [] h = done
+    walk-walked (suc k) met (Absent ∷ vs) h = skip (λ x. zero-le) (walk-walked k met vs (omega arith))
+    walk-walked (suc k) met (Chan c ∷ vs) h = skip (λ x. zero-le) (walk-walked k met vs (omega arith))
+    walk-walked (suc k) met (Obj n ∷ vs) h = visit-walked k (among n met) met n vs refl (omega arith)
+
+    visit-walked : (k : ℕ) (b : Bool) (met : List ℕ) (n : ℕ) (vs : List Value) → among n met ≡ b → length vs + length vs + (unmet met 0 os + unmet met 0 os) + 1 < k
+        → Walked os met (Obj n ∷ vs) (visit k b os met n vs)
+    visit-walked zero b met n vs e h = absurd (omega arith)
+    visit-walked (suc k) true met n vs e h = skip (λ x. object-met x n met (times-among n met e)) (walk-walked k met vs (omega arith))
+    visit-walked (suc k) false met n vs e h =
+        meet (times-not-among n met e)
+        (walk-walked k (met ++ (n ∷ [])) (objectAt os n .fields ++ vs)
+        (omega (arith, unmet-meet met n 0 n os (times-not-among n met e) (omega arith), length-append (objectAt os n .fields) vs)))
+
+-- the walk lists what is reached
+pub reach-lists : (os : List Object) (vs : List Value) → Lists os vs (reachList os vs)
+unfolding reachList
+reach-lists os vs = walked-lists os (walk-walked os (visits os (length vs)) [] vs (omega (arith, visits-are os 0 (length vs))))
+
+-- ---- only made objects are reached
+
+-- an object or channel of the state
+abbrev pub Made : State → Value → Type 0
+Made S = InRange (length (S .objects)) (length (S .threads))
+
+slots-made : (S : State) (fs : List Frame) → Every (λ f. Every (Made S) (f .slots)) fs → Every (Made S) (slotsOf fs)
+unfolding slotsOf
+slots-made S [] e = tt
+slots-made S (f ∷ fs) e = every-append (Made S) (f .slots) (slotsOf fs) (e .0) (slots-made S fs (e .1))
+
+module _ {m : Mosts} {P : Program} {n : ℕ} {S : State} (fits : Fits m P n S) where
+  fields-made : (y : ℕ) → Every (Made S) (objectAt (S .objects) y .fields)
+  unfolding objectAt
+  fields-made y = every-get (λ o. Every (Made S) (o .fields)) (S .objects) y noObject tt (every-map of-object (S .objects) (fits .objects))
+    where
+      of-object : (o : Object) → ObjectFits P (length (S .objects)) (length (S .threads)) o → Every (Made S) (o .fields)
+      of-object o h = every-map (object-in-range _ _) (o .fields) (h .fields)
+
+  pub roots-made : (t : ℕ) → Every (Made S) (roots S t)
+  unfolding roots threadAt
+  roots-made t =
+      slots-made S (threadAt S t .frames) (every-get (λ h. Every (λ f. Every (Made S) (f .slots)) (h .frames)) (S .threads) t noThread tt (every-map of-thread (S .threads) (fits .threads)))
+    where
+      of-thread : (h : Thread) → ThreadFits P n (length (S .objects)) (length (S .threads)) h → Every (λ f. Every (Made S) (f .slots)) (h .frames)
+      of-thread h k = every-map (λ f l. l .slots) (h .frames) (each-frame P _ _ (h .frames) (k .frames))
+
+  pub reached-range : (vs : List Value) → Every (Made S) vs → (x : ℕ) → ReachedFrom (S .objects) vs x → x < length (S .objects)
+  reached-range vs h x r = through x (r .reaches)
+    where
+      through : (y : ℕ) → Reaches (S .objects) (r .first) y → y < length (S .objects)
+      through y (here e) = rw (← e) (count-range _ (length (S .threads)) (r .first) vs h (r .held))
+      through y (more {y = z} p k) = count-range _ (length (S .threads)) y (objectAt (S .objects) z .fields) (fields-made z) k
+
+  -- whatever the order
+  pub lists-few : (t : ℕ) (out : List ℕ) → Lists (S .objects) (roots S t) out → length out ≤ length (S .objects)
+  lists-few t out l = few-entries (length (S .objects)) out (λ x h. reached-range (roots S t) (roots-made t) x (l .reached x .0 h)) (l .once)
+
+  pub reach-few : (t : ℕ) → length (reachList (S .objects) (roots S t)) ≤ length (S .objects)
+  reach-few t = lists-few t (reachList (S .objects) (roots S t)) (reach-lists (S .objects) (roots S t))
+
+-- ---- capabilities play no part
+
+visits-erased : (os : List Object) (v : ℕ) → visits (map eraseObject os) v ≡ visits os v
+unfolding visits eraseObject
+visits-erased [] v = refl
+visits-erased (o ∷ os) v = ap (λ k. length (o .fields) + length (o .fields) + k) (visits-erased os v)
+
+module _ (os : List Object) where
+  mutual
+    unfolding walk eraseObject
+
+    walk-erased : (k : ℕ) (met : List ℕ) (vs : List Value) → walk k (map eraseObject os) met vs ≡ walk k os met vs
+    walk-erased zero met vs = refl
+    walk-erased (suc k) met [] = refl
+    walk-erased (suc k) met (Absent ∷ vs) = walk-erased k met vs
+    walk-erased (suc k) met (Chan c ∷ vs) = walk-erased k met vs
+    walk-erased (suc k) met (Obj n ∷ vs) = visit-erased k (among n met) met n vs
+
+    visit-erased : (k : ℕ) (b : Bool) (met : List ℕ) (n : ℕ) (vs : List Value) → visit k b (map eraseObject os) met n vs ≡ visit k b os met n vs
+    visit-erased zero b met n vs = refl
+    visit-erased (suc k) true met n vs = walk-erased k met vs
+    visit-erased (suc k) false met n vs = rw (object-erased os n) (walk-erased k (met ++ (n ∷ [])) (objectAt os n .fields ++ vs))
+
+-- a thread reaches the same objects, in the same order, in the erased state
+pub reach-erased : (S : State) (t : ℕ) → reachList (erase S .objects) (roots (erase S) t) ≡ reachList (S .objects) (roots S t)
+unfolding reachList erase roots threadAt
+reach-erased S t = rw (visits-erased (S .objects) (length (roots S t))) (walk-erased (S .objects) _ [] (roots S t))
