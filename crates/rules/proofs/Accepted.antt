@@ -15,7 +15,7 @@ use Rattle.rules.specs.Text.{lines}
 use Rattle.rules.specs.Script.{Operand, reads, takes, Expr, value, field, swap, call, new, cast, spawn, send, recv, bind, give, Sort, thread, method, Kind, Block, Form, kind, opens, line, Program, programOf, letLines, blockLines, kindLines, linesOf, noBlock, kindAt, blockAt}
 use Rattle.rules.specs.Reading.{slotOf, targetsIn, operandsIn, numbersIn, slotsIn, outside, within, nothing, firstSlots, slotsFilled, inMethod, overMost, over255, isUnbound, takesFirst, takesSelf, oneMore, readOn, Scan, faulty, scanned, scan, sameSort, isSort, dangles, opened, turnedAway, accepted, link, linked, script}
 use Rattle.rules.specs.Valid.{OperandOk, IsBlock, IsKind, ExprOk, LetsOk, BlockOk, KindOk, letCount, Valid}
-use Rattle.rules.proofs.ListLaws.{or-false, or-false₃, and-true, other-arm, every-map, every-parts, any-false}
+use Rattle.rules.proofs.ListLaws.{impossible, or-false, or-false₃, and-true, other-arm, every-map, every-parts, any-false}
 use Rattle.rules.proofs.Scanned.{sofar, Passed, Scanned, ended, passed, scan-passed, lines-scanned}
 
 -- ---- What a form names, in a block of sort o of which n slots are filled, from the tests that it passed
@@ -62,7 +62,7 @@ data Linked (P : Program) : ℕ → List Form → Type 0 where
   named : {c : ℕ} {F : Form} {Fs : List Form} → dangles P c F ≡ false → Linked P (opened F c) Fs → Linked P c (F ∷ Fs)
 
 turnedAway≢accepted : {k n : ℕ} {P : Program} → turnedAway k n ≡ accepted P → ⊥
-turnedAway≢accepted h = let z : _≡_ {A = ℕ} 0 1 = cc in omega arith
+turnedAway≢accepted h = impossible cc
 
 link-accepted : (Q : Program) (Fs : List Form) (c n : ℕ) (P : Program) → link Q c n Fs ≡ accepted P → (Q ≡ P) × Linked Q c Fs
 unfolding link

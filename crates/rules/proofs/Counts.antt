@@ -10,26 +10,13 @@ use lib.ListN.{length}
 use Rattle.rules.specs.declared.Value.{Value}
 use Rattle.rules.specs.declared.Value.the-variants.{Absent, Obj, Chan}
 use Rattle.rules.specs.Lists.{among, Every}
-use Rattle.rules.specs.Script.{Program}
-use Rattle.rules.specs.State.{Frame}
 use Rattle.rules.specs.Reach.{isObject, count, times}
-use Rattle.rules.specs.Fits.{InRange, IsObject, FrameFits, FramesFit}
-use Rattle.rules.proofs.ListLaws.{by-bool, every-map}
+use Rattle.rules.specs.Fits.{InRange}
+use Rattle.rules.proofs.ListLaws.{by-bool}
 
 pub sum-cases : (a b : ℕ) → 1 ≤ a + b → (1 ≤ a) ⊎ (1 ≤ b)
 sum-cases zero b h = inr (omega arith)
 sum-cases (suc a) b h = inl (omega arith)
-
--- ---- what fits
-
-pub object-in-range : (o c : ℕ) (v : Value) → IsObject o v → InRange o c v
-object-in-range o c Absent h = absurd h
-object-in-range o c (Obj n) h = h
-object-in-range o c (Chan k) h = absurd h
-
-pub each-frame : (P : Program) (o c : ℕ) (fs : List Frame) → FramesFit P o c fs → Every (FrameFits P o c) fs
-each-frame P o c [] h = tt
-each-frame P o c (f ∷ fs) h = (h .0, every-map (λ g k. k .frame) fs (h .1))
 
 -- ---- one value
 

@@ -4,6 +4,8 @@ mod Cases
 mod Readings
 pub mod Scanned
 pub mod Accepted
+pub mod Moves
+pub mod Keeps
 pub mod Simulation
 pub mod Demand3
 pub mod Counts

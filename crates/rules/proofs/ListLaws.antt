@@ -1,18 +1,31 @@
--- Laws of lists and tests that the theorems share.
+-- Laws of tests and lists that the theorems share.
 use Prim.Native.Nat.{ℕ, zero, suc, _+_, _-_, _*_, _≤_, _<_}
 use native.Mathlib.Nat.{le-of-suc-le-suc, not-suc-le-zero, suc-mul, zero-mul, add-comm}
 use native.Mathlib.Omega.{arith}
 use mathlib.Core.Path.{_≡_, refl, sym, ap, _∙_}
-use mathlib.Core.Bool.{Bool, true, false, _&&_, _||_, cond, false≢true}
+use mathlib.Core.Bool.{Bool, true, false, not, Bool·not-not, _&&_, _||_, cond, false≢true}
 use mathlib.Core.List.{List, [], _∷_, _++_, map}
+use lib.Dec.{ltb, ltb→lt}
 use lib.ListN.{length, getD, set, take, replicate, length-append, length-take, length-replicate, drop}
 use lib.Seq.{take-at, drop-at, take-append-seam, drop-append-seam, take-append-add}
 use Rattle.rules.specs.Lists.{any, all, pad, cells, Every}
+
+-- where two constructors cannot be equal: `impossible cc`
+pub impossible : {A : Type 0} → _≡_ {A = ℕ} 0 1 → A
+impossible e = absurd (omega arith)
+
+-- ---- Tests
 
 -- a test passes or it fails
 pub by-bool : {P : Type 0} (b : Bool) → (b ≡ true → P) → (b ≡ false → P) → P
 by-bool true t f = t refl
 by-bool false t f = f refl
+
+pub below : {a b : ℕ} → ltb a b ≡ true → a < b
+below {a} {b} e = ltb→lt a b (rw e tt)
+
+pub of-not : (b : Bool) {c : Bool} → not b ≡ c → b ≡ not c
+of-not b e = sym (Bool·not-not b) ∙ ap not e
 
 pub or-false : (a b : Bool) → (a || b) ≡ false → (a ≡ false) × (b ≡ false)
 or-false true b h = absurd (false≢true (sym h))

@@ -11,7 +11,7 @@ use Rattle.rules.specs.Text.{stray}
 use Rattle.rules.specs.Script.{bind, give, Form, kind, opens, line, kindsOf, letsOf, resultOf, blocksOf, programOf, letLines, blockLines, kindLines, linesOf}
 use Rattle.rules.specs.Templates.{Taken, took, unfit, decode}
 use Rattle.rules.specs.Reading.{Place, outside, within, Sofar, nothing, firstSlots, isOutside, inPlace, overMost, over255, isUnbound, takesSelf, oneMore, readOn, Step, fault, next, formStep, lineStep, Scan, faulty, scanned, finish, withForm, onStep, scan}
-use Rattle.rules.proofs.ListLaws.{or-false, other-arm}
+use Rattle.rules.proofs.ListLaws.{impossible, or-false, other-arm}
 
 -- ---- From the scan to the checks
 
@@ -33,10 +33,10 @@ pub data Scanned (m : Mosts) : Sofar → List Form → Type 0 where
   passed : {r : Sofar} {F : Form} {Fs : List Form} → Passed m r F → Scanned m (readOn r F) Fs → Scanned m r (F ∷ Fs)
 
 fault≢next : {k : ℕ} {F : Form} {r : Sofar} → fault k ≡ next F r → ⊥
-fault≢next h = let z : _≡_ {A = ℕ} 0 1 = cc in omega arith
+fault≢next h = impossible cc
 
 faulty≢scanned : {k n : ℕ} {Fs : List Form} → faulty k n ≡ scanned Fs → ⊥
-faulty≢scanned h = let z : _≡_ {A = ℕ} 0 1 = cc in omega arith
+faulty≢scanned h = impossible cc
 
 -- a step that goes on is past every fault
 form-passed : (m : Mosts) (r : Sofar) (t : Taken Form) (F : Form) (r₁ : Sofar) → formStep m r t ≡ next F r₁ → Passed m r F × (readOn r F ≡ r₁)

@@ -19,7 +19,7 @@ use Rattle.rules.specs.Fits.{InRange, IsObject, ObjectFits, FrameFits, S
 use Rattle.rules.specs.Tables.{operandWord, operandItem, lineWords, row, firstLines, programWords, word, unmade, noFrame, objectWords, frameWords, senderWord, outermostFirst, threadWords, channelWords, stateWords}
 use Rattle.rules.proofs.ListLaws.{every-map, every-append, every-snoc, every-image, every-pad, every-cells, append-cut, length-pad, pad-front, length-records}
 use Rattle.rules.proofs.Accepted.{line-count}
-use Rattle.rules.proofs.Counts.{object-in-range, each-frame}
+use Rattle.rules.proofs.Keeps.{object-in-range, each-frame}
 
 -- ---- the length
 

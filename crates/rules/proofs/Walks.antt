@@ -17,8 +17,9 @@ use Rattle.rules.specs.Stripped.{eraseObject, erase}
 use Rattle.rules.specs.Fits.{InRange, ObjectFits, ThreadFits, Fits}
 use Rattle.rules.specs.Reach.{isObject, count, times, Reaches, here, more, ReachedFrom, slotsOf, roots, Lists, walk, visit, visits, reachList}
 use Rattle.rules.proofs.ListLaws.{by-bool, every-map, every-get, every-append}
+use Rattle.rules.proofs.Keeps.{object-in-range, each-frame}
 use Rattle.rules.proofs.Simulation.{object-erased}
-use Rattle.rules.proofs.Counts.{sum-cases, object-self, object-equal, object-met, object-in-range, each-frame, count-append, times-snoc, count-range, times-among, times-not-among, few-entries}
+use Rattle.rules.proofs.Counts.{sum-cases, object-self, object-equal, object-met, count-append, times-snoc, count-range, times-among, times-not-among, few-entries}
 
 pub reaches-trans : (os : List Object) (a b x : ℕ) → Reaches os a b → Reaches os b x → Reaches os a x
 reaches-trans os a b x p (here e) = rw (← e) p
