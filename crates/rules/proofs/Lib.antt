@@ -2,6 +2,8 @@ pub mod ListLaws
 pub mod Computing
 mod Cases
 mod Readings
+pub mod Printing
+pub mod OneForm
 pub mod Scanned
 pub mod Accepted
 pub mod Moves
@@ -11,3 +13,4 @@ pub mod Demand3
 pub mod Counts
 pub mod Walks
 pub mod TableWords
+pub mod Theorems

@@ -79,6 +79,10 @@ pub every-image : {A B : Type 0} (Q : B → Type 0) (f : A → B) (xs : List A) 
 every-image Q f [] e = tt
 every-image Q f (x ∷ xs) e = (e .0, every-image Q f xs (e .1))
 
+pub every-mapped : {A B : Type 0} (Q : B → Type 0) (f : A → B) (l : List A) → Every Q (map f l) → Every (λ x. Q (f x)) l
+every-mapped Q f [] e = tt
+every-mapped Q f (x ∷ xs) e = (e .0, every-mapped Q f xs (e .1))
+
 pub every-take : {A : Type 0} (Q : A → Type 0) (n : ℕ) (xs : List A) → Every Q xs → Every Q (take n xs)
 every-take Q zero xs e = tt
 every-take Q (suc n) [] e = tt
@@ -94,11 +98,16 @@ every-snoc Q l a h e = every-append Q l (a ∷ []) e (h, tt)
 pub length-snoc : {A : Type 0} (l : List A) (a : A) → length (l ++ (a ∷ [])) ≡ length l + 1
 length-snoc l a = length-append l (a ∷ [])
 
--- no element passes the test
+-- no element passes the test; each does
 pub any-false : {A : Type 0} (f : A → Bool) (l : List A) → any f l ≡ false → Every (λ x. f x ≡ false) l
 unfolding any
 any-false f [] h = tt
 any-false f (x ∷ xs) h = let p = or-false (f x) (any f xs) h in (p .0, any-false f xs (p .1))
+
+pub all-true : {A : Type 0} (f : A → Bool) (l : List A) → all f l ≡ true → Every (λ x. f x ≡ true) l
+unfolding all
+all-true f [] h = tt
+all-true f (x ∷ xs) h = let p = and-true (f x) (all f xs) h in (p .0, all-true f xs (p .1))
 
 -- where no element can pass the test, and where what passes one test passes another
 pub any-none : {A : Type 0} (f : A → Bool) → ((x : A) → f x ≡ false) → (l : List A) → any f l ≡ false

@@ -1,10 +1,33 @@
--- What the order of the checks and the four "Readings that sound reasonable" come to: cases in which another order or reading would
--- give something else, computed from their texts.
+-- What the orders of refusals and checks and the four "Readings that sound reasonable" come to: cases in which another order or reading
+-- would give something else, computed from their texts.
 use mathlib.Core.Path.{refl}
 use mathlib.Core.List.{List, [], _∷_}
 use Rattle.rules.specs.Text.{bytes}
-use Rattle.rules.specs.Run.{ended, halted, stuck, openEnd}
+use Rattle.rules.specs.Run.{refused, ended, halted, stuck, openEnd}
 use Rattle.rules.proofs.Computing.{Case, guarded, prints, answers, AllHold, computed}
+
+refusals : List Case
+refusals =
+    -- Two refusals hold of a line: 2 before 3, 3 before 4, 4 before 5, 5 before 6.
+    answers "(thraed!)\n" [] guarded (refused 2 0)
+    ∷ answers "(thread)\n(let (swap 256 007 (read 0)))\n" [] guarded (refused 3 1)
+    ∷ answers "(thread)\n(give (read 256))\n" [] guarded (refused 4 1)
+    ∷ answers "(method)\n(let (call 5 0 (take 0)))\n" [] guarded (refused 5 1)
+    ∷ answers "(method)\n(give (take 0))\n" [] guarded (refused 6 1)
+    -- A line out of its place, and one without its LF, are 3; five operands are 4.
+    ∷ answers "(thread)\n(give (read 0))\n(kind (fields 0) (does))\n" [] guarded (refused 3 2)
+    ∷ answers "(thread)\n(give (read 0))" [] guarded (refused 3 1)
+    ∷ answers "(thread)\n(let (new imm 0 (read 0) (read 0) (read 0) (read 0) (read 0)))\n" [] guarded (refused 4 1)
+    -- A kind dangles: a 5 on a later line, and an unfinished script, go before 8.
+    ∷ answers "(kind (fields 0) (does 7))\n(thread)\n(give (read 1))\n" [] guarded (refused 5 2)
+    ∷ answers "(kind (fields 0) (does 7))\n" [] guarded (refused 7 1)
+    -- 8 in line order: block 0 is a method, then a spawn names no block.
+    ∷ answers "(kind (fields 0) (does 0))\n(method)\n(let (spawn 9))\n(give (read 1))\n" [] guarded (refused 8 1)
+    ∷ []
+
+every-refusal : AllHold refusals
+unfolding refusals computed
+every-refusal = refl
 
 cases : List Case
 cases =

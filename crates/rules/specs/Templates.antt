@@ -227,7 +227,7 @@ forms =
     ∷ record { template = recvT; make = λ (s, _). line (bind (recv s)) }
     ∷ []
 
--- the first form that fits a line (no other one does: proofs/Forms)
+-- the first form that fits a line (no other one does: proofs/OneForm)
 unfoldable pub firstFit : List Rule → List ℕ → Taken Form
 firstFit [] l = unfit
 firstFit (r ∷ rs) l = orElse (whole (fit (r .template) l) >>= λ p l₁. took (r .make p) l₁) (firstFit rs l)

@@ -1,0 +1,208 @@
+-- At most one form fits a line: a line that fits begins with the form's fixed characters, and those of any two forms differ.
+use Prim.Native.Nat.{ℕ, zero, suc, _<_, suc-le-suc}
+use native.Mathlib.Nat.{le-of-suc-le-suc, not-suc-le-zero}
+use native.Mathlib.Decide.{decLt}
+use native.Mathlib.Omega.{arith}
+use mathlib.Core.Path.{_≡_, refl, sym, ap, _∙_}
+use mathlib.Core.Bool.{Bool, true, false, _&&_, cond, false≢true}
+use mathlib.Core.List.{List, [], _∷_, _++_, append-nil, append-assoc}
+use lib.Dec.{eqb}
+use lib.ListN.{length, getD}
+use borrow.Author.Tests.{eqb-false}
+use Rattle.rules.specs.Lists.{all, Every}
+use Rattle.rules.specs.Text.{bytes}
+use Rattle.rules.specs.Script.{Operand, reads, takes, value, field, swap, call, new, cast, spawn, send, recv, bind, give, thread, method, Form, kind, opens, line}
+use Rattle.rules.specs.Templates.{Taken, took, unfit, _>>=_, orElse, placeOf, decimal, printOperand, Part, character, oneNumber, oneOperand, oneCap, manyNumbers, manyOperands, Holds, fit, whole, print, Rule, forms, firstFit, decode, show}
+use Rattle.rules.specs.Reading.{slotOf, targetsIn, operandsIn, numbersIn, slotsIn}
+use Rattle.rules.proofs.ListLaws.{by-bool, and-true, all-true, every-at, every-mapped}
+use Rattle.rules.proofs.Printing.{Small, Short, fit-prints, starts, parted, fit-back}
+
+-- ---- What a form's line begins with
+
+-- an operand is one of two words
+pub data Way : Type 0 where
+  reading taking : Way
+
+abbrev ways : List Way
+ways = reading ∷ taking ∷ []
+
+unfoldable pub opening : Way → List ℕ
+opening reading = bytes "(read "
+opening taking = bytes "(take "
+
+-- the fixed characters of a template up to its first letter; where that stands for an operand, up to the operand's number
+unfoldable pub head : Way → List Part → List ℕ
+head v [] = []
+head v (character c ∷ t) = c ∷ head v t
+head v (oneNumber ∷ t) = []
+head v (oneOperand ∷ t) = opening v
+head v (oneCap ∷ t) = []
+head v (manyNumbers ∷ t) = []
+head v (manyOperands ∷ t) = []
+
+-- a text begins as the template does
+pub record Begins (t : List Part) (l : List ℕ) : Type 0 where
+  pub way : Way
+  pub rest : List ℕ
+  pub text : l ≡ head way t ++ rest
+
+-- a printing does
+anything-begins : (t : List Part) (l : List ℕ) → head reading t ≡ [] → Begins t l
+anything-begins t l h = record { way = reading; rest = l; text = rw h }
+
+operand-begins : (t : List Part) (w : Operand) (l : List ℕ) → Begins (oneOperand ∷ t) (printOperand w ++ l)
+unfolding head opening printOperand
+operand-begins t (reads s) l = record { way = reading; rest = (decimal s ++ bytes ")") ++ l; text = refl }
+operand-begins t (takes s) l = record { way = taking; rest = (decimal s ++ bytes ")") ++ l; text = refl }
+
+print-begins : (t : List Part) (p : Holds t) (l : List ℕ) → Begins t (print t p ++ l)
+unfolding print head
+print-begins [] p l = anything-begins [] l refl
+print-begins (character c ∷ t) p l = let b = print-begins t p l in record { way = b .way; rest = b .rest; text = ap (λ (k : List ℕ). c ∷ k) (b .text) }
+print-begins (oneNumber ∷ t) p l = anything-begins _ _ refl
+print-begins (oneOperand ∷ t) p l = rw append-assoc (operand-begins t (p .0) (print t (p .1) ++ l))
+print-begins (oneCap ∷ t) p l = anything-begins _ _ refl
+print-begins (manyNumbers ∷ t) p l = anything-begins _ _ refl
+print-begins (manyOperands ∷ t) p l = anything-begins _ _ refl
+
+-- ---- Beginnings that differ
+
+-- at a place inside both
+differ : List ℕ → List ℕ → Bool
+differ [] k = false
+differ (x ∷ h) [] = false
+differ (x ∷ h) (y ∷ k) = cond (eqb x y) (differ h k) true
+
+differ-apart : (h k a b : List ℕ) → differ h k ≡ true → h ++ a ≡ k ++ b → ⊥
+unfolding differ
+differ-apart [] k a b d e = false≢true d
+differ-apart (x ∷ h) [] a b d e = false≢true d
+differ-apart (x ∷ h) (y ∷ k) a b d e = by-bool (eqb x y)
+    (λ t. differ-apart h k a b (rw t at d) (cc))
+    (λ t. eqb-false x y t (cc))
+
+-- whatever their first operands
+apart : Rule → Rule → Bool
+apart r s = all (λ v. all (λ w. differ (head v (r .template)) (head w (s .template))) ways) ways
+
+every-way : (f : Way → Bool) → all f ways ≡ true → (v : Way) → f v ≡ true
+every-way f h reading = all-true f ways h .0
+every-way f h taking = all-true f ways h .1 .0
+
+apart-begin : (r s : Rule) (l : List ℕ) → apart r s ≡ true → Begins (r .template) l → Begins (s .template) l → ⊥
+unfolding apart
+apart-begin r s l h b c =
+    let row = every-way (λ v. all (λ w. differ (head v (r .template)) (head w (s .template))) ways) h (b .way) in
+    let place = every-way (λ w. differ (head (b .way) (r .template)) (head w (s .template))) row (c .way) in
+    differ-apart (head (b .way) (r .template)) (head (c .way) (s .template)) (b .rest) (c .rest) place (sym (b .text) ∙ c .text)
+
+-- ---- The forms
+
+-- the i-th form; what stands past the last is never asked for
+abbrev pub ruleAt : ℕ → Rule
+ruleAt i = getD forms i (record { template = []; make = λ _. opens thread })
+
+-- the i-th form fits the whole line
+pub record Fits-line (i : ℕ) (l : List ℕ) : Type 0 where
+  pub parts : Holds (ruleAt i .template)
+  pub fits : fit (ruleAt i .template) l ≡ took parts []
+
+-- each form is apart from the later ones
+allApart : List Rule → Bool
+allApart [] = true
+allApart (r ∷ rs) = all (apart r) rs && allApart rs
+
+forms-apart : allApart forms ≡ true
+unfolding allApart apart all differ head opening
+forms-apart = refl
+
+apart-at : (rs : List Rule) (d : Rule) (i j : ℕ) → allApart rs ≡ true → i < j → j < length rs → apart (getD rs i d) (getD rs j d) ≡ true
+unfolding allApart
+apart-at [] d i j h i<j j<n = absurd (not-suc-le-zero j<n)
+apart-at (r ∷ rs) d i zero h i<j j<n = absurd (not-suc-le-zero i<j)
+apart-at (r ∷ rs) d zero (suc j) h i<j j<n = every-at (λ s. apart r s ≡ true) rs j d (le-of-suc-le-suc j<n) (all-true (apart r) rs (and-true (all (apart r) rs) (allApart rs) h .0))
+apart-at (r ∷ rs) d (suc i) (suc j) h i<j j<n = apart-at rs d i j (and-true (all (apart r) rs) (allApart rs) h .1) (le-of-suc-le-suc i<j) (le-of-suc-le-suc j<n)
+
+-- no text begins as two forms do
+pub one-beginning : (i j : ℕ) (l : List ℕ) → i < length forms → j < length forms → Begins (ruleAt i .template) l → Begins (ruleAt j .template) l → i ≡ j
+one-beginning i j l i<n j<n b c = go (decLt i j) (decLt j i)
+  where
+    go : Dec (i < j) → Dec (j < i) → i ≡ j
+    go (yes h) k = absurd (apart-begin (ruleAt i) (ruleAt j) l (apart-at forms _ i j forms-apart h j<n) b c)
+    go (no h) (yes k) = absurd (apart-begin (ruleAt j) (ruleAt i) l (apart-at forms _ j i forms-apart k i<n) c b)
+    go (no h) (no k) = omega arith
+
+pub line-begins : (i : ℕ) (l : List ℕ) → Fits-line i l → Begins (ruleAt i .template) l
+line-begins i l f = rw (fit-prints (ruleAt i .template) l (f .parts) [] (f .fits)) (print-begins (ruleAt i .template) (f .parts) [])
+
+pub one-form : (i j : ℕ) (l : List ℕ) → i < length forms → j < length forms → Fits-line i l → Fits-line j l → i ≡ j
+one-form i j l i<n j<n f g = one-beginning i j l i<n j<n (line-begins i l f) (line-begins j l g)
+
+-- ---- Trying one form alone
+
+-- what a line gives where one form is tried
+abbrev pub tried : Rule → List ℕ → Taken Form
+tried r l = whole (fit (r .template) l) >>= λ p l₁. took (r .make p) l₁
+
+or-unfit : {A : Type 0} (x : Taken A) → orElse x unfit ≡ x
+unfolding orElse
+or-unfit (took a l) = refl
+or-unfit unfit = refl
+
+none-fits : (rs : List Rule) (d : Rule) (l : List ℕ) → ((j : ℕ) → j < length rs → whole (fit (getD rs j d .template) l) ≡ unfit) → firstFit rs l ≡ unfit
+unfolding firstFit _>>=_ orElse
+none-fits [] d l h = refl
+none-fits (r ∷ rs) d l h = rw (h 0 (omega arith)) (none-fits rs d l (λ j j<n. h (suc j) (suc-le-suc j<n)))
+
+only-fits : (rs : List Rule) (d : Rule) (i : ℕ) (l : List ℕ) → i < length rs
+    → ((j : ℕ) → j < length rs → (j ≡ i → ⊥) → whole (fit (getD rs j d .template) l) ≡ unfit) → firstFit rs l ≡ tried (getD rs i d) l
+unfolding firstFit _>>=_ orElse
+only-fits [] d i l i<n h = absurd (not-suc-le-zero i<n)
+only-fits (r ∷ rs) d zero l i<n h = rw (none-fits rs d l (λ j j<n. h (suc j) (suc-le-suc j<n) (λ e. omega arith))) (or-unfit (tried r l))
+only-fits (r ∷ rs) d (suc i) l i<n h =
+    rw (h 0 (omega arith) (λ e. omega arith)) (only-fits rs d i l (le-of-suc-le-suc i<n) (λ j j<n e. h (suc j) (suc-le-suc j<n) (λ k. e (omega arith))))
+
+unfit-line : (j : ℕ) (l : List ℕ) → (Fits-line j l → ⊥) → whole (fit (ruleAt j .template) l) ≡ unfit
+unfit-line j l h = go (fit (ruleAt j .template) l) refl
+  where
+    go : (x : Taken (Holds (ruleAt j .template))) → fit (ruleAt j .template) l ≡ x → whole x ≡ unfit
+    go (took p []) e = absurd (h (record { parts = p; fits = e }))
+    go (took p (c ∷ l₁)) e = refl
+    go unfit e = refl
+
+-- where no other form fits, to try this one is enough
+pub decode-by : (i : ℕ) (l : List ℕ) → i < length forms → ((j : ℕ) → j < length forms → Fits-line j l → j ≡ i) → decode l ≡ tried (ruleAt i) l
+unfolding decode
+decode-by i l i<n h = only-fits forms _ i l i<n (λ j j<n e. unfit-line j l (λ f. e (h j j<n f)))
+
+pub decode-is : (i : ℕ) (l : List ℕ) → i < length forms → (f : Fits-line i l) → decode l ≡ took (ruleAt i .make (f .parts)) []
+unfolding _>>=_
+decode-is i l i<n f = decode-by i l i<n (λ j j<n g. one-form j i l j<n i<n g f) ∙ rw (f .fits)
+
+-- ---- And back: a form written as its line reads as that form, where its numbers have at most three digits
+
+-- in each form a part ends before a character that cannot go on with it
+forms-parted : all (λ r. parted (r .template)) forms ≡ true
+unfolding all parted starts placeOf
+forms-parted = refl
+
+print-decodes : (i : ℕ) (p : Holds (ruleAt i .template)) → i < length forms → Short (ruleAt i .template) p → decode (print (ruleAt i .template) p) ≡ took (ruleAt i .make p) []
+print-decodes i p i<n h =
+    let t = every-at (λ r. parted (r .template) ≡ true) forms i _ i<n (all-true (λ r. parted (r .template)) forms forms-parted) in
+    decode-is i _ i<n (record { parts = p; fits = rw append-nil at (fit-back (ruleAt i .template) p [] t h) })
+
+pub decode-show : (F : Form) → Every Small (slotsIn F) → Every Small (numbersIn F) → decode (show F) ≡ took F []
+unfolding show slotsIn targetsIn operandsIn numbersIn
+decode-show (kind K) s n = print-decodes 0 (K .fields, (K .methods, tt)) (omega arith) (n .0, (n .1, tt))
+decode-show (opens thread) s n = print-decodes 1 tt (omega arith) tt
+decode-show (opens method) s n = print-decodes 2 tt (omega arith) tt
+decode-show (line (give w)) s n = print-decodes 3 (w, tt) (omega arith) s
+decode-show (line (bind (value w))) s n = print-decodes 4 (w, tt) (omega arith) s
+decode-show (line (bind (field x f))) s n = print-decodes 5 (x, (f, tt)) (omega arith) (s .0, n)
+decode-show (line (bind (swap x f w))) s n = print-decodes 6 (x, (f, (w, tt))) (omega arith) (s .0, (n .0, s .1))
+decode-show (line (bind (call x i w))) s n = print-decodes 7 (x, (i, (w, tt))) (omega arith) (s .0, (n .0, s .1))
+decode-show (line (bind (new k i ws))) s n = print-decodes 8 (k, (i, (ws, tt))) (omega arith) (n .0, (every-mapped Small slotOf ws s, tt))
+decode-show (line (bind (cast k w))) s n = print-decodes 9 (k, (w, tt)) (omega arith) s
+decode-show (line (bind (spawn b))) s n = print-decodes 10 (b, tt) (omega arith) n
+decode-show (line (bind (send x w))) s n = print-decodes 11 (x, (w, tt)) (omega arith) s
+decode-show (line (bind (recv x))) s n = print-decodes 12 (x, tt) (omega arith) s

@@ -1,0 +1,51 @@
+-- What is proved of every accepted script, gathered: each is a corollary of the file that proves it.
+use Prim.Native.Nat.{ℕ, _≤_}
+use native.Mathlib.Omega.{arith}
+use mathlib.Core.Path.{_≡_, sym}
+use mathlib.Core.List.{List, map}
+use lib.ListN.{length}
+use Rattle.rules.specs.Mosts as Most
+use Rattle.rules.specs.Mosts.{mosts}
+use Rattle.rules.specs.Lists.{Every}
+use Rattle.rules.specs.Text.{join}
+use Rattle.rules.specs.Script.{Program, linesOf}
+use Rattle.rules.specs.Templates.{show}
+use Rattle.rules.specs.Reading.{accepted, script}
+use Rattle.rules.specs.Run.{run}
+use Rattle.rules.specs.Tables.{programWords, stateWords}
+use Rattle.rules.specs.Stripped.{Matches}
+use Rattle.rules.specs.Valid.{Valid}
+use Rattle.rules.specs.Fits.{Fits}
+use Rattle.rules.proofs.Printing.{scan-prints}
+use Rattle.rules.proofs.Accepted.{accepted-valid, accepted-lines}
+use Rattle.rules.proofs.Keeps.{keeps-run, moves-few, fits-run}
+use Rattle.rules.proofs.Demand3.{stripped-matches}
+use Rattle.rules.proofs.TableWords.{In16Bits, program-words-small, state-words-small}
+
+module _ (text : List ℕ) (P : Program) (is-accepted : script mosts text ≡ accepted P) where
+  -- its program guarantees what the run relies on
+  pub valid : Valid mosts P
+  valid = accepted-valid mosts text P is-accepted
+
+  -- its text is the printing of what was read: nothing of it is lost
+  pub text-is-printed : text ≡ join (map show (linesOf P))
+  text-is-printed = sym (scan-prints mosts text (linesOf P) (accepted-lines mosts text P is-accepted))
+
+  pub program-words-in-16-bits : Every In16Bits (programWords P)
+  program-words-in-16-bits = program-words-small valid
+
+  module _ (ts : List ℕ) (few : length ts ≤ Most.turns) where
+    -- after every list of turns, and so after every turn: every number is in its range, message numbers are at most the moves
+    pub state-fits : Fits mosts P (run mosts P ts .moves) (run mosts P ts .state)
+    state-fits = keeps-run mosts P ts valid (omega arith)
+
+    -- the moves are at most the turns
+    pub moves-in-16-bits : In16Bits (run mosts P ts .moves)
+    moves-in-16-bits = omega (arith, moves-few mosts P ts)
+
+    pub state-words-in-16-bits : Every In16Bits (stateWords (run mosts P ts .state))
+    state-words-in-16-bits = state-words-small (fits-run P ts valid few) (omega arith) valid
+
+    -- "For every accepted script and every list of up to 32,768 turns from a fresh start, .. the stripped script .. matches the guarded one."
+    pub demand-3 : Matches mosts P ts
+    demand-3 = stripped-matches mosts P ts
