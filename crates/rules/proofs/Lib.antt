@@ -1,15 +1,21 @@
+-- The theorems. Theorems gathers what is proved of every accepted script.
 pub mod ListLaws
+-- the starred cases, and the cases that another order or reading would change
 pub mod Computing
 mod Cases
 mod Readings
+-- the matcher and the printer; at most one form fits a line; what was scanned; every accepted program is valid
 pub mod Printing
 pub mod OneForm
 pub mod Scanned
 pub mod Accepted
+-- the inversion of a moving turn; the state fits its program
 pub mod Moves
 pub mod Keeps
+-- one turn of the stripped script follows the guarded one; demand 3
 pub mod Simulation
 pub mod Demand3
+-- reach as a relation and its walk; the words of both tables
 pub mod Counts
 pub mod Walks
 pub mod TableWords

@@ -38,6 +38,8 @@ cases =
     -- "a swap stores another thread's local in an unsafe object, a new stops with 14"
     ∷ answers "(kind (fields 0) (does))\n(kind (fields 1) (does))\n(thread)\n(let (spawn 1))\n(let (new local 0))\n(let (new unsafe 1 (read 2)))\n(let (send 1 (read 3)))\n(give (read 1))\n(thread)\n(let (recv 0))\n(let (field 1 0))\n(let (swap 1 0 (read 2)))\n(give (read 1))\n" (0 ∷ 0 ∷ 0 ∷ 0 ∷ 1 ∷ 1 ∷ 1 ∷ []) guarded (ended openEnd 7)
     ∷ answers "(kind (fields 0) (does))\n(kind (fields 1) (does))\n(thread)\n(let (spawn 1))\n(let (new local 0))\n(let (new unsafe 1 (read 2)))\n(let (send 1 (read 3)))\n(give (read 1))\n(thread)\n(let (recv 0))\n(let (field 1 0))\n(let (new unsafe 1 (read 2)))\n(give (read 1))\n" (0 ∷ 0 ∷ 0 ∷ 0 ∷ 1 ∷ 1 ∷ 1 ∷ []) guarded (halted 14 1 1 2 6)
+    -- A swap's target is absent and its value a channel: the target goes first.
+    ∷ answers "(thread)\n(let (spawn 0))\n(let (swap 0 0 (read 1)))\n(give (read 1))\n" (0 ∷ 0 ∷ []) guarded (halted 10 0 0 1 1)
     -- A swap's value is a channel and there is no such field: 13 goes before 11.
     ∷ answers "(kind (fields 0) (does))\n(thread)\n(let (spawn 0))\n(let (new unsafe 0))\n(let (swap 2 0 (read 1)))\n(give (read 1))\n" (0 ∷ 0 ∷ 0 ∷ []) guarded (halted 13 0 0 2 2)
     -- A new's first value is above K and its second is a channel: 13 goes before 14.

@@ -207,12 +207,12 @@ setField o f v = record { cap = o .cap; kind = o .kind; creator = o .creator; fi
 unfoldable pub swapLine : Here → ℕ → ℕ → Operand → Res State
 swapLine H s f w = do
   (v, vs) ← operand (objectsOf H) (H .frame .slots) w
-  n ← asObject (slotAt vs s)
+  target ← asObject (slotAt vs s)
   u ← asObject v
-  check (ltb f (length (object H n .fields))) No.noField
-  permitSwap (H .self) (object H n) (object H u)
-  let S = putObjects (H .state) (set (objectsOf H) n (setField (object H n) f v))
-  ok (gives S H vs (slotAt (object H n .fields) f))
+  check (ltb f (length (object H target .fields))) No.noField
+  permitSwap (H .self) (object H target) (object H u)
+  let S = putObjects (H .state) (set (objectsOf H) target (setField (object H target) f v))
+  ok (gives S H vs (slotAt (object H target .fields) f))
 
 -- "call: target absent 10; a channel 13; no such method 12; target local to another thread 14; frames used up 16.
 -- The new frame holds target and value; the caller's slot keeps the target."
