@@ -1,0 +1,40 @@
+//! Random inputs of boxrun: mostly plausible scripts, some special shapes, and some damage. The
+//! n-th input of a seed is always the same.
+
+use crate::damage::{change_number, damage};
+use crate::plain;
+use crate::random::Random;
+use crate::shapes::{long_script, long_turns, shape, Shape};
+use crate::turns;
+
+/// The n-th input of a seed.
+pub fn input(seed: u64, n: u64) -> Vec<u8> {
+    let mut random = Random::of(seed, n);
+    let (script, turns) = whole(&mut random);
+    let mut text = script.into_bytes();
+    let mut last = turns_text(&turns);
+    if random.chance(18) {
+        damage(&mut random, &mut text);
+    }
+    match random.weighted(&[95, 3, 2]) {
+        0 => {}
+        1 => damage(&mut random, &mut last),
+        _ => change_number(&mut random, &mut last),
+    }
+    text.extend(last);
+    text
+}
+
+fn whole(random: &mut Random) -> Shape {
+    match random.weighted(&[780, 215, 3, 2]) {
+        0 => (plain::script(random), turns::list(random)),
+        1 => shape(random),
+        2 => long_script(random),
+        _ => long_turns(random),
+    }
+}
+
+pub fn turns_text(turns: &[u8]) -> Vec<u8> {
+    let numbers: String = turns.iter().map(|turn| format!(" {}", turn)).collect();
+    format!("(turns{})\n", numbers).into_bytes()
+}

@@ -1,0 +1,31 @@
+//! The second interpreter: the script machine of document 01 once more, in plain Rust, written from
+//! the paper alone. Points that can be read in two ways follow docs/DECISIONS.md.
+
+#![forbid(unsafe_code)]
+
+pub mod numbers;
+pub mod script;
+
+pub mod form;
+pub mod reading;
+
+pub mod checks;
+pub mod machine;
+pub mod state;
+
+pub mod lines;
+pub mod listing;
+pub mod reach;
+
+pub mod input;
+
+pub mod demand3;
+pub mod stripped;
+
+pub mod damage;
+pub mod generate;
+pub mod histogram;
+pub mod plain;
+pub mod random;
+pub mod shapes;
+pub mod turns;

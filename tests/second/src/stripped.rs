@@ -1,0 +1,27 @@
+//! The stripped script and the erased state (document 01, "Guarded and stripped"): capabilities
+//! aside, a guarded run and a stripped run are compared on these.
+
+use crate::script::{Cap, Expr, Program};
+use crate::state::State;
+
+/// The same script when, once it is read, every K in it is changed to `unsafe`.
+pub fn strip(program: &Program) -> Program {
+    let mut stripped = program.clone();
+    for block in &mut stripped.blocks {
+        for expr in &mut block.lets {
+            if let Expr::New { cap, .. } | Expr::Cast { cap, .. } = expr {
+                *cap = Cap::Unsafe;
+            }
+        }
+    }
+    stripped
+}
+
+/// The same state with every object made unsafe.
+pub fn erase(state: &State) -> State {
+    let mut erased = state.clone();
+    for object in &mut erased.objects {
+        object.cap = Cap::Unsafe;
+    }
+    erased
+}

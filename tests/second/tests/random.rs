@@ -1,0 +1,265 @@
+//! Random inputs of fixed seeds: they reach everything, only moves change a state, and demand 3
+//! holds; and the check of demand 3 itself can fail.
+
+mod common;
+
+use common::*;
+use second::demand3::{check, check_many, check_pair};
+use second::generate;
+use second::histogram::Histogram;
+use second::input::{accepted, boxrun, boxrun_stripped};
+use second::machine::{run, End, Machine, Outcome};
+use second::reach::reach;
+use second::script::{Cap, Expr};
+use second::stripped::{erase, strip};
+
+const SEED: u64 = 20_260_117;
+
+#[test]
+fn the_inputs_reach_every_row() {
+    let histogram = Histogram::of(SEED, 6_000);
+    assert_eq!(histogram.missing(), Vec::<&str>::new());
+}
+
+/// One case known by hand, so that the rows are not filled by chance.
+#[test]
+fn the_histogram_counts_case_a() {
+    let script = text(&[
+        "(kind (fields 0) (does))",
+        "(thread)",
+        "(let (spawn 1))",
+        "(let (new iso 0))",
+        "(let (send 1 (take 2)))",
+        "(give (read 1))",
+        "(thread)",
+        "(let (recv 0))",
+        "(give (take 1))",
+    ]);
+    let mut histogram = Histogram::empty();
+    histogram.add(input(&script, "0 0 0 0 9 1 0").as_bytes());
+    let ones = [
+        "read spawn",
+        "read new",
+        "read send",
+        "read recv",
+        "moved spawn",
+        "moved new",
+        "moved send put",
+        "moved send moved on",
+        "moved recv",
+        "waited send put",
+        "idle",
+        "end open",
+    ];
+    for (name, count) in histogram.rows() {
+        let expected = if name == "read give" {
+            2
+        } else {
+            u64::from(ones.contains(&name))
+        };
+        assert_eq!(count, expected, "{}", name);
+    }
+}
+
+#[test]
+fn an_input_is_the_same_each_time() {
+    let first: Vec<_> = (0..50).map(|n| generate::input(SEED, n)).collect();
+    let again: Vec<_> = (0..50).map(|n| generate::input(SEED, n)).collect();
+    let other: Vec<_> = (0..50).map(|n| generate::input(SEED + 1, n)).collect();
+    assert_eq!(first, again);
+    assert_ne!(first, other);
+    assert_ne!(first[0], first[1]);
+}
+
+#[test]
+fn demand_3_holds() {
+    let counts = check_many(SEED, 4_000).unwrap_or_else(|violation| {
+        let input = String::from_utf8_lossy(&violation.input).into_owned();
+        panic!("{}\n{}", violation.fault, input)
+    });
+    assert_eq!(counts.runs, 4_000);
+    for (name, count) in counts.rows() {
+        assert!(count > 0, "{}", name);
+    }
+}
+
+/// Waits, idle turns and stops leave the state; a move changes it and counts one.
+#[test]
+fn only_moves_change_the_state() {
+    let mut turns_seen = 0;
+    for n in 0..600 {
+        if let Ok((program, turns)) = accepted(&generate::input(SEED, n)) {
+            let mut machine = Machine::fresh(&program);
+            for thread in turns.iter().take(400) {
+                let (before, moves) = (machine.state.clone(), machine.moves);
+                let moved = machine.turn(*thread) == Outcome::Moved;
+                assert_eq!(before != machine.state, moved);
+                assert_eq!(machine.moves - moves, u32::from(moved));
+                turns_seen += 1;
+            }
+        }
+    }
+    assert!(turns_seen > 10_000);
+}
+
+/// A run on the whole list is the run on its first part, gone on with.
+#[test]
+fn a_run_is_its_turns_one_by_one() {
+    for n in 0..600 {
+        if let Ok((program, turns)) = accepted(&generate::input(SEED, n)) {
+            let mut machine = Machine::fresh(&program);
+            let moved = turns
+                .iter()
+                .filter(|thread| machine.turn(**thread) == Outcome::Moved)
+                .count();
+            let whole = run(&program, &turns);
+            assert_eq!((whole.end, whole.moves as usize), (machine.end(), moved));
+            assert_eq!(whole.state, machine.state);
+        }
+    }
+}
+
+/// Threads reach no object twice, every thread of a finished run reaches nothing, and the number
+/// after the last thread is that of a thread never started.
+#[test]
+fn reach_of_random_runs() {
+    let mut reached_any = 0;
+    for n in 0..600 {
+        if let Ok((program, turns)) = accepted(&generate::input(SEED, n)) {
+            let run = run(&program, &turns);
+            for thread in 0..run.state.threads.len() {
+                let mut objects = reach(&run.state, thread).unwrap();
+                let count = objects.len();
+                objects.sort_unstable();
+                objects.dedup();
+                assert_eq!(objects.len(), count);
+                assert!(run.end != End::Finished || count == 0);
+                reached_any += count;
+            }
+            assert!(reach(&run.state, run.state.threads.len()).is_err());
+        }
+    }
+    assert!(reached_any > 500);
+}
+
+/// Whatever the input, one answer comes first and every line ends in LF.
+#[test]
+fn boxrun_answers_every_input() {
+    for n in 0..3_000 {
+        let input = generate::input(SEED + 2, n);
+        let output = String::from_utf8(boxrun(&input)).unwrap();
+        let head = output.split(' ').next().unwrap();
+        assert!(
+            ["(end", "(stopped", "(refused"].contains(&head),
+            "{}",
+            output
+        );
+        assert!(output.ends_with(")\n"));
+        assert_eq!(accepted(&input).is_err(), head == "(refused");
+        if head == "(refused" {
+            assert_eq!(boxrun_stripped(&input), output.as_bytes());
+        }
+    }
+}
+
+/// No K but unsafe is left by stripping, and nothing else is changed.
+#[test]
+fn stripping_changes_only_capabilities() {
+    let guarded = program(&text(&[
+        "(kind (fields 0) (does))",
+        "(thread)",
+        "(let (new iso 0))",
+        "(let (cast imm (take 1)))",
+        "(let (spawn 0))",
+        "(give (read 2))",
+    ]));
+    let stripped = program(&text(&[
+        "(kind (fields 0) (does))",
+        "(thread)",
+        "(let (new unsafe 0))",
+        "(let (cast unsafe (take 1)))",
+        "(let (spawn 0))",
+        "(give (read 2))",
+    ]));
+    assert_eq!(strip(&guarded), stripped);
+    assert!(matches!(
+        guarded.blocks[0].lets[0],
+        Expr::New { cap: Cap::Iso, .. }
+    ));
+    let state = run(&guarded, &[0]).state;
+    assert_eq!(state.objects[0].cap, Cap::Iso);
+    assert_eq!(erase(&state), run(&stripped, &[0]).state);
+    assert_ne!(state, run(&stripped, &[0]).state);
+}
+
+fn two_lines(first: &str, second: &str) -> second::script::Program {
+    program(&text(&[
+        "(kind (fields 0) (does))",
+        "(kind (fields 1) (does))",
+        "(thread)",
+        &format!("(let {})", first),
+        &format!("(let {})", second),
+        "(give (take 1))",
+    ]))
+}
+
+/// Pairs that are no script and its stripped one: each sentence of demand 3 is seen to fail.
+#[test]
+fn the_check_of_demand_3_can_fail() {
+    let fault = |guarded: (&str, &str), other: (&str, &str), turns: &[u8]| {
+        let (guarded, other) = (two_lines(guarded.0, guarded.1), two_lines(other.0, other.1));
+        check_pair(&guarded, &other, turns).unwrap_err()
+    };
+    let plain = ("(new unsafe 0)", "(read 1)");
+    let states = fault(plain, ("(new unsafe 0)", "(new unsafe 0)"), &[0, 0]);
+    assert!(states.contains("states differ"), "{}", states);
+    let others = fault(("(new unsafe 0)", "(field 1 0)"), plain, &[0, 0]);
+    assert!(others.contains("of the guarded run"), "{}", others);
+    let line = fault(
+        ("(read 0)", "(read 0)"),
+        ("(new unsafe 0)", "(read 0)"),
+        &[0, 0],
+    );
+    assert!(line.contains("of the guarded run"), "{}", line);
+    let guard = fault(
+        ("(new unsafe 0)", "(cast iso (read 1))"),
+        ("(new unsafe 0)", "(cast iso (read 1))"),
+        &[0, 0],
+    );
+    assert!(guard.contains("for permission or cast"), "{}", guard);
+    let early = fault(plain, ("(new unsafe 0)", "(read 0)"), &[0, 0]);
+    assert!(early.contains("states differ"), "{}", early);
+    let stuck = check_pair(&waits("(recv 1)"), &waits("(read 1)"), &[0, 1]).unwrap_err();
+    assert!(stuck.contains("stuck"), "{}", stuck);
+    let alone = check_pair(&waits("(recv 1)"), &waits("(field 1 0)"), &[0, 0]).unwrap_err();
+    assert!(alone.contains("of the stripped run"), "{}", alone);
+}
+
+fn waits(line: &str) -> second::script::Program {
+    program(&text(&[
+        "(thread)",
+        "(let (spawn 1))",
+        &format!("(let {})", line),
+        "(give (read 1))",
+        "(thread)",
+        "(give (read 0))",
+    ]))
+}
+
+/// The stripped run may stop later, once the guarded one has stopped for permission or cast.
+#[test]
+fn a_stripped_run_may_stop_later() {
+    let script = text(&[
+        "(kind (fields 0) (does))",
+        "(thread)",
+        "(let (new iso 0))",
+        "(let (read 1))",
+        "(let (field 1 0))",
+        "(give (read 1))",
+    ]);
+    let facts = check(&program(&script), &[0; 5]).unwrap();
+    let place =
+        |stopped: Option<second::demand3::Stopped>| stopped.map(|s| (s.place, s.stop.number));
+    assert_eq!(place(facts.guarded), Some((1, 14)));
+    assert_eq!(place(facts.stripped), Some((2, 11)));
+}

@@ -1,0 +1,210 @@
+//! The reach report: what a thread reaches, in all frames and on through fields, and its refusals.
+
+mod common;
+
+use common::*;
+use second::machine::{run, End};
+use second::numbers::Refusal;
+use second::reach::{reach, reach_report, Report};
+
+fn report(script: &str, turns: &[u8], thread: usize, list: &mut [u16]) -> Result<Report, Refusal> {
+    reach_report(script.as_bytes(), turns, 8_192, 8_192, thread, list)
+}
+
+/// The objects reached, by rising number.
+fn reached(script: &str, turns: &[u8], thread: usize) -> Vec<u16> {
+    let mut list = [999; 256];
+    let report = report(script, turns, thread, &mut list).unwrap();
+    let count = report.reached.unwrap();
+    assert!(list[count..].iter().all(|word| *word == 0));
+    let mut objects = list[..count].to_vec();
+    objects.sort_unstable();
+    objects
+}
+
+fn sharing() -> String {
+    text(&[
+        "(kind (fields 0) (does))",
+        "(kind (fields 2) (does 2))",
+        "(thread)",
+        "(let (spawn 1))",
+        "(let (new imm 0))",
+        "(let (new unsafe 1 (read 2) (read 2)))",
+        "(let (new unsafe 1 (read 3) (take 2)))",
+        "(let (swap 3 0 (read 4)))",
+        "(let (take 5))",
+        "(let (new iso 0))",
+        "(let (send 1 (take 7)))",
+        "(give (read 1))",
+        "(thread)",
+        "(let (recv 0))",
+        "(give (take 1))",
+        "(method)",
+        "(give (read 1))",
+    ])
+}
+
+#[test]
+fn a_fresh_thread_reaches_nothing() {
+    assert_eq!(reached(&sharing(), &[], 0), vec![]);
+    assert_eq!(reached(&sharing(), &[0], 1), vec![]);
+}
+
+/// Objects 1 and 2 hold each other, and 2 is reached from several places: each counts once.
+#[test]
+fn through_fields_each_once() {
+    assert_eq!(reached(&sharing(), &[0; 2], 0), vec![0]);
+    assert_eq!(reached(&sharing(), &[0; 4], 0), vec![0, 1, 2]);
+    assert_eq!(reached(&sharing(), &[0; 6], 0), vec![0, 1, 2]);
+    assert_eq!(reached(&sharing(), &[0; 7], 0), vec![0, 1, 2, 3]);
+}
+
+/// The sent object 3 is in the channel, and then with thread 1.
+#[test]
+fn messages_are_not_followed() {
+    assert_eq!(reached(&sharing(), &[0; 8], 0), vec![0, 1, 2]);
+    assert_eq!(reached(&sharing(), &[0; 8], 1), vec![]);
+    assert_eq!(
+        reached(&sharing(), &[0, 0, 0, 0, 0, 0, 0, 0, 1], 1),
+        vec![3]
+    );
+    assert_eq!(
+        reached(&sharing(), &[0, 0, 0, 0, 0, 0, 0, 0, 1], 0),
+        vec![0, 1, 2]
+    );
+}
+
+#[test]
+fn a_finished_thread_reaches_nothing() {
+    assert_eq!(
+        reached(&sharing(), &[0, 0, 0, 0, 0, 0, 0, 0, 1, 1], 1),
+        vec![]
+    );
+}
+
+/// Slot 2 of the outermost frame holds object 1, which the method's frame does not.
+fn in_a_call() -> String {
+    text(&[
+        "(kind (fields 0) (does 1))",
+        "(thread)",
+        "(let (new imm 0))",
+        "(let (new iso 0))",
+        "(let (new iso 0))",
+        "(let (call 1 0 (take 3)))",
+        "(give (read 1))",
+        "(method)",
+        "(let (new local 0))",
+        "(give (read 2))",
+    ])
+}
+
+#[test]
+fn all_frames_count() {
+    assert_eq!(reached(&in_a_call(), &[0; 5], 0), vec![0, 1, 2, 3]);
+    assert_eq!(reached(&in_a_call(), &[0; 6], 0), vec![0, 1, 3]);
+}
+
+/// A chain of objects from one slot, and what is no longer held by any.
+#[test]
+fn a_stopped_run_is_reported_on_as_it_stands() {
+    let script = text(&[
+        "(kind (fields 0) (does))",
+        "(kind (fields 1) (does))",
+        "(thread)",
+        "(let (new iso 0))",
+        "(let (new iso 1 (take 1)))",
+        "(let (new iso 1 (take 2)))",
+        "(let (cast imm (take 3)))",
+        "(give (take 4))",
+    ]);
+    let mut list = [7; 256];
+    let report = report(&script, &[0; 5], 0, &mut list).unwrap();
+    assert!(matches!(report.run.end, End::Stopped(stop) if stop.number == 15));
+    assert_eq!((report.run.moves, report.reached), (3, Ok(3)));
+    assert_eq!(reached(&script, &[0; 5], 0), vec![0, 1, 2]);
+}
+
+/// Method 1 wraps its argument 14 times, method 0 does so 14 times over: one slot holds the whole
+/// chain.
+#[test]
+fn a_long_chain() {
+    let wraps: String = (1..15)
+        .map(|slot| format!("(let (new unsafe 1 (read {})))\n", slot))
+        .collect();
+    let chained: String = (1..15)
+        .map(|slot| format!("(let (call 0 1 (read {})))\n", slot))
+        .collect();
+    let script = format!(
+        "(kind (fields 0) (does 1 2))\n(kind (fields 1) (does))\n(thread)\n(let (new imm 0))\n\
+         (let (call 1 0 (read 1)))\n(let (call 1 1 (read 2)))\n(give (read 3))\n\
+         (method)\n{}(give (read 15))\n(method)\n{}(give (read 15))\n",
+        chained, wraps
+    );
+    let objects = 1 + 14 * 14 + 14;
+    let moves = 1 + (1 + 14 * 16 + 1) + 16;
+    assert_eq!(
+        reached(&script, &vec![0; moves], 0),
+        (0..objects).collect::<Vec<u16>>()
+    );
+    let state = run(&common::program(&script), &vec![0; moves]).state;
+    assert_eq!(reach(&state, 0).unwrap().len(), usize::from(objects));
+}
+
+/// 17 comes last: the run is there, and the list keeps its words.
+#[test]
+fn number_17_for_a_thread_never_started() {
+    for thread in [1, 2, 15, 16, 255, 65_536] {
+        let mut list = [7; 256];
+        let report = report(&sharing(), &[], thread, &mut list).unwrap();
+        assert_eq!(
+            report.reached,
+            Err(Refusal {
+                number: 17,
+                line: 0
+            })
+        );
+        assert_eq!(report.run, run(&program(&sharing()), &[]));
+        assert!(list.iter().all(|word| *word == 7));
+    }
+    let mut list = [7; 256];
+    let stopped = report("(thread)\n(give (read 0))\n", &[0], 1, &mut list).unwrap();
+    assert!(matches!(stopped.run.end, End::Stopped(_)));
+    assert_eq!(
+        stopped.reached,
+        Err(Refusal {
+            number: 17,
+            line: 0
+        })
+    );
+}
+
+#[test]
+fn refusals_keep_the_list() {
+    let refused = |text: &str, turns: usize, tables: (usize, usize), words: usize| {
+        let mut list = vec![7; words];
+        let turns = vec![0; turns];
+        let report = reach_report(text.as_bytes(), &turns, tables.0, tables.1, 9, &mut list);
+        assert!(list.iter().all(|word| *word == 7));
+        report
+            .map(|_| ())
+            .map_err(|refusal| (refusal.number, refusal.line))
+    };
+    let full = (8_192, 8_192);
+    assert_eq!(refused(&"?".repeat(16_385), 0, (0, 0), 0), Err((1, 0)));
+    assert_eq!(refused("?", 32_769, full, 256), Err((1, 0)));
+    assert_eq!(refused("?", 0, full, 255), Err((9, 0)));
+    assert_eq!(refused("?", 0, (8_191, 8_192), 256), Err((9, 0)));
+    assert_eq!(refused("?", 0, (8_192, 8_191), 256), Err((9, 0)));
+    assert_eq!(refused("?", 0, full, 256), Err((2, 0)));
+    assert_eq!(refused("(thread)\n", 0, full, 256), Err((7, 1)));
+    assert_eq!(refused(&sharing(), 32_768, full, 256), Ok(()));
+}
+
+#[test]
+fn words_past_the_list_keep_their_value() {
+    let mut list = [7; 300];
+    let report = report(&sharing(), &[0; 2], 0, &mut list).unwrap();
+    assert_eq!(report.reached, Ok(1));
+    assert!(list[..256].iter().all(|word| *word == 0));
+    assert!(list[256..].iter().all(|word| *word == 7));
+}
