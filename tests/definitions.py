@@ -1,0 +1,72 @@
+#!/usr/bin/env python3
+"""definitions.py SEED ..: the definitions against the second interpreter. For each seed, random inputs of boxrun are given to the
+second interpreter, and the prover computes what `boxrun` of crates/rules/specs prints for them: both must be the same bytes.
+The cases are written into a copy of the crate, outside the repository. Last line: 'N passed, M failed'."""
+import os
+import re
+import shutil
+import subprocess
+import sys
+import tempfile
+
+ROOT = os.path.dirname(os.path.dirname(os.path.abspath(__file__)))
+SECOND = os.path.join(ROOT, 'tests/target/release/second')
+INPUTS = 120   # inputs drawn for each seed
+LONGEST = 900  # longer ones take the prover long
+
+HEAD = '''-- What the definitions print for random inputs, computed.
+use mathlib.Core.Path.{_≡_, refl}
+use Rattle.rules.specs.Mosts.{mosts}
+use Rattle.rules.specs.Text.{bytes, join}
+use Rattle.rules.specs.Reading.{reading}
+use Rattle.rules.specs.Calls.{longText, longTurns}
+use Rattle.rules.specs.Input.{boxrun, outcome, turnsOf, lastLine, linesBefore}
+use Rattle.rules.proofs.Computing.{reads-texts, runs-programs, prints-runs}
+'''
+CASE = '''
+case-%d : boxrun mosts (bytes "%s") ≡ bytes "%s"
+unfolding boxrun outcome turnsOf lastLine linesBefore join reading longText longTurns reads-texts runs-programs prints-runs
+case-%d = refl
+'''
+
+
+def second(words, given=b''):
+    return subprocess.run([SECOND] + words, input=given, stdout=subprocess.PIPE, check=True).stdout
+
+
+def quotable(text):
+    """A text that a quoted text of the prover can hold as it is, but for its LFs."""
+    return len(text) <= LONGEST and all(b == 10 or 32 <= b < 127 and b not in b'"\\' for b in text)
+
+
+def quoted(text):
+    return text.decode().replace('\n', '\\n')
+
+
+def main():
+    inputs = [second(['one', seed, str(n)]) for seed in sys.argv[1:] for n in range(INPUTS)]
+    inputs = [i for i in inputs if quotable(i)]
+    if len(inputs) < 20:
+        sys.exit('definitions.py: too few inputs to compare')
+    cases = [CASE % (n, quoted(i), quoted(second([], i)), n) for n, i in enumerate(inputs)]
+    with tempfile.TemporaryDirectory() as folder:
+        shutil.copytree(os.path.join(ROOT, 'crates/rules'), os.path.join(folder, 'crates/rules'), ignore=shutil.ignore_patterns('must-fail'))
+        proofs = os.path.join(folder, 'crates/rules/proofs')
+        with open(os.path.join(folder, 'crates.txt'), 'w') as f:
+            f.write('rules:\n')
+        with open(os.path.join(proofs, 'Lib.antt'), 'a') as f:
+            f.write('\nmod Agreement\n')
+        with open(os.path.join(proofs, 'Agreement.antt'), 'w') as f:
+            f.write(HEAD + ''.join(cases))
+        check = subprocess.run(['rt', 'check', 'rules'], cwd=folder, stdout=subprocess.PIPE, stderr=subprocess.STDOUT, text=True)
+    failed = sorted(set(int(n) for n in re.findall(r'error: `case-(\d+)`', check.stdout)))
+    for n in failed:
+        print('the definitions print something else for\n' + inputs[n].decode())
+    if check.returncode != 0 and not failed:
+        print(check.stdout[-3000:])
+        failed = [0]
+    print('%d passed, %d failed' % (len(inputs) - len(failed), len(failed)))
+    sys.exit(1 if failed else 0)
+
+
+main()
