@@ -15,7 +15,7 @@ use Rattle.rules.specs.Script.{kindsOf, letsOf, resultOf, blocksOf, prog
 use Rattle.rules.specs.Templates.{_>>=_ as _⟫=_, orElse, literal, placeOf, digitsAt, isNumber, decimalValue, number, decimal, operandBy, operand as operand′, capBy, capability, many, printMany, fit, firstFit, decode}
 use Rattle.rules.specs.State.{objectAt, threadAt, channelAt, slotAt, start}
 use Rattle.rules.specs.Turn.{_>>=_, _>>_, check, waitUnless, permit, isImm, isIso, isLocal, sameCap, mayHold, isForeign, isAbsent, isIsoObject, present, asObject, asChannel, operand, operands, allObjects, object, putThread, putObjects, putChannel, filled, withSlots, gives, valueLine, fieldLine, areApart, permitSwap, setField, swapLine, callLine, newLine, castLine, started, spawnLine, putLine, sentLine, sendLine, recvLine, returned, giveLine, letLine, perform, turnOf, turn}
-use Rattle.rules.specs.Listing.{bracket, aLine, endWord, answerLine, valueText, objectLine, messageText, channelLine, senderWord, threadParts, threadLine, numbered, stateLines, listing}
+use Rattle.rules.specs.Listing.{bracket, aLine, endWord, answerLine, valueText, objectLine, messageText, channelLine, senderText, threadParts, threadLine, numbered, stateLines, listing}
 
 -- ---- One name that unfolds all definitions of a part
 
@@ -31,7 +31,7 @@ runs-programs = tt
 
 -- opens what prints a run
 unfoldable pub prints-runs : Unit {0}
-unfolding bracket aLine endWord answerLine valueText objectLine messageText channelLine senderWord threadParts threadLine numbered stateLines listing
+unfolding bracket aLine endWord answerLine valueText objectLine messageText channelLine senderText threadParts threadLine numbered stateLines listing
 prints-runs = tt
 
 -- ---- Cases
@@ -40,7 +40,7 @@ prints-runs = tt
 pub data Way : Type 0 where
   guarded stripped : Way
 
--- what document 01 states of a case: its answer, and for A what is printed
+-- what is stated of a case: its answer, and for some what is printed
 pub data Output : Type 0 where
   unstated : Output
   prints : List ℕ → Output
@@ -70,7 +70,7 @@ found c = (runAnswer mosts (c .turns) (readingOf c), outputFor (c .output) (prin
 unfoldable pub answers : S.String → List ℕ → Way → Answer → Case
 answers s ts w a = record { text = s; turns = ts; way = w; answer = a; output = unstated }
 
--- what document 01 states of it
+-- what is stated of it
 unfoldable pub stated : Case → Answer × Output
 stated c = (c .answer, c .output)
 

@@ -10,7 +10,7 @@ use lib.ListN.{length}
 use Rattle.rules.specs.declared.Value.{Value}
 use Rattle.rules.specs.declared.Value.the-variants.{Absent, Obj, Chan}
 use Rattle.rules.specs.Lists.{among, Every}
-use Rattle.rules.specs.Reach.{isObject, count, times}
+use Rattle.rules.specs.Reach.{countOne, count, times}
 use Rattle.rules.specs.Fits.{InRange}
 use Rattle.rules.proofs.ListLaws.{by-bool}
 
@@ -20,14 +20,14 @@ sum-cases (suc a) b h = inl (omega arith)
 
 -- ---- one value
 
-pub object-self : (n : ℕ) → isObject n (Obj n) ≡ 1
+pub object-self : (n : ℕ) → countOne n (Obj n) ≡ 1
 object-self n = go (eqb n n) (eqb-refl n)
   where
     go : (b : Bool) → T b → cond {A = ℕ} b 1 0 ≡ 1
     go true t = refl
     go false t = absurd t
 
-pub object-equal : (x n : ℕ) → 1 ≤ isObject x (Obj n) → n ≡ x
+pub object-equal : (x n : ℕ) → 1 ≤ countOne x (Obj n) → n ≡ x
 object-equal x n = go (eqb n x) (eqb→eq n x)
   where
     go : (b : Bool) → (T b → n ≡ x) → 1 ≤ cond {A = ℕ} b 1 0 → n ≡ x
@@ -35,10 +35,10 @@ object-equal x n = go (eqb n x) (eqb→eq n x)
     go false e h = absurd (omega arith)
 
 -- an object that is met
-pub object-met : (x n : ℕ) (xs : List ℕ) → 1 ≤ times n xs → isObject x (Obj n) ≤ times x xs
+pub object-met : (x n : ℕ) (xs : List ℕ) → 1 ≤ times n xs → countOne x (Obj n) ≤ times x xs
 object-met x n xs h = by-bool (eqb n x) (λ e. rw (e, ← eqb→eq n x (rw e tt)) h) (λ e. rw e (omega arith))
 
-object-range : (o c x : ℕ) (v : Value) → InRange o c v → 1 ≤ isObject x v → x < o
+object-range : (o c x : ℕ) (v : Value) → InRange o c v → 1 ≤ countOne x v → x < o
 object-range o c x Absent r h = absurd (omega arith)
 object-range o c x (Obj n) r h = let e = object-equal x n h in omega arith
 object-range o c x (Chan k) r h = absurd (omega arith)
@@ -55,7 +55,7 @@ unfolding times
 times-append n [] ys = omega arith
 times-append n (x ∷ xs) ys = omega (arith, times-append n xs ys)
 
-pub times-snoc : (n : ℕ) (xs : List ℕ) (x : ℕ) → times n (xs ++ (x ∷ [])) ≡ times n xs + isObject n (Obj x)
+pub times-snoc : (n : ℕ) (xs : List ℕ) (x : ℕ) → times n (xs ++ (x ∷ [])) ≡ times n xs + countOne n (Obj x)
 unfolding times
 times-snoc n xs x = omega (arith, times-append n xs (x ∷ []))
 
@@ -63,9 +63,9 @@ times-snoc n xs x = omega (arith, times-append n xs (x ∷ []))
 pub count-range : (o c x : ℕ) (vs : List Value) → Every (InRange o c) vs → 1 ≤ count x vs → x < o
 unfolding count
 count-range o c x [] e h = absurd (omega arith)
-count-range o c x (v ∷ vs) e h = go (sum-cases (isObject x v) (count x vs) h) (count-range o c x vs (e .1))
+count-range o c x (v ∷ vs) e h = go (sum-cases (countOne x v) (count x vs) h) (count-range o c x vs (e .1))
   where
-    go : (1 ≤ isObject x v) ⊎ (1 ≤ count x vs) → (1 ≤ count x vs → x < o) → x < o
+    go : (1 ≤ countOne x v) ⊎ (1 ≤ count x vs) → (1 ≤ count x vs → x < o) → x < o
     go (inl a) k = object-range o c x v (e .0) a
     go (inr a) k = k a
 
@@ -91,35 +91,35 @@ times-not-among n (x ∷ xs) h =
     by-bool (eqb x n) (λ e. absurd (true≢false (rw (eqb-sym n x, e) at h)))
     (λ e. rw e (omega (arith, times-not-among n xs (rw (eqb-sym n x, e) at h))))
 
--- ---- numbers below n, none twice, are at most n
+-- ---- numbers countBelow n, none twice, are at most n
 
--- how many entries are below n
-below : ℕ → List ℕ → ℕ
-below zero xs = 0
-below (suc n) xs = times n xs + below n xs
+-- how many entries are countBelow n
+countBelow : ℕ → List ℕ → ℕ
+countBelow zero xs = 0
+countBelow (suc n) xs = times n xs + countBelow n xs
 
-below-once : (n : ℕ) (xs : List ℕ) → ((x : ℕ) → times x xs ≤ 1) → below n xs ≤ n
-unfolding below
+below-once : (n : ℕ) (xs : List ℕ) → ((x : ℕ) → times x xs ≤ 1) → countBelow n xs ≤ n
+unfolding countBelow
 below-once zero xs h = omega arith
 below-once (suc n) xs h = omega (arith, h n, below-once n xs h)
 
-below-more : (n x : ℕ) (xs : List ℕ) → below n xs ≤ below n (x ∷ xs)
-unfolding below times
+below-more : (n x : ℕ) (xs : List ℕ) → countBelow n xs ≤ countBelow n (x ∷ xs)
+unfolding countBelow times
 below-more zero x xs = omega arith
 below-more (suc n) x xs = omega (arith, below-more n x xs)
 
-below-one-more : (n x : ℕ) (xs : List ℕ) → x < n → below n xs < below n (x ∷ xs)
-unfolding below times
+below-one-more : (n x : ℕ) (xs : List ℕ) → x < n → countBelow n xs < countBelow n (x ∷ xs)
+unfolding countBelow times
 below-one-more zero x xs h = absurd (omega arith)
 below-one-more (suc n) x xs h = by-bool (ltb x n) (λ e. omega (arith, below-one-more n x xs (ltb→lt x n (rw e tt)))) (λ e. last (nltb→le x n (rw e tt)))
   where
-    last : n ≤ x → below (suc n) xs < below (suc n) (x ∷ xs)
+    last : n ≤ x → countBelow (suc n) xs < countBelow (suc n) (x ∷ xs)
     last k =
         let e : x ≡ n = omega arith in
-        let self : isObject n (Obj x) ≡ 1 = rw e (object-self n) in
+        let self : countOne n (Obj x) ≡ 1 = rw e (object-self n) in
         omega (arith, below-more n x xs)
 
-below-all : (n : ℕ) (xs : List ℕ) → ((x : ℕ) → 1 ≤ times x xs → x < n) → length xs ≤ below n xs
+below-all : (n : ℕ) (xs : List ℕ) → ((x : ℕ) → 1 ≤ times x xs → x < n) → length xs ≤ countBelow n xs
 unfolding times
 below-all n [] h = omega arith
 below-all n (x ∷ xs) h =

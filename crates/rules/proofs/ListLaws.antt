@@ -157,6 +157,10 @@ pad-front n d xs h =
     let e : n ≡ length xs + (n - length xs) = omega arith in
     ap (λ k. take k (xs ++ replicate n d)) e ∙ take-append-add xs (replicate n d) (n - length xs)
 
+-- lists of one length that are not cut are told apart
+pub pad-tells : {A : Type 0} (n : ℕ) (d : A) (xs ys : List A) → length xs ≡ length ys → length xs ≤ n → pad n d xs ≡ pad n d ys → xs ≡ ys
+pad-tells n d xs ys l h e = append-cut xs ys _ _ l (sym (pad-front n d xs h) ∙ e ∙ pad-front n d ys (omega arith)) .0
+
 -- n records of w words
 
 pub length-records : {A : Type 0} (f : A → List ℕ) (w : ℕ) → ((a : A) → length (f a) ≡ w) → (n : ℕ) (d : A) (xs : List A) → length (cells f (pad n d xs)) ≡ n * w

@@ -8,7 +8,7 @@ use Rattle.rules.proofs.Computing.{Case, guarded, prints, answers, AllH
 
 refusals : List Case
 refusals =
-    -- Two refusals hold of a line: 2 before 3, 3 before 4, 4 before 5, 5 before 6.
+    -- Two refusals hold of a line: 2 before 3, 3 before 4, 4 before 5, 5 before 6. A 6 goes before what is found after all lines.
     answers "(thraed!)\n" [] guarded (refused 2 0)
     ∷ answers "(thread)\n(let (swap 256 007 (read 0)))\n" [] guarded (refused 3 1)
     ∷ answers "(thread)\n(give (read 256))\n" [] guarded (refused 4 1)

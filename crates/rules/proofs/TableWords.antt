@@ -16,16 +16,24 @@ use Rattle.rules.specs.Script.{Operand, reads, takes, Expr, value, field
 use Rattle.rules.specs.State.{Object, Frame, Sender, ready, waiting, Thread, noThread, Channel, emptyChannel, State}
 use Rattle.rules.specs.Valid.{OperandOk, ExprOk, LetsOk, BlockOk, KindOk, Valid}
 use Rattle.rules.specs.Fits.{InRange, IsObject, ObjectFits, FrameFits, SenderFits, ThreadFits, ChannelFits, Fits}
-use Rattle.rules.specs.Tables.{operandWord, operandItem, lineWords, row, firstLines, programWords, word, unmade, noFrame, objectWords, frameWords, senderWord, outermostFirst, threadWords, channelWords, stateWords}
-use Rattle.rules.proofs.ListLaws.{every-map, every-append, every-snoc, every-image, every-pad, every-cells, append-cut, length-pad, pad-front, length-records}
-use Rattle.rules.proofs.Accepted.{line-count}
+use Rattle.rules.specs.Tables.{operandWord, operandItem, lineWords, row, firstLines, usedProgramWords, programWords, word, unmade, noFrame, objectWords, frameWords, senderWord, outermostFirst, threadWords, channelWords, usedStateWords, stateWords}
+use Rattle.rules.proofs.ListLaws.{every-map, every-append, every-snoc, every-image, every-pad, every-cells, append-cut, length-pad, length-cells, pad-front, pad-tells, length-records}
+use Rattle.rules.proofs.Accepted.{line-count, table-lines}
 use Rattle.rules.proofs.Keeps.{object-in-range, each-frame}
 
 -- ---- the length
 
 pub program-words-length : (P : Program) → length (programWords P) ≡ Most.words
 unfolding programWords
-program-words-length P = simp (length-append, length-pad)
+program-words-length P = length-pad Most.words 0 (usedProgramWords P)
+
+pub used-program-words-length : (P : Program) → length (usedProgramWords P) ≡ 72 + length (linesOf P) * 8
+unfolding usedProgramWords row
+used-program-words-length P = simp (length-append, length-pad, length-cells row 8 (λ F. length-pad 8 0 (lineWords F))) (omega arith)
+
+-- nothing of a valid program is cut off
+pub program-uncut : (P : Program) → Valid Most.mosts P → length (usedProgramWords P) ≤ Most.words
+program-uncut P valid = omega (arith, used-program-words-length P, table-lines P valid)
 
 object-words-length : (o : Object) → length (objectWords o) ≡ 8
 unfolding objectWords
@@ -45,7 +53,12 @@ channel-words-length c = refl
 
 pub state-words-length : (S : State) → length (stateWords S) ≡ Most.words
 unfolding stateWords
-state-words-length S =
+state-words-length S = length-pad Most.words 0 (usedStateWords S)
+
+-- nothing of a state is cut off
+pub used-state-words-length : (S : State) → length (usedStateWords S) ≡ 6984
+unfolding usedStateWords
+used-state-words-length S =
     simp (
       length-append,
       length-pad,
@@ -141,18 +154,17 @@ module _ (P : Program) (valid : Valid Most.mosts P) (n o c : ℕ) (moves : n ≤
   empty-channel-small = channel-small emptyChannel (record { message = tt; number = omega arith })
 
 pub state-words-small : {P : Program} {n : ℕ} {S : State} → Fits Most.mosts P n S → n ≤ Most.turns → Valid Most.mosts P → Every In16Bits (stateWords S)
-unfolding stateWords
-state-words-small {P} {n} {S} fits moves valid = parts .each
+unfolding stateWords usedStateWords
+state-words-small {P} {n} {S} fits moves valid = padded-small Most.words (usedStateWords S) (used .each) .each
   where
-    parts : AllIn16Bits (stateWords S)
-    parts =
+    used : AllIn16Bits (usedStateWords S)
+    used =
         let o = fits .few-objects in
         let c = fits .few-threads in
         padded-small _ (length (S .objects) ∷ length (S .threads) ∷ []) (omega arith)
         then records-small objectWords _ unmade (S .objects) unmade-small (every-map (object-small P valid n _ _ moves o c) (S .objects) (fits .objects))
         then records-small threadWords _ noThread (S .threads) (no-thread-small P valid n _ _ moves o c) (every-map (thread-small P valid n _ _ moves o c) (S .threads) (fits .threads))
         then records-small channelWords _ emptyChannel (S .channels) (empty-channel-small P valid n _ _ moves o c) (every-map (channel-small P valid n _ _ moves o c) (S .channels) (fits .channels))
-        then padded-small _ [] tt
 
 module _ {P : Program} (valid : Valid Most.mosts P) where
   -- of a block in which k slots are filled
@@ -213,8 +225,8 @@ module _ {P : Program} (valid : Valid Most.mosts P) where
   first-lines-small i (line x ∷ Fs) h = first-lines-small (suc i) Fs (omega arith)
 
   pub program-words-small : Every In16Bits (programWords P)
-  unfolding programWords linesOf row
-  program-words-small = parts .each
+  unfolding programWords usedProgramWords linesOf row
+  program-words-small = padded-small Most.words (usedProgramWords P) (used .each) .each
     where
       few : In16Bits (length (linesOf P))
       few = omega (arith, line-count P, valid .few-kinds, valid .few-blocks, valid .few-lets)
@@ -222,12 +234,11 @@ module _ {P : Program} (valid : Valid Most.mosts P) where
       rows : Every (λ F. Every In16Bits (row F)) (linesOf P)
       rows = every-map (λ F h. padded-small _ (lineWords F) (h .each) .each) (linesOf P) (kinds-small (P .kinds) _ (valid .kinds) (blocks-small (P .blocks) (valid .blocks)))
 
-      parts : AllIn16Bits (programWords P)
-      parts =
+      used : AllIn16Bits (usedProgramWords P)
+      used =
           padded-small _ (length (P .kinds) ∷ length (P .blocks) ∷ length (linesOf P) ∷ []) (omega (arith, valid .few-kinds, valid .few-blocks, few))
           then padded-small _ (firstLines 0 (linesOf P)) (first-lines-small 0 (linesOf P) (omega (arith, few)))
-          then padded-small _ (cells row (linesOf P)) (every-cells In16Bits row (linesOf P) rows)
-          then padded-small _ [] tt
+          then words-small (cells row (linesOf P)) (every-cells In16Bits row (linesOf P) rows)
 
 -- ---- the words of a state that fits tell it
 
@@ -375,9 +386,9 @@ counts-tell a b a′ b′ us vs e = (word-at 0 e, word-at 1 e, ap (drop 8) e)
 
 -- so equal tables are equal states
 module _ {m : Mosts} {P P′ : Program} {n n′ : ℕ} {S S′ : State} (fits : Fits m P n S) (fits′ : Fits m P′ n′ S′) where
-  pub state-words-tell : m .objects ≤ Most.mosts .objects → m .threads ≤ Most.mosts .threads → stateWords S ≡ stateWords S′ → S ≡ S′
-  unfolding stateWords
-  state-words-tell os ts e =
+  used-words-tell : m .objects ≤ Most.mosts .objects → m .threads ≤ Most.mosts .threads → usedStateWords S ≡ usedStateWords S′ → S ≡ S′
+  unfolding usedStateWords
+  used-words-tell os ts e =
       let few : length (S .objects) ≤ Most.mosts .objects = omega (arith, fits .few-objects) in
       let few′ : length (S′ .objects) ≤ Most.mosts .objects = omega (arith, fits′ .few-objects) in
       let counts = counts-tell _ _ _ _ _ _ e in
@@ -387,7 +398,13 @@ module _ {m : Mosts} {P P′ : Program} {n n′ : ℕ} {S S′ : State} (fits : 
       let threads =
       region-tells threadWords _ thread-words-length _ _ (thread-tells P P′ _ _ _ _ few few′ n n′) _ noThread (S .threads) (S′ .threads) _ _
       (omega (arith, fits .few-threads)) (counts .1) (fits .threads) (fits′ .threads) (objects .1) in
-      let channels =
-      region-tells channelWords _ channel-words-length _ _ (channel-tells P P′ _ _ _ _ few few′ n n′) _ emptyChannel (S .channels) (S′ .channels) _ _
+      let channels : S .channels ≡ S′ .channels =
+      records-tell channelWords _ channel-words-length _ _ (channel-tells P P′ _ _ _ _ few few′ n n′) _ emptyChannel (S .channels) (S′ .channels)
       (omega (arith, fits .channel-each, fits .few-threads)) (omega (arith, fits .channel-each, fits′ .channel-each, counts .1)) (fits .channels) (fits′ .channels) (threads .1) in
-      λ i. record { objects = objects .0 i; threads = threads .0 i; channels = channels .0 i }
+      λ i. record { objects = objects .0 i; threads = threads .0 i; channels = channels i }
+
+  pub state-words-tell : m .objects ≤ Most.mosts .objects → m .threads ≤ Most.mosts .threads → stateWords S ≡ stateWords S′ → S ≡ S′
+  unfolding stateWords
+  state-words-tell os ts e =
+      used-words-tell os ts
+      (pad-tells Most.words 0 (usedStateWords S) (usedStateWords S′) (used-state-words-length S ∙ sym (used-state-words-length S′)) (omega (arith, used-state-words-length S)) e)

@@ -15,7 +15,7 @@ use Rattle.rules.specs.Script.{Program}
 use Rattle.rules.specs.State.{Object, noObject, Frame, Thread, noThread, State, objectAt, threadAt}
 use Rattle.rules.specs.Stripped.{eraseObject, erase}
 use Rattle.rules.specs.Fits.{InRange, ObjectFits, ThreadFits, Fits}
-use Rattle.rules.specs.Reach.{isObject, count, times, Reaches, here, more, ReachedFrom, slotsOf, roots, Lists, walk, visit, visits, reachList}
+use Rattle.rules.specs.Reach.{countOne, count, times, Reaches, here, more, ReachedFrom, slotsOf, roots, Lists, walk, visit, visits, reachList}
 use Rattle.rules.proofs.ListLaws.{by-bool, every-map, every-get, every-append}
 use Rattle.rules.proofs.Keeps.{object-in-range, each-frame}
 use Rattle.rules.proofs.Simulation.{object-erased}
@@ -30,7 +30,7 @@ reaches-trans os a b x p (more {y = y} q h) = more (reaches-trans os a b y p q) 
 pub data Walked (os : List Object) : List ℕ → List Value → List ℕ → Type 0 where
   done : {met : List ℕ} → Walked os met [] met
   -- no object, or one that is met
-  skip : {met out : List ℕ} {v : Value} {vs : List Value} → ((x : ℕ) → isObject x v ≤ times x met) → Walked os met vs out → Walked os met (v ∷ vs) out
+  skip : {met out : List ℕ} {v : Value} {vs : List Value} → ((x : ℕ) → countOne x v ≤ times x met) → Walked os met vs out → Walked os met (v ∷ vs) out
   meet : {met out : List ℕ} {n : ℕ} {vs : List Value}
       → times n met ≡ 0 → Walked os (met ++ (n ∷ [])) (objectAt os n .fields ++ vs) out → Walked os met (Obj n ∷ vs) out
 
@@ -60,9 +60,9 @@ module _ (os : List Object) where
   met-fields done o y x l h = omega (arith, o y x l h)
   met-fields (skip k w) o y x l h = met-fields w (λ z u a b. omega (arith, k u, o z u a b)) y x l h
   met-fields (meet {met = met} {n = n} {vs = vs} k w) o y x l h =
-      met-fields w (λ z u a b. go z u (sum-cases (times z met) (isObject z (Obj n)) (omega (arith, times-snoc z met n))) b) y x l h
+      met-fields w (λ z u a b. go z u (sum-cases (times z met) (countOne z (Obj n)) (omega (arith, times-snoc z met n))) b) y x l h
     where
-      go : (z u : ℕ) → (1 ≤ times z met) ⊎ (1 ≤ isObject z (Obj n)) → 1 ≤ count u (objectAt os z .fields)
+      go : (z u : ℕ) → (1 ≤ times z met) ⊎ (1 ≤ countOne z (Obj n)) → 1 ≤ count u (objectAt os z .fields)
           → Ahead (met ++ (n ∷ [])) (objectAt os n .fields ++ vs) u
       go z u (inl a) b = omega (arith, ahead-meet u n met vs, o z u a b)
       go z u (inr a) b =

@@ -46,14 +46,14 @@ messageText (Chan c) = valueText (Chan c)
 unfoldable pub channelLine : ℕ → Channel → List ℕ
 channelLine c ch = aLine "channel" (decimal c ∷ messageText (ch .message) ∷ [])
 
-unfoldable pub senderWord : Sender → List ℕ
-senderWord ready = bytes "ready"
-senderWord (waiting i) = bytes "waiting"
+unfoldable pub senderText : Sender → List ℕ
+senderText ready = bytes "ready"
+senderText (waiting i) = bytes "waiting"
 
 -- "threads, number, ready, waiting (as sender) or finished. An unfinished thread adds its innermost block, line and filled slots."
 unfoldable pub threadParts : Sender → List Frame → List (List ℕ)
 threadParts d [] = bytes "finished" ∷ []
-threadParts d (f ∷ fs) = senderWord d ∷ decimal (f .block) ∷ decimal (f .line) ∷ map valueText (f .slots)
+threadParts d (f ∷ fs) = senderText d ∷ decimal (f .block) ∷ decimal (f .line) ∷ map valueText (f .slots)
 
 unfoldable pub threadLine : ℕ → Thread → List ℕ
 threadLine t th = aLine "thread" (decimal t ∷ threadParts (th .sender) (th .frames))

@@ -39,15 +39,19 @@ dangling = 8
 abbrev pub shortTable : ℕ
 shortTable = 9
 
+-- a slot that holds nothing
 abbrev pub absent : ℕ
 absent = 10
 
+-- no such field
 abbrev pub noField : ℕ
 noField = 11
 
+-- no such method
 abbrev pub noMethod : ℕ
 noMethod = 12
 
+-- a channel where an object is wanted, or an object where a channel is
 abbrev pub wrongThing : ℕ
 wrongThing = 13
 
@@ -60,9 +64,11 @@ permission foreign = 14
 permission alias = 14
 permission other = 14
 
+-- capability not K
 abbrev pub cast : ℕ
 cast = 15
 
+-- objects, threads or frames used up
 abbrev pub usedUp : ℕ
 usedUp = 16
 

@@ -11,15 +11,15 @@ use Rattle.rules.specs.declared.Value.the-variants.{Absent, Obj, Chan}
 use Rattle.rules.specs.Lists.{among}
 use Rattle.rules.specs.State.{Object, Frame, State, objectAt, threadAt}
 
--- how many of these values are object n
-abbrev pub isObject : ℕ → Value → ℕ
-isObject n Absent = 0
-isObject n (Obj k) = cond (eqb k n) 1 0
-isObject n (Chan c) = 0
+-- 1 where the value is object n; and how many of these values are
+abbrev pub countOne : ℕ → Value → ℕ
+countOne n Absent = 0
+countOne n (Obj k) = cond (eqb k n) 1 0
+countOne n (Chan c) = 0
 
 unfoldable pub count : ℕ → List Value → ℕ
 count n [] = 0
-count n (v ∷ vs) = isObject n v + count n vs
+count n (v ∷ vs) = countOne n v + count n vs
 
 -- x is reached from object n: it is n, or a field of what is reached
 pub data Reaches (os : List Object) (n : ℕ) : ℕ → Type 0 where
@@ -39,6 +39,7 @@ slotsOf (f ∷ fs) = f .slots ++ slotsOf fs
 unfoldable pub roots : State → ℕ → List Value
 roots S t = slotsOf (threadAt S t .frames)
 
+-- how often the number n stands in a list
 unfoldable pub times : ℕ → List ℕ → ℕ
 times n [] = 0
 times n (x ∷ xs) = cond (eqb x n) 1 0 + times n xs

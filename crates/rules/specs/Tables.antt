@@ -5,6 +5,8 @@ use lib.ListN.{length}
 use Rattle.rules.specs.declared.Cap.the-variants.{Imm}
 use Rattle.rules.specs.declared.Value.{Value}
 use Rattle.rules.specs.declared.Value.the-variants.{Absent, Obj, Chan}
+use Rattle.rules.specs.Mosts as Most
+use Rattle.rules.specs.Mosts.{mosts}
 use Rattle.rules.specs.Lists.{pad, cells}
 use Rattle.rules.specs.Script.{Operand, reads, takes, value, field, swap, call, new, cast, spawn, send, recv, bind, give, thread, method, Form, kind, opens, line, Program, rank, linesOf}
 use Rattle.rules.specs.State.{Object, Frame, Sender, ready, waiting, Thread, noThread, Channel, emptyChannel, State}
@@ -46,11 +48,14 @@ firstLines n (kind K ∷ Fs) = firstLines (suc n) Fs
 firstLines n (opens o ∷ Fs) = suc n ∷ firstLines (suc n) Fs
 firstLines n (line x ∷ Fs) = firstLines (suc n) Fs
 
--- words 0 to 2 count kinds, blocks and lines; 64 first lines from 8; 672 lines of 8 words from 72
-unfoldable pub programWords : Program → List ℕ
-programWords P =
+-- words 0 to 2 count kinds, blocks and lines; a first line for each block from 8; lines of 8 words from 72
+unfoldable pub usedProgramWords : Program → List ℕ
+usedProgramWords P =
     pad 8 0 (length (P .kinds) ∷ length (P .blocks) ∷ length (linesOf P) ∷ [])
-    ++ (pad 64 0 (firstLines 0 (linesOf P)) ++ (pad 5376 0 (cells row (linesOf P)) ++ pad 2744 0 []))
+    ++ (pad (mosts .blocks) 0 (firstLines 0 (linesOf P)) ++ cells row (linesOf P))
+
+unfoldable pub programWords : Program → List ℕ
+programWords P = pad Most.words 0 (usedProgramWords P)
 
 -- ---- The state table
 
@@ -67,13 +72,13 @@ unmade = record { cap = Imm; kind = 0; creator = 0; fields = [] }
 abbrev pub noFrame : Frame
 noFrame = record { block = 0; line = 0; slots = [] }
 
--- capability, kind, creator, a spare word, four fields
+-- capability, kind, creator, a spare word, the fields
 unfoldable pub objectWords : Object → List ℕ
-objectWords o = rank (o .cap) ∷ o .kind ∷ o .creator ∷ 0 ∷ map word (pad 4 Absent (o .fields))
+objectWords o = rank (o .cap) ∷ o .kind ∷ o .creator ∷ 0 ∷ map word (pad Most.fields Absent (o .fields))
 
--- block, line, the number of filled slots, sixteen slots
+-- block, line, the number of filled slots, the slots
 unfoldable pub frameWords : Frame → List ℕ
-frameWords f = f .block ∷ f .line ∷ length (f .slots) ∷ map word (pad 16 Absent (f .slots))
+frameWords f = f .block ∷ f .line ∷ length (f .slots) ∷ map word (pad Most.slots Absent (f .slots))
 
 -- 0 ready, 1 + i waiting as the sender of message i
 abbrev pub senderWord : Sender → ℕ
@@ -84,17 +89,20 @@ unfoldable pub outermostFirst : List Frame → List Frame
 outermostFirst [] = []
 outermostFirst (f ∷ fs) = outermostFirst fs ++ (f ∷ [])
 
--- the number of frames, the sender, sixteen frames
+-- the number of frames, the sender, the frames
 unfoldable pub threadWords : Thread → List ℕ
-threadWords t = length (t .frames) ∷ senderWord (t .sender) ∷ cells frameWords (pad 16 noFrame (outermostFirst (t .frames)))
+threadWords t = length (t .frames) ∷ senderWord (t .sender) ∷ cells frameWords (pad Most.frames noFrame (outermostFirst (t .frames)))
 
 -- message, message number
 unfoldable pub channelWords : Channel → List ℕ
 channelWords c = word (c .message) ∷ c .number ∷ []
 
--- words 0 and 1 count objects and threads; 256 objects of 8 words from 8; 16 threads of 306 from 2,056; 16 channels of 2 from 6,952
-unfoldable pub stateWords : State → List ℕ
-stateWords S =
+-- words 0 and 1 count objects and threads; objects of 8 words from 8; threads of 306 from 2,056; channels of 2 from 6,952
+unfoldable pub usedStateWords : State → List ℕ
+usedStateWords S =
     pad 8 0 (length (S .objects) ∷ length (S .threads) ∷ [])
-    ++ (cells objectWords (pad 256 unmade (S .objects))
-    ++ (cells threadWords (pad 16 noThread (S .threads)) ++ (cells channelWords (pad 16 emptyChannel (S .channels)) ++ pad 1208 0 [])))
+    ++ (cells objectWords (pad (mosts .objects) unmade (S .objects))
+    ++ (cells threadWords (pad (mosts .threads) noThread (S .threads)) ++ cells channelWords (pad (mosts .threads) emptyChannel (S .channels))))
+
+unfoldable pub stateWords : State → List ℕ
+stateWords S = pad Most.words 0 (usedStateWords S)

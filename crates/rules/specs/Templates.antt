@@ -38,11 +38,12 @@ literal (c ∷ w) (x ∷ l) = cond (eqb x c) (literal w l) unfit
 abbrev pub digits : List ℕ
 digits = bytes "0123456789"
 
--- the value of a digit, or 10 where the character is none
+-- the place of a character in a text, or the text's length where it is not there
 unfoldable pub placeOf : ℕ → List ℕ → ℕ
 placeOf c [] = 0
 placeOf c (x ∷ xs) = cond (eqb c x) 0 (suc (placeOf c xs))
 
+-- the value of a digit, or 10 where the character is none
 abbrev pub digitOf : ℕ → ℕ
 digitOf c = placeOf c digits
 
@@ -112,7 +113,7 @@ printMany f (a ∷ rest) = space ∷ (f a ++ printMany f rest)
 -- ---- Templates
 
 -- A template is a text in which S, F, M, N and B stand for a number, W for an operand, K for a capability, D for document 01's
--- " B ..", V for its " W ..", and every other character for itself.
+-- " B .." and " T ..", V for its " W ..", and every other character for itself.
 pub data Part : Type 0 where
   character : ℕ → Part
   oneNumber oneOperand oneCap manyNumbers manyOperands : Part
@@ -164,7 +165,7 @@ print (oneCap ∷ t) p = capWord (p .0) ++ print t (p .1)
 print (manyNumbers ∷ t) p = printMany decimal (p .0) ++ print t (p .1)
 print (manyOperands ∷ t) p = printMany printOperand (p .0) ++ print t (p .1)
 
--- ---- The forms of a line, "each line ends in LF and holds one form"
+-- ---- The forms of a line. "Every line ends in LF and holds one form."
 
 abbrev pub kindT : List Part
 kindT = template "(kind (fields F) (doesD))\n"

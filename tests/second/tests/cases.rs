@@ -83,15 +83,7 @@ fn case_f_cast() {
 
 #[test]
 fn case_g_operand_before_target() {
-    let script = text(&[
-        "(kind (fields 0) (does))",
-        "(kind (fields 1) (does))",
-        "(thread)",
-        "(let (new unsafe 0))",
-        "(let (new unsafe 1 (read 1)))",
-        "(let (swap 2 0 (take 2)))",
-        "(give (read 1))",
-    ]);
+    let script = case_g();
     assert_eq!(answer(&script, "0 0 0"), "(stopped 10 0 0 2 2)");
 }
 

@@ -5,18 +5,16 @@ mod common;
 use common::*;
 
 fn sender_and_receiver() -> String {
-    text(&[
-        "(kind (fields 0) (does))",
-        "(thread)",
-        "(let (spawn 1))",
-        "(let (new iso 0))",
-        "(let (send 1 (take 2)))",
+    sending(
+        "iso",
+        &[],
         "(give (read 1))",
-        "(thread)",
-        "(let (recv 0))",
-        "(let (send 0 (take 1)))",
-        "(give (read 0))",
-    ])
+        &[
+            "(let (recv 0))",
+            "(let (send 0 (take 1)))",
+            "(give (read 0))",
+        ],
+    )
 }
 
 #[test]
@@ -190,16 +188,7 @@ fn a_waiting_sender_in_a_method() {
 
 #[test]
 fn a_stopped_run_prints_the_state_before_the_stop() {
-    let script = text(&[
-        "(kind (fields 0) (does))",
-        "(thread)",
-        "(let (spawn 1))",
-        "(let (new local 0))",
-        "(let (send 1 (take 2)))",
-        "(give (read 1))",
-        "(thread)",
-        "(give (read 0))",
-    ]);
+    let script = sending("local", &[], "(give (read 1))", &["(give (read 0))"]);
     let output = "\
 (stopped 14 0 0 2 2)
 (object 0 local 0 0)

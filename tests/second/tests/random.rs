@@ -24,17 +24,7 @@ fn the_inputs_reach_every_row() {
 /// One case known by hand, so that the rows are not filled by chance.
 #[test]
 fn the_histogram_counts_case_a() {
-    let script = text(&[
-        "(kind (fields 0) (does))",
-        "(thread)",
-        "(let (spawn 1))",
-        "(let (new iso 0))",
-        "(let (send 1 (take 2)))",
-        "(give (read 1))",
-        "(thread)",
-        "(let (recv 0))",
-        "(give (take 1))",
-    ]);
+    let script = case_a();
     let mut histogram = Histogram::empty();
     histogram.add(input(&script, "0 0 0 0 9 1 0").as_bytes());
     let ones = [

@@ -7,15 +7,7 @@ use common::*;
 /// With the target checked first, slot 2 would still be there and the swap would move.
 #[test]
 fn the_operand_comes_before_the_target() {
-    let script = text(&[
-        "(kind (fields 0) (does))",
-        "(kind (fields 1) (does))",
-        "(thread)",
-        "(let (new unsafe 0))",
-        "(let (new unsafe 1 (read 1)))",
-        "(let (swap 2 0 (take 2)))",
-        "(give (read 1))",
-    ]);
+    let script = case_g();
     assert_eq!(answer(&script, "0 0 0"), "(stopped 10 0 0 2 2)");
     let other = script.replace("(swap 2 0 (take 2))", "(swap 2 0 (read 2))");
     assert_eq!(answer(&other, "0 0 0"), "(end open 3)");
@@ -24,18 +16,16 @@ fn the_operand_comes_before_the_target() {
 /// Thread 1 finds its channel full of thread 0's message, again and again.
 #[test]
 fn a_send_that_finds_its_channel_full_keeps_its_record() {
-    let script = text(&[
-        "(kind (fields 0) (does))",
-        "(thread)",
-        "(let (spawn 1))",
-        "(let (new iso 0))",
-        "(let (send 1 (take 2)))",
+    let script = sending(
+        "iso",
+        &[],
         "(give (read 1))",
-        "(thread)",
-        "(let (new iso 0))",
-        "(let (send 0 (take 1)))",
-        "(give (read 0))",
-    ]);
+        &[
+            "(let (new iso 0))",
+            "(let (send 0 (take 1)))",
+            "(give (read 0))",
+        ],
+    );
     let before = printed(&script, "0 0 0 1");
     assert_eq!(printed(&script, "0 0 0 1 1 1"), before);
     let thread = listed(&script, "0 0 0 1 1 1", "(thread 1");
@@ -50,19 +40,16 @@ fn a_send_that_finds_its_channel_full_keeps_its_record() {
 /// channel is full, but not of thread 0's message.
 #[test]
 fn a_sender_is_free_when_the_other_end_has_answered() {
-    let script = text(&[
-        "(kind (fields 0) (does))",
-        "(thread)",
-        "(let (spawn 1))",
-        "(let (new iso 0))",
-        "(let (send 1 (take 2)))",
-        "(let (recv 1))",
+    let script = sending(
+        "iso",
+        &["(let (recv 1))"],
         "(give (take 4))",
-        "(thread)",
-        "(let (recv 0))",
-        "(let (send 0 (take 1)))",
-        "(give (read 0))",
-    ]);
+        &[
+            "(let (recv 0))",
+            "(let (send 0 (take 1)))",
+            "(give (read 0))",
+        ],
+    );
     assert_eq!(
         listed(&script, "0 0 0 1 1", "(channel 1"),
         "(channel 1 (obj 0))"

@@ -885,18 +885,16 @@ fn ends_are_about_the_last_state() {
 /// A thread that would stop does not wait, so the run is open.
 #[test]
 fn a_thread_that_would_stop_is_not_stuck() {
-    let script = text(&[
-        "(kind (fields 0) (does))",
-        "(thread)",
-        "(let (spawn 1))",
-        "(let (new iso 0))",
-        "(let (send 1 (take 2)))",
+    let script = sending(
+        "iso",
+        &[],
         "(give (read 1))",
-        "(thread)",
-        "(let (new local 0))",
-        "(let (send 0 (read 1)))",
-        "(give (read 0))",
-    ]);
+        &[
+            "(let (new local 0))",
+            "(let (send 0 (read 1)))",
+            "(give (read 0))",
+        ],
+    );
     assert_eq!(answer(&script, "0 0 0 1"), "(end open 4)");
     assert_eq!(answer(&script, "0 0 0 1 1"), "(stopped 14 1 1 1 4)");
     assert_eq!(answer_stripped(&script, "0 0 0 1"), "(end stuck 4)");

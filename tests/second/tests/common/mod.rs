@@ -15,6 +15,41 @@ pub fn text(lines: &[&str]) -> String {
     lines.iter().map(|line| format!("{}\n", line)).collect()
 }
 
+/// Thread 0 spawns block 1, makes an object of this capability and sends it there; the lines given
+/// stand between its send and its give, and `other` are the lines of block 1.
+pub fn sending(cap: &str, then: &[&str], give: &str, other: &[&str]) -> String {
+    let made = format!("(let (new {} 0))", cap);
+    let mut lines = vec!["(kind (fields 0) (does))", "(thread)", "(let (spawn 1))"];
+    lines.extend([made.as_str(), "(let (send 1 (take 2)))"]);
+    lines.extend(then);
+    lines.extend([give, "(thread)"]);
+    lines.extend(other);
+    text(&lines)
+}
+
+/// The script of case A.
+pub fn case_a() -> String {
+    sending(
+        "iso",
+        &[],
+        "(give (read 1))",
+        &["(let (recv 0))", "(give (take 1))"],
+    )
+}
+
+/// The script of case G.
+pub fn case_g() -> String {
+    text(&[
+        "(kind (fields 0) (does))",
+        "(kind (fields 1) (does))",
+        "(thread)",
+        "(let (new unsafe 0))",
+        "(let (new unsafe 1 (read 1)))",
+        "(let (swap 2 0 (take 2)))",
+        "(give (read 1))",
+    ])
+}
+
 pub fn input(script: &str, turns: &str) -> String {
     let space = if turns.is_empty() { "" } else { " " };
     format!("{}(turns{}{})\n", script, space, turns)
