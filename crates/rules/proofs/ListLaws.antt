@@ -1,13 +1,14 @@
 -- Laws of tests and lists that the theorems share.
 use Prim.Native.Nat.{ℕ, zero, suc, _+_, _-_, _*_, _≤_, _<_}
-use native.Mathlib.Nat.{le-of-suc-le-suc, not-suc-le-zero, suc-mul, zero-mul, add-comm}
+use native.Mathlib.Nat.{le-of-suc-le-suc, not-suc-le-zero, suc-mul, zero-mul, add-comm, add-assoc, zero-add, suc-add}
 use native.Mathlib.Omega.{arith}
 use mathlib.Core.Path.{_≡_, refl, sym, ap, _∙_}
 use mathlib.Core.Bool.{Bool, true, false, not, Bool·not-not, _&&_, _||_, cond, false≢true}
-use mathlib.Core.List.{List, [], _∷_, _++_, map}
-use lib.Dec.{ltb, ltb→lt}
-use lib.ListN.{length, getD, set, take, replicate, length-append, length-take, length-replicate, drop}
-use lib.Seq.{take-at, drop-at, take-append-seam, drop-append-seam, take-append-add}
+use mathlib.Core.List.{List, [], _∷_, _++_, map, append-assoc, append-nil}
+use lib.Dec.{ltb, eqb, ltb→lt}
+use lib.ListN.{length, getD, set, take, replicate, length-append, length-take, length-replicate, drop, replicate-append-replicate, List·getD-append}
+use lib.Seq.{take-at, drop-at, take-append-seam, drop-append-seam, take-append-add, take-append-le, drop-append-add, getD-append-add, getD-take, set-append-left, set-split, take-set-lt}
+use borrow.Author.Tests.{eqb-true, eqb-false}
 use Rattle.rules.specs.Lists.{any, all, pad, cells, Every}
 
 -- where two constructors cannot be equal: `impossible cc`
@@ -44,6 +45,18 @@ and-true false b h = absurd (false≢true h)
 pub other-arm : {A : Type 0} (b : Bool) (x y z : A) → (x ≡ z → ⊥) → cond b x y ≡ z → (b ≡ false) × (y ≡ z)
 other-arm true x y z n h = absurd (n h)
 other-arm false x y z n h = (refl, h)
+
+-- a test of each number below n
+unfoldable pub allBelow : (ℕ → Bool) → ℕ → Bool
+allBelow f zero = true
+allBelow f (suc n) = f n && allBelow f n
+
+pub below-true : (f : ℕ → Bool) (n i : ℕ) → allBelow f n ≡ true → i < n → f i ≡ true
+unfolding allBelow
+below-true f zero i h i<n = absurd (not-suc-le-zero i<n)
+below-true f (suc n) i h i<n = let p = and-true (f n) (allBelow f n) h in by-bool (eqb i n)
+    (λ t. rw (eqb-true i n t) (p .0))
+    (λ t. let e = eqb-false i n t in below-true f n i (p .1) (omega arith))
 
 -- ---- Every
 
@@ -88,6 +101,11 @@ every-take Q zero xs e = tt
 every-take Q (suc n) [] e = tt
 every-take Q (suc n) (x ∷ xs) e = (e .0, every-take Q n xs (e .1))
 
+pub every-drop : {A : Type 0} (Q : A → Type 0) (n : ℕ) (xs : List A) → Every Q xs → Every Q (drop n xs)
+every-drop Q zero xs e = e
+every-drop Q (suc n) [] e = tt
+every-drop Q (suc n) (x ∷ xs) e = every-drop Q n xs (e .1)
+
 pub every-replicate : {A : Type 0} (Q : A → Type 0) (n : ℕ) (d : A) → Q d → Every Q (replicate n d)
 every-replicate Q zero d h = tt
 every-replicate Q (suc n) d h = (h, every-replicate Q n d h)
@@ -108,6 +126,11 @@ pub all-true : {A : Type 0} (f : A → Bool) (l : List A) → all f l ≡ true �
 unfolding all
 all-true f [] h = tt
 all-true f (x ∷ xs) h = let p = and-true (f x) (all f xs) h in (p .0, all-true f xs (p .1))
+
+pub any-snoc : {A : Type 0} (f : A → Bool) (xs : List A) (x : A) → any f (xs ++ (x ∷ [])) ≡ (any f xs || f x)
+unfolding any
+any-snoc f [] x = by-bool (f x) (λ t. rw t) (λ t. rw t)
+any-snoc f (y ∷ xs) x = by-bool (f y) (λ t. rw t) (λ t. rw t (any-snoc f xs x))
 
 -- where no element can pass the test, and where what passes one test passes another
 pub any-none : {A : Type 0} (f : A → Bool) → ((x : A) → f x ≡ false) → (l : List A) → any f l ≡ false
@@ -165,3 +188,85 @@ pad-tells n d xs ys l h e = append-cut xs ys _ _ l (sym (pad-front n d xs h) ∙
 
 pub length-records : {A : Type 0} (f : A → List ℕ) (w : ℕ) → ((a : A) → length (f a) ≡ w) → (n : ℕ) (d : A) (xs : List A) → length (cells f (pad n d xs)) ≡ n * w
 length-records f w e n d xs = length-cells f w e (pad n d xs) ∙ ap (λ k. k * w) (length-pad n d xs)
+
+-- ---- Reading and writing inside lists
+
+-- a read and a write past a part of known length
+pub get-past : {A : Type 0} (p q : List A) (b k : ℕ) (d : A) → length p ≡ b → getD (p ++ q) (b + k) d ≡ getD q k d
+get-past p q b k d e = rw (← e) (getD-append-add p q k d)
+
+set-append-add : {A : Type 0} (xs ys : List A) (n : ℕ) (a : A) → set (xs ++ ys) (length xs + n) a ≡ xs ++ set ys n a
+set-append-add [] ys n a = rw (zero-add n)
+set-append-add (x ∷ xs) ys n a = rw (suc-add (length xs) n) (ap (x ∷_) (set-append-add xs ys n a))
+
+pub set-past : {A : Type 0} (p q : List A) (b k : ℕ) (a : A) → length p ≡ b → set (p ++ q) (b + k) a ≡ p ++ set q k a
+set-past p q b k a e = rw (← e) (set-append-add p q k a)
+
+-- word j of record i
+pub get-cell : {A : Type 0} (f : A → List ℕ) (w : ℕ) → ((a : A) → length (f a) ≡ w) → (xs : List A) (d : A) (i j : ℕ)
+    → i < length xs → j < w → getD (cells f xs) (i * w + j) 0 ≡ getD (f (getD xs i d)) j 0
+unfolding cells
+get-cell f w e [] d i j hi hj = absurd (not-suc-le-zero hi)
+get-cell f w e (x ∷ xs) d zero j hi hj = rw (zero-mul w, zero-add j) (List·getD-append (f x) (cells f xs) 0 j (rw (e x) hj))
+get-cell f w e (x ∷ xs) d (suc i) j hi hj =
+    rw (suc-mul i w, add-comm (i * w) w, add-assoc w (i * w) j)
+    (get-past (f x) (cells f xs) w (i * w + j) 0 (e x) ∙ get-cell f w e xs d i j (le-of-suc-le-suc hi) hj)
+
+pub cells-snoc : {A : Type 0} (f : A → List ℕ) (xs : List A) (x : A) → cells f (xs ++ (x ∷ [])) ≡ cells f xs ++ f x
+unfolding cells
+cells-snoc f [] x = append-nil (f x)
+cells-snoc f (y ∷ xs) x = ap (f y ++_) (cells-snoc f xs x) ∙ sym (append-assoc (f y) (cells f xs) (f x))
+
+-- what is made up reads like what is past the end
+get-made-up : {A : Type 0} (n : ℕ) (d : A) (xs : List A) (i : ℕ) → getD (xs ++ replicate n d) i d ≡ getD xs i d
+get-made-up zero d [] i = refl
+get-made-up (suc n) d [] zero = refl
+get-made-up (suc n) d [] (suc i) = get-made-up n d [] i
+get-made-up n d (x ∷ xs) zero = refl
+get-made-up n d (x ∷ xs) (suc i) = get-made-up n d xs i
+
+module _ {A : Type 0} (n : ℕ) (d : A) (xs : List A) where
+  -- what is made up, where nothing is cut
+  pad-by : (k : ℕ) → n ≡ length xs + k → pad n d xs ≡ xs ++ replicate k d
+  unfolding pad
+  pad-by k e =
+      let more : n ≡ k + length xs = omega arith in
+      ap (λ m. take m (xs ++ replicate n d)) e ∙ take-append-add xs (replicate n d) k
+      ∙ ap (λ m. xs ++ take k (replicate m d)) more
+      ∙ ap (λ (l : List A). xs ++ take k l) (sym (replicate-append-replicate k (length xs) d))
+      ∙ ap (xs ++_) (take-at (replicate k d) (replicate (length xs) d) k (length-replicate k d))
+
+  pub get-pad : (i : ℕ) → i < n → getD (pad n d xs) i d ≡ getD xs i d
+  unfolding pad
+  get-pad i h = getD-take n (xs ++ replicate n d) i d h ∙ get-made-up n d xs i
+
+  pub set-pad : (i : ℕ) (a : A) → i < length xs → length xs ≤ n → set (pad n d xs) i a ≡ pad n d (set xs i a)
+  unfolding pad
+  set-pad i a h l = sym (take-set-lt n (xs ++ replicate n d) i a (omega arith)) ∙ ap (take n) (set-append-left xs (replicate n d) i a h)
+
+-- words put after the last that is not made up; `rest` stands past the padded list
+pub pad-more : {A : Type 0} (n : ℕ) (d : A) (xs ys rest : List A) (p q : ℕ) → p ≡ length xs → q ≡ p + length ys → q ≤ n
+    → take p (pad n d xs ++ rest) ++ (ys ++ drop q (pad n d xs ++ rest)) ≡ pad n d (xs ++ ys) ++ rest
+pad-more {A} n d xs ys rest p q e₁ e₂ h =
+    let k : ℕ = n - q in
+    let left : n ≡ length xs + (length ys + k) = omega arith in
+    let after : n ≡ length (xs ++ ys) + k = omega (arith, length-append xs ys) in
+    let q≡ : q ≡ length xs + length ys = omega arith in
+    let whole : pad n d xs ++ rest ≡ xs ++ (replicate (length ys) d ++ (replicate k d ++ rest)) =
+    ap (λ (l : List A). l ++ rest) (pad-by n d xs (length ys + k) left ∙ ap (xs ++_) (sym (replicate-append-replicate (length ys) k d))) ∙ simp append-assoc in
+    let front : take p (pad n d xs ++ rest) ≡ xs = ap (take p) whole ∙ take-at xs _ p (sym e₁) in
+    let back : drop q (pad n d xs ++ rest) ≡ replicate k d ++ rest =
+    ap (drop q) whole ∙ ap (λ m. drop m (xs ++ (replicate (length ys) d ++ (replicate k d ++ rest)))) q≡
+    ∙ drop-append-add xs _ (length ys) ∙ drop-at (replicate (length ys) d) _ (length ys) (length-replicate (length ys) d) in
+    rw (front, back, pad-by n d (xs ++ ys) k after) (simp append-assoc)
+
+-- where there is room, one more takes the place of the first that is made up; where there is none, it is cut
+pub pad-snoc : {A : Type 0} (n : ℕ) (d : A) (xs : List A) (k : ℕ) (x : A) → length xs ≡ k → k < n → pad n d (xs ++ (x ∷ [])) ≡ set (pad n d xs) k x
+pad-snoc n d xs k x e h =
+    sym (ap (λ i. set (pad n d xs) i x) (sym e) ∙ set-split (pad n d xs) (length xs) x (rw (length-pad n d xs) (omega arith))
+    ∙ simp append-nil at (pad-more n d xs (x ∷ []) [] (length xs) (suc (length xs)) refl (omega arith) (omega arith)))
+
+pub pad-cut : {A : Type 0} (n : ℕ) (d : A) (xs ys : List A) → n ≤ length xs → pad n d (xs ++ ys) ≡ pad n d xs
+unfolding pad
+pad-cut n d xs ys h =
+    take-append-le n (xs ++ ys) (replicate n d) (omega (arith, length-append xs ys)) ∙ take-append-le n xs ys h ∙ sym (take-append-le n xs (replicate n d) h)

@@ -12,7 +12,7 @@ use borrow.Author.Tests.{eqb-false}
 use Rattle.rules.specs.Lists.{all, Every}
 use Rattle.rules.specs.Text.{bytes}
 use Rattle.rules.specs.Script.{Operand, reads, takes, value, field, swap, call, new, cast, spawn, send, recv, bind, give, thread, method, Form, kind, opens, line}
-use Rattle.rules.specs.Templates.{Taken, took, unfit, _>>=_, orElse, placeOf, decimal, printOperand, Part, character, oneNumber, oneOperand, oneCap, manyNumbers, manyOperands, Holds, fit, whole, print, Rule, forms, firstFit, decode, show}
+use Rattle.rules.specs.Templates.{Taken, took, unfit, _>>=_, orElse, placeOf, decimal, printOperand, Part, character, oneNumber, oneOperand, oneCap, manyNumbers, manyOperands, Holds, fit, whole, print, Rule, forms, ruleAt, firstFit, decode, show}
 use Rattle.rules.specs.Reading.{slotOf, targetsIn, operandsIn, numbersIn, slotsIn}
 use Rattle.rules.proofs.ListLaws.{by-bool, and-true, all-true, every-at, every-mapped}
 use Rattle.rules.proofs.Printing.{Small, Short, fit-prints, starts, parted, fit-back}
@@ -23,7 +23,7 @@ use Rattle.rules.proofs.Printing.{Small, Short, fit-prints, starts, par
 pub data Way : Type 0 where
   reading taking : Way
 
-abbrev ways : List Way
+abbrev pub ways : List Way
 ways = reading ∷ taking ∷ []
 
 unfoldable pub opening : Way → List ℕ
@@ -55,7 +55,7 @@ unfolding head opening printOperand
 operand-begins t (reads s) l = record { way = reading; rest = (decimal s ++ bytes ")") ++ l; text = refl }
 operand-begins t (takes s) l = record { way = taking; rest = (decimal s ++ bytes ")") ++ l; text = refl }
 
-print-begins : (t : List Part) (p : Holds t) (l : List ℕ) → Begins t (print t p ++ l)
+pub print-begins : (t : List Part) (p : Holds t) (l : List ℕ) → Begins t (print t p ++ l)
 unfolding print head
 print-begins [] p l = anything-begins [] l refl
 print-begins (character c ∷ t) p l = let b = print-begins t p l in record { way = b .way; rest = b .rest; text = ap (λ (k : List ℕ). c ∷ k) (b .text) }
@@ -85,7 +85,7 @@ differ-apart (x ∷ h) (y ∷ k) a b d e = by-bool (eqb x y)
 apart : Rule → Rule → Bool
 apart r s = all (λ v. all (λ w. differ (head v (r .template)) (head w (s .template))) ways) ways
 
-every-way : (f : Way → Bool) → all f ways ≡ true → (v : Way) → f v ≡ true
+pub every-way : (f : Way → Bool) → all f ways ≡ true → (v : Way) → f v ≡ true
 every-way f h reading = all-true f ways h .0
 every-way f h taking = all-true f ways h .1 .0
 
@@ -97,10 +97,6 @@ apart-begin r s l h b c =
     differ-apart (head (b .way) (r .template)) (head (c .way) (s .template)) (b .rest) (c .rest) place (sym (b .text) ∙ c .text)
 
 -- ---- The forms
-
--- the i-th form; what stands past the last is never asked for
-abbrev pub ruleAt : ℕ → Rule
-ruleAt i = getD forms i (record { template = []; make = λ _. opens thread })
 
 -- the i-th form fits the whole line
 pub record Fits-line (i : ℕ) (l : List ℕ) : Type 0 where
@@ -149,23 +145,37 @@ unfolding orElse
 or-unfit (took a l) = refl
 or-unfit unfit = refl
 
-none-fits : (rs : List Rule) (d : Rule) (l : List ℕ) → ((j : ℕ) → j < length rs → whole (fit (getD rs j d .template) l) ≡ unfit) → firstFit rs l ≡ unfit
-unfolding firstFit _>>=_ orElse
-none-fits [] d l h = refl
-none-fits (r ∷ rs) d l h = rw (h 0 (omega arith)) (none-fits rs d l (λ j j<n. h (suc j) (suc-le-suc j<n)))
+-- f tries rules in their order, each by x
+pub record InOrder (x : Rule → Taken Form) (f : List Rule → Taken Form) : Type 0 where
+  pub none : f [] ≡ unfit
+  pub first : (r : Rule) (rs : List Rule) → f (r ∷ rs) ≡ orElse (x r) (f rs)
 
-only-fits : (rs : List Rule) (d : Rule) (i : ℕ) (l : List ℕ) → i < length rs
-    → ((j : ℕ) → j < length rs → (j ≡ i → ⊥) → whole (fit (getD rs j d .template) l) ≡ unfit) → firstFit rs l ≡ tried (getD rs i d) l
-unfolding firstFit _>>=_ orElse
-only-fits [] d i l i<n h = absurd (not-suc-le-zero i<n)
-only-fits (r ∷ rs) d zero l i<n h = rw (none-fits rs d l (λ j j<n. h (suc j) (suc-le-suc j<n) (λ e. omega arith))) (or-unfit (tried r l))
-only-fits (r ∷ rs) d (suc i) l i<n h =
-    rw (h 0 (omega arith) (λ e. omega arith)) (only-fits rs d i l (le-of-suc-le-suc i<n) (λ j j<n e. h (suc j) (suc-le-suc j<n) (λ k. e (omega arith))))
+-- where no rule gives a form; and where no other rule does
+pub none-gives : {x : Rule → Taken Form} {f : List Rule → Taken Form} → InOrder x f → (rs : List Rule) (d : Rule)
+    → ((j : ℕ) → j < length rs → x (getD rs j d) ≡ unfit) → f rs ≡ unfit
+unfolding orElse
+none-gives o [] d h = o .none
+none-gives o (r ∷ rs) d h = o .first r rs ∙ rw (h 0 (omega arith)) (none-gives o rs d (λ j j<n. h (suc j) (suc-le-suc j<n)))
 
-unfit-line : (j : ℕ) (l : List ℕ) → (Fits-line j l → ⊥) → whole (fit (ruleAt j .template) l) ≡ unfit
+pub only-gives : {x : Rule → Taken Form} {f : List Rule → Taken Form} → InOrder x f → (rs : List Rule) (d : Rule) (i : ℕ) → i < length rs
+    → ((j : ℕ) → j < length rs → (j ≡ i → ⊥) → x (getD rs j d) ≡ unfit) → f rs ≡ x (getD rs i d)
+unfolding orElse
+only-gives o [] d i i<n h = absurd (not-suc-le-zero i<n)
+only-gives {x} o (r ∷ rs) d zero i<n h =
+    o .first r rs ∙ rw (none-gives o rs d (λ j j<n. h (suc j) (suc-le-suc j<n) (λ e. omega arith))) (or-unfit (x r))
+only-gives o (r ∷ rs) d (suc i) i<n h =
+    o .first r rs
+    ∙ rw (h 0 (omega arith) (λ e. omega arith)) (only-gives o rs d i (le-of-suc-le-suc i<n) (λ j j<n e. h (suc j) (suc-le-suc j<n) (λ k. e (omega arith))))
+
+decode-in-order : (l : List ℕ) → InOrder (λ r. tried r l) (λ rs. firstFit rs l)
+unfolding firstFit
+decode-in-order l = record { none = refl; first = λ r rs. refl }
+
+unfit-line : (j : ℕ) (l : List ℕ) → (Fits-line j l → ⊥) → tried (ruleAt j) l ≡ unfit
+unfolding _>>=_
 unfit-line j l h = go (fit (ruleAt j .template) l) refl
   where
-    go : (x : Taken (Holds (ruleAt j .template))) → fit (ruleAt j .template) l ≡ x → whole x ≡ unfit
+    go : (x : Taken (Holds (ruleAt j .template))) → fit (ruleAt j .template) l ≡ x → (whole x >>= λ p l₁. took (ruleAt j .make p) l₁) ≡ unfit
     go (took p []) e = absurd (h (record { parts = p; fits = e }))
     go (took p (c ∷ l₁)) e = refl
     go unfit e = refl
@@ -173,7 +183,12 @@ unfit-line j l h = go (fit (ruleAt j .template) l) refl
 -- where no other form fits, to try this one is enough
 pub decode-by : (i : ℕ) (l : List ℕ) → i < length forms → ((j : ℕ) → j < length forms → Fits-line j l → j ≡ i) → decode l ≡ tried (ruleAt i) l
 unfolding decode
-decode-by i l i<n h = only-fits forms _ i l i<n (λ j j<n e. unfit-line j l (λ f. e (h j j<n f)))
+decode-by i l i<n h = only-gives (decode-in-order l) forms _ i i<n (λ j j<n e. unfit-line j l (λ f. e (h j j<n f)))
+
+-- where none fits, nothing is decoded
+pub decode-none : (l : List ℕ) → ((j : ℕ) → j < length forms → Fits-line j l → ⊥) → decode l ≡ unfit
+unfolding decode
+decode-none l h = none-gives (decode-in-order l) forms _ (λ j j<n. unfit-line j l (h j j<n))
 
 pub decode-is : (i : ℕ) (l : List ℕ) → i < length forms → (f : Fits-line i l) → decode l ≡ took (ruleAt i .make (f .parts)) []
 unfolding _>>=_
@@ -186,10 +201,15 @@ forms-parted : all (λ r. parted (r .template)) forms ≡ true
 unfolding all parted starts placeOf
 forms-parted = refl
 
-print-decodes : (i : ℕ) (p : Holds (ruleAt i .template)) → i < length forms → Short (ruleAt i .template) p → decode (print (ruleAt i .template) p) ≡ took (ruleAt i .make p) []
-print-decodes i p i<n h =
+-- whatever follows it
+pub print-fits : (i : ℕ) (p : Holds (ruleAt i .template)) (l : List ℕ) → i < length forms → Short (ruleAt i .template) p
+    → fit (ruleAt i .template) (print (ruleAt i .template) p ++ l) ≡ took p l
+print-fits i p l i<n h =
     let t = every-at (λ r. parted (r .template) ≡ true) forms i _ i<n (all-true (λ r. parted (r .template)) forms forms-parted) in
-    decode-is i _ i<n (record { parts = p; fits = rw append-nil at (fit-back (ruleAt i .template) p [] t h) })
+    fit-back (ruleAt i .template) p l t h
+
+pub print-decodes : (i : ℕ) (p : Holds (ruleAt i .template)) → i < length forms → Short (ruleAt i .template) p → decode (print (ruleAt i .template) p) ≡ took (ruleAt i .make p) []
+print-decodes i p i<n h = decode-is i _ i<n (record { parts = p; fits = rw append-nil at (print-fits i p [] i<n h) })
 
 pub decode-show : (F : Form) → Every Small (slotsIn F) → Every Small (numbersIn F) → decode (show F) ≡ took F []
 unfolding show slotsIn targetsIn operandsIn numbersIn

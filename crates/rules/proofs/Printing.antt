@@ -18,7 +18,7 @@ use Rattle.rules.specs.Text.{bytes, lf, space, stray, onLine, lines, joi
 use Rattle.rules.specs.Script.{Operand, reads, takes, Form}
 use Rattle.rules.specs.Templates.{Taken, took, unfit, _>>=_, orElse, literal, digits, placeOf, digitOf, digitsAt, isNumber, decimalValue, number, digit, decimal, operandBy, operand, printOperand, capWord, capBy, capability, many, printMany, Part, character, oneNumber, oneOperand, oneCap, manyNumbers, manyOperands, Holds, fit, whole, print, Rule, forms, firstFit, decode, show}
 use Rattle.rules.specs.Reading.{slotOf, isOutside, inPlace, overMost, over255, isUnbound, takesSelf, Sofar, nothing, Step, fault, next, formStep, lineStep, Scan, faulty, scanned, finish, withForm, onStep, scan}
-use Rattle.rules.proofs.ListLaws.{by-bool, and-true}
+use Rattle.rules.proofs.ListLaws.{by-bool, and-true, allBelow, below-true}
 
 -- ---- What is taken
 
@@ -315,18 +315,7 @@ afterOne c = not (ltb (digitOf c) 10)
 abbrev pub afterMany : ℕ → Bool
 afterMany c = afterOne c && not (eqb c space)
 
--- a digit's character stands for the digit: a test of each below 10
-allBelow : (ℕ → Bool) → ℕ → Bool
-allBelow f zero = true
-allBelow f (suc n) = f n && allBelow f n
-
-below-true : (f : ℕ → Bool) (n i : ℕ) → allBelow f n ≡ true → i < n → f i ≡ true
-unfolding allBelow
-below-true f zero i h i<n = absurd (not-suc-le-zero i<n)
-below-true f (suc n) i h i<n = let p = and-true (f n) (allBelow f n) h in by-bool (eqb i n)
-    (λ t. rw (eqb-true i n t) (p .0))
-    (λ t. let e = eqb-false i n t in below-true f n i (p .1) (omega arith))
-
+-- a digit's character stands for the digit
 digit-back : (d : ℕ) → d < 10 → digitOf (digit d) ≡ d
 unfolding allBelow placeOf
 digit-back d h = eqb-true (digitOf (digit d)) d (below-true (λ x. eqb (digitOf (digit x)) x) 10 d refl h)

@@ -39,7 +39,7 @@ faulty≢scanned : {k n : ℕ} {Fs : List Form} → faulty k n ≡ scanned Fs �
 faulty≢scanned h = impossible cc
 
 -- a step that goes on is past every fault
-form-passed : (m : Mosts) (r : Sofar) (t : Taken Form) (F : Form) (r₁ : Sofar) → formStep m r t ≡ next F r₁ → Passed m r F × (readOn r F ≡ r₁)
+pub form-passed : (m : Mosts) (r : Sofar) (t : Taken Form) (F : Form) (r₁ : Sofar) → formStep m r t ≡ next F r₁ → Passed m r F × (readOn r F ≡ r₁)
 unfolding formStep
 form-passed m r unfit F r₁ h = absurd (fault≢next h)
 form-passed m r (took G l) F r₁ h =

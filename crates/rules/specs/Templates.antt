@@ -228,6 +228,10 @@ forms =
     ∷ record { template = recvT; make = λ (s, _). line (bind (recv s)) }
     ∷ []
 
+-- the i-th form; what stands past the last is never asked for
+abbrev pub ruleAt : ℕ → Rule
+ruleAt i = getD forms i (record { template = []; make = λ _. opens thread })
+
 -- the first form that fits a line (no other one does: proofs/OneForm)
 unfoldable pub firstFit : List Rule → List ℕ → Taken Form
 firstFit [] l = unfit

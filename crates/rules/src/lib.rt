@@ -6,6 +6,8 @@ ghost use Rattle.rules.specs.Script.{rank};
 ghost use Rattle.rules.specs.Templates.{capWord};
 ghost use Rattle.rules.specs.Turn.{mayHold};
 
+pub mod numbers;
+
 // "A value is absent, an object number or a channel number."
 pub enum Value {
     Absent,

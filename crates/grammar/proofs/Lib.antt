@@ -1,0 +1,12 @@
+-- Why the code of this crate keeps its contracts.
+-- fixed words as numbers; numbers, operands and capabilities; lists of them
+mod WordLaws
+mod PartLaws
+mod OperandWords
+mod Many
+mod ItemLists
+-- a form read part by part, and what is kept of it
+mod Told
+mod Telling
+-- the front of a text and its first line; the only form that can fit; the line at a place
+pub mod Fronts

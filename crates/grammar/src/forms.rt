@@ -1,0 +1,378 @@
+// One line by its form: the form is found by a few bytes, and then tried alone.
+use super::parts::cap_at;
+use super::parts::most;
+use super::parts::number_at;
+use super::parts::numbers_at;
+use super::parts::operand_at;
+use super::parts::operands_at;
+use super::parts::over;
+use super::words::begins_at;
+use super::words::both;
+use super::words::byte;
+use super::words::either;
+ghost use mathlib.Core.Path.{_≡_};
+ghost use mathlib.Core.Bool.{false};
+ghost use Prim.Native.Nat.{_+_, _≤_};
+ghost use lib.ListN.{length, drop};
+ghost use Rattle.grammar.specs.Decoded.{FormAt, OperandRest, PlaceRest, letForm, onlyForm, LineAt};
+
+// A decoded line: whether it fits its form; the form's number and the parts' words, as in the table; whether the line by itself exceeds a
+// most; one more than the highest slot that it names; whether it takes slot 0; and the place after its LF.
+pub struct Line {
+    pub ok: bool,
+    pub form: u16,
+    pub a: u16,
+    pub b: u16,
+    pub c: u16,
+    pub d: u16,
+    pub e: u16,
+    pub f: u16,
+    pub over: bool,
+    pub need: u16,
+    pub own: bool,
+    pub end: usize,
+}
+
+// A line that names no slot and has at most three words.
+fn short_line(ok: bool, form: u16, a: u16, b: u16, c: u16, end: usize) -> Line
+    ensures { λ r. ⌜ (r .ok ≡ ok) × (r .form ≡ form) × (r .a ≡ a) × (r .b ≡ b) × (r .c ≡ c) × (r .d ≡ 0) × (r .e ≡ 0) × (r .f ≡ 0) ⌝ }
+    ensures { λ r. ⌜ (r .over ≡ false) × (r .need ≡ 0) × (r .own ≡ false) × (r .end ≡ end) ⌝ }
+{
+    Line {
+        ok: ok,
+        form: form,
+        a: a,
+        b: b,
+        c: c,
+        d: 0,
+        e: 0,
+        f: 0,
+        over: false,
+        need: 0,
+        own: false,
+        end: end,
+    }
+}
+
+// (kind (fields F) (does B ..))
+fn kind_at(s: &[u8], at: usize) -> Line
+    requires { ⌜ (8 ≤ length (now s)) × (length (now s) ≤ 65536) × (at ≤ length (now s)) ⌝ }
+    ensures { λ r. ⌜ FormAt 0 (now (s .entry)) at r ⌝ }
+{
+    let opened = begins_at(s, at, b"(kind (");
+    let named = begins_at(s, at + 7, b"fields ");
+    let fields = number_at(s, at + 14);
+    let parted = begins_at(s, fields.end, b") (does");
+    let methods = numbers_at(s, fields.end + 7);
+    let closed = begins_at(s, methods.end, b"))\n");
+    let ok = both(
+        opened,
+        both(
+            named,
+            both(fields.ok, both(parted, both(methods.ok, closed))),
+        ),
+    );
+    let mut l = short_line(ok, 1, fields.word, methods.a, methods.b, methods.end + 3);
+    l.d = methods.c;
+    l.e = methods.d;
+    l.over = either(4 < fields.word, methods.over);
+    l
+}
+
+// (thread)
+fn thread_at(s: &[u8], at: usize) -> Line
+    requires { ⌜ (8 ≤ length (now s)) × (length (now s) ≤ 65536) × (at ≤ length (now s)) ⌝ }
+    ensures { λ r. ⌜ FormAt 1 (now (s .entry)) at r ⌝ }
+{
+    let opened = begins_at(s, at, b"(thread");
+    let closed = begins_at(s, at + 7, b")\n");
+    short_line(both(opened, closed), 2, 0, 0, 0, at + 9)
+}
+
+// (method)
+fn method_at(s: &[u8], at: usize) -> Line
+    requires { ⌜ (8 ≤ length (now s)) × (length (now s) ≤ 65536) × (at ≤ length (now s)) ⌝ }
+    ensures { λ r. ⌜ FormAt 2 (now (s .entry)) at r ⌝ }
+{
+    let opened = begins_at(s, at, b"(method");
+    let closed = begins_at(s, at + 7, b")\n");
+    short_line(both(opened, closed), 3, 0, 0, 0, at + 9)
+}
+
+// W)LF, the rest of a give and of a let that has an operand alone
+fn operand_rest(s: &[u8], at: usize, before: bool, form: u16) -> Line
+    requires { ⌜ (8 ≤ length (now s)) × (length (now s) ≤ 65536) × (at ≤ 65600) ⌝ }
+    ensures { λ r. ⌜ OperandRest form before (now (s .entry)) at r ⌝ }
+{
+    let w = operand_at(s, at);
+    let closed = begins_at(s, w.end, b")\n");
+    let slot = w.word / 2;
+    let mut l = short_line(
+        both(before, both(w.ok, closed)),
+        form,
+        w.word,
+        0,
+        0,
+        w.end + 2,
+    );
+    l.over = over(slot);
+    l.need = slot + 1;
+    l.own = w.word == 1;
+    l
+}
+
+// (give W)
+fn give_at(s: &[u8], at: usize) -> Line
+    requires { ⌜ (8 ≤ length (now s)) × (length (now s) ≤ 65536) × (at ≤ length (now s)) ⌝ }
+    ensures { λ r. ⌜ FormAt 3 (now (s .entry)) at r ⌝ }
+{
+    let opened = begins_at(s, at, b"(give ");
+    operand_rest(s, at + 6, opened, 4)
+}
+
+// (let W)
+fn value_at(s: &[u8], at: usize) -> Line
+    requires { ⌜ (8 ≤ length (now s)) × (length (now s) ≤ 65536) × (at ≤ length (now s)) ⌝ }
+    ensures { λ r. ⌜ FormAt 4 (now (s .entry)) at r ⌝ }
+{
+    let opened = begins_at(s, at, b"(let ");
+    operand_rest(s, at + 5, opened, 5)
+}
+
+// (let (field S F))
+fn field_at(s: &[u8], at: usize) -> Line
+    requires { ⌜ (8 ≤ length (now s)) × (length (now s) ≤ 65536) × (at ≤ length (now s)) ⌝ }
+    ensures { λ r. ⌜ FormAt 5 (now (s .entry)) at r ⌝ }
+{
+    let opened = begins_at(s, at, b"(let (");
+    let named = begins_at(s, at + 6, b"field ");
+    let target = number_at(s, at + 12);
+    let parted = begins_at(s, target.end, b" ");
+    let field = number_at(s, target.end + 1);
+    let closed = begins_at(s, field.end, b"))\n");
+    let ok = both(
+        opened,
+        both(named, both(target.ok, both(parted, both(field.ok, closed)))),
+    );
+    let mut l = short_line(ok, 6, target.word, field.word, 0, field.end + 3);
+    l.over = either(over(target.word), over(field.word));
+    l.need = target.word + 1;
+    l
+}
+
+// S N W))LF, the rest of a swap and of a call
+fn place_rest(s: &[u8], at: usize, before: bool, form: u16) -> Line
+    requires { ⌜ (8 ≤ length (now s)) × (length (now s) ≤ 65536) × (at ≤ 65600) ⌝ }
+    ensures { λ r. ⌜ PlaceRest form before (now (s .entry)) at r ⌝ }
+{
+    let target = number_at(s, at);
+    let parted = begins_at(s, target.end, b" ");
+    let number = number_at(s, target.end + 1);
+    let spaced = begins_at(s, number.end, b" ");
+    let w = operand_at(s, number.end + 1);
+    let closed = begins_at(s, w.end, b"))\n");
+    let ok = both(
+        before,
+        both(
+            target.ok,
+            both(parted, both(number.ok, both(spaced, both(w.ok, closed)))),
+        ),
+    );
+    let slot = w.word / 2;
+    let mut l = short_line(ok, form, target.word, number.word, w.word, w.end + 3);
+    l.over = either(either(over(target.word), over(slot)), over(number.word));
+    l.need = most(target.word + 1, slot + 1);
+    l.own = w.word == 1;
+    l
+}
+
+// (let (swap S F W))
+fn swap_at(s: &[u8], at: usize) -> Line
+    requires { ⌜ (8 ≤ length (now s)) × (length (now s) ≤ 65536) × (at ≤ length (now s)) ⌝ }
+    ensures { λ r. ⌜ FormAt 6 (now (s .entry)) at r ⌝ }
+{
+    let opened = begins_at(s, at, b"(let (");
+    let named = begins_at(s, at + 6, b"swap ");
+    place_rest(s, at + 11, both(opened, named), 7)
+}
+
+// (let (call S M W))
+fn call_at(s: &[u8], at: usize) -> Line
+    requires { ⌜ (8 ≤ length (now s)) × (length (now s) ≤ 65536) × (at ≤ length (now s)) ⌝ }
+    ensures { λ r. ⌜ FormAt 7 (now (s .entry)) at r ⌝ }
+{
+    let opened = begins_at(s, at, b"(let (");
+    let named = begins_at(s, at + 6, b"call ");
+    place_rest(s, at + 11, both(opened, named), 8)
+}
+
+// (let (new K N W ..))
+fn new_at(s: &[u8], at: usize) -> Line
+    requires { ⌜ (8 ≤ length (now s)) × (length (now s) ≤ 65536) × (at ≤ length (now s)) ⌝ }
+    ensures { λ r. ⌜ FormAt 8 (now (s .entry)) at r ⌝ }
+{
+    let opened = begins_at(s, at, b"(let (");
+    let named = begins_at(s, at + 6, b"new ");
+    let cap = cap_at(s, at + 10);
+    let parted = begins_at(s, cap.end, b" ");
+    let kind = number_at(s, cap.end + 1);
+    let given = operands_at(s, kind.end);
+    let closed = begins_at(s, given.end, b"))\n");
+    let ok = both(
+        opened,
+        both(
+            named,
+            both(cap.ok, both(parted, both(kind.ok, both(given.ok, closed)))),
+        ),
+    );
+    let mut l = short_line(ok, 9, cap.word, kind.word, given.a, given.end + 3);
+    l.d = given.b;
+    l.e = given.c;
+    l.f = given.d;
+    l.over = either(given.over, over(kind.word));
+    l.need = given.need;
+    l.own = given.own;
+    l
+}
+
+// (let (cast K W))
+fn cast_at(s: &[u8], at: usize) -> Line
+    requires { ⌜ (8 ≤ length (now s)) × (length (now s) ≤ 65536) × (at ≤ length (now s)) ⌝ }
+    ensures { λ r. ⌜ FormAt 9 (now (s .entry)) at r ⌝ }
+{
+    let opened = begins_at(s, at, b"(let (");
+    let named = begins_at(s, at + 6, b"cast ");
+    let cap = cap_at(s, at + 11);
+    let parted = begins_at(s, cap.end, b" ");
+    let w = operand_at(s, cap.end + 1);
+    let closed = begins_at(s, w.end, b"))\n");
+    let ok = both(
+        opened,
+        both(named, both(cap.ok, both(parted, both(w.ok, closed)))),
+    );
+    let slot = w.word / 2;
+    let mut l = short_line(ok, 10, cap.word, w.word, 0, w.end + 3);
+    l.over = over(slot);
+    l.need = slot + 1;
+    l.own = w.word == 1;
+    l
+}
+
+// (let (spawn B))
+fn spawn_at(s: &[u8], at: usize) -> Line
+    requires { ⌜ (8 ≤ length (now s)) × (length (now s) ≤ 65536) × (at ≤ length (now s)) ⌝ }
+    ensures { λ r. ⌜ FormAt 10 (now (s .entry)) at r ⌝ }
+{
+    let opened = begins_at(s, at, b"(let (");
+    let named = begins_at(s, at + 6, b"spawn ");
+    let block = number_at(s, at + 12);
+    let closed = begins_at(s, block.end, b"))\n");
+    let ok = both(opened, both(named, both(block.ok, closed)));
+    let mut l = short_line(ok, 11, block.word, 0, 0, block.end + 3);
+    l.over = over(block.word);
+    l
+}
+
+// (let (send S W))
+fn send_at(s: &[u8], at: usize) -> Line
+    requires { ⌜ (8 ≤ length (now s)) × (length (now s) ≤ 65536) × (at ≤ length (now s)) ⌝ }
+    ensures { λ r. ⌜ FormAt 11 (now (s .entry)) at r ⌝ }
+{
+    let opened = begins_at(s, at, b"(let (");
+    let named = begins_at(s, at + 6, b"send ");
+    let target = number_at(s, at + 11);
+    let parted = begins_at(s, target.end, b" ");
+    let w = operand_at(s, target.end + 1);
+    let closed = begins_at(s, w.end, b"))\n");
+    let ok = both(
+        opened,
+        both(named, both(target.ok, both(parted, both(w.ok, closed)))),
+    );
+    let slot = w.word / 2;
+    let mut l = short_line(ok, 12, target.word, w.word, 0, w.end + 3);
+    l.over = either(over(target.word), over(slot));
+    l.need = most(target.word + 1, slot + 1);
+    l.own = w.word == 1;
+    l
+}
+
+// (let (recv S))
+fn recv_at(s: &[u8], at: usize) -> Line
+    requires { ⌜ (8 ≤ length (now s)) × (length (now s) ≤ 65536) × (at ≤ length (now s)) ⌝ }
+    ensures { λ r. ⌜ FormAt 12 (now (s .entry)) at r ⌝ }
+{
+    let opened = begins_at(s, at, b"(let (");
+    let named = begins_at(s, at + 6, b"recv ");
+    let target = number_at(s, at + 11);
+    let closed = begins_at(s, target.end, b"))\n");
+    let ok = both(opened, both(named, both(target.ok, closed)));
+    let mut l = short_line(ok, 13, target.word, 0, 0, target.end + 3);
+    l.over = over(target.word);
+    l.need = target.word + 1;
+    l
+}
+
+// The number of the only form that a let can fit, by the letters of its word.
+fn let_form(s: &[u8], at: usize) -> u16
+    requires { ⌜ at ≤ 65536 ⌝ }
+    ensures { λ r. ⌜ r ≡ letForm (drop at (now (s .entry))) ⌝ }
+{
+    let first = byte(s, at + 6);
+    match first {
+        b'f' => 6,
+        b'n' => 9,
+        b'c' => { if byte(s, at + 8) == b'l' { 8 } else { 10 } }
+        b's' => {
+            let second = byte(s, at + 7);
+            match second {
+                b'w' => 7,
+                b'p' => 11,
+                _ => 12,
+            }
+        }
+        b'r' => { if byte(s, at + 8) == b'c' { 13 } else { 5 } }
+        _ => 5,
+    }
+}
+
+// The number of the only form that a line can fit.
+fn form_at(s: &[u8], at: usize) -> u16
+    requires { ⌜ at ≤ 65536 ⌝ }
+    ensures { λ r. ⌜ r ≡ onlyForm (drop at (now (s .entry))) ⌝ }
+{
+    let first = byte(s, at + 1);
+    match first {
+        b'k' => 1,
+        b't' => 2,
+        b'm' => 3,
+        b'g' => 4,
+        _ => let_form(s, at),
+    }
+}
+
+// The line that starts at a place. (No line has fewer than nine bytes.)
+pub fn line_at(s: &[u8], at: usize) -> Line
+    requires { ⌜ (length (now s) ≤ 65536) × (at ≤ length (now s)) ⌝ }
+    ensures { λ r. ⌜ LineAt (now (s .entry)) at r ⌝ }
+{
+    if s.len() < 9 {
+        return short_line(false, 0, 0, 0, 0, 0);
+    }
+    let form = form_at(s, at);
+    match form {
+        1 => kind_at(s, at),
+        2 => thread_at(s, at),
+        3 => method_at(s, at),
+        4 => give_at(s, at),
+        5 => value_at(s, at),
+        6 => field_at(s, at),
+        7 => swap_at(s, at),
+        8 => call_at(s, at),
+        9 => new_at(s, at),
+        10 => cast_at(s, at),
+        11 => spawn_at(s, at),
+        12 => send_at(s, at),
+        13 => recv_at(s, at),
+        _ => short_line(false, 0, 0, 0, 0, 0),
+    }
+}

@@ -1,0 +1,311 @@
+-- Refusal 8 by the table's words: a line's number tells which of its words name something; the walk over the lines is the fold of document 01.
+use Prim.Native.Nat.{ℕ, zero, suc, _+_, _-_, _≤_, _<_, suc-le-suc}
+use native.Mathlib.Numerals.{add-one}
+use native.Mathlib.Omega.{arith}
+use mathlib.Core.Path.{_≡_, refl, sym, ap, _∙_, subst}
+use mathlib.Core.Bool.{Bool, true, false, not, _&&_, _||_, cond, or-false as or-none}
+use mathlib.Core.List.{List, [], _∷_, map}
+use lib.Dec.{ltb, eqb, leb·zero, leb·suc-zero, leb·suc-suc, eqb·suc-zero}
+use lib.ListN.{length, getD, drop, drop-of-length-le}
+use lib.Seq.{drop-cons}
+use borrow.Author.Tests.{lt-ltb, le-ltb, ltb-false, eq-eqb, ne-eqb, eqb-true, eqb-false}
+use Rattle.rules.specs.declared.Cap.{Cap}
+use Rattle.rules.specs.Mosts as Most
+use Rattle.rules.specs.Numbers as No
+use Rattle.rules.specs.Lists.{any, pad, Every}
+use Rattle.rules.specs.Script.{Operand, Expr, value, field, swap, call, new, cast, spawn, send, recv, bind, give, Sort, thread, method, Kind, Form, kind, opens, line, Block, noBlock, Program, letsOf, resultOf, blocksOf, letLines, blockLines, kindLines, linesOf, kindAt, blockAt}
+use Rattle.rules.specs.Reading.{operandsIn, over255, sameSort, isSort, dangles, opened, turnedAway, accepted, link}
+use Rattle.rules.specs.Tables.{operandWord, lineWords, row}
+use Rattle.rules.proofs.ListLaws.{by-bool, or-false, every-get, every-at}
+use Rattle.table.specs.Program.{noForm, sortNumber, LineWord}
+use Rattle.table.proofs.ProgramLines.{kind-stands, kind-there}
+use Rattle.grammar.specs.Decoded.{overLine}
+use Rattle.reader.specs.Linking.{Table, formAt, LineDangles, BlocksAfter, FirstDangling}
+
+-- ---- Tests
+
+eqb-sym : (m n : ℕ) → eqb m n ≡ eqb n m
+eqb-sym m n = by-bool (eqb n m) (λ t. rw t (eq-eqb m n (sym (eqb-true n m t)))) (λ t. rw t (ne-eqb m n (λ e. eqb-false n m t (sym e))))
+
+-- ---- The lines of a program: first the kinds, then its blocks
+
+lets-of-lines : (es : List Expr) (w : Operand) (Fs : List Form) → letsOf (letLines es (line (give w) ∷ Fs)) ≡ es
+unfolding letLines letsOf
+lets-of-lines [] w Fs = refl
+lets-of-lines (e ∷ es) w Fs = ap (e ∷_) (lets-of-lines es w Fs)
+
+result-of-lines : (es : List Expr) (w : Operand) (Fs : List Form) → resultOf (letLines es (line (give w) ∷ Fs)) ≡ w
+unfolding letLines resultOf
+result-of-lines [] w Fs = refl
+result-of-lines (e ∷ es) w Fs = result-of-lines es w Fs
+
+blocks-past-lets : (es : List Expr) (Fs : List Form) → blocksOf (letLines es Fs) ≡ blocksOf Fs
+unfolding letLines blocksOf
+blocks-past-lets [] Fs = refl
+blocks-past-lets (e ∷ es) Fs = blocks-past-lets es Fs
+
+blocks-past-kinds : (Ks : List Kind) (Fs : List Form) → blocksOf (kindLines Ks Fs) ≡ blocksOf Fs
+unfolding kindLines blocksOf
+blocks-past-kinds [] Fs = refl
+blocks-past-kinds (K ∷ Ks) Fs = blocks-past-kinds Ks Fs
+
+blocks-of-blocks : (Bs : List Block) → blocksOf (blockLines Bs) ≡ Bs
+unfolding blockLines blocksOf
+blocks-of-blocks [] = refl
+blocks-of-blocks (B ∷ Bs) =
+    rw (lets-of-lines (B .lets) (B .result) (blockLines Bs), result-of-lines (B .lets) (B .result) (blockLines Bs), blocks-past-lets (B .lets) (line (give (B .result)) ∷ blockLines Bs), blocks-of-blocks Bs)
+
+blocks-of-lines : (P : Program) → blocksOf (linesOf P) ≡ P .blocks
+unfolding linesOf
+blocks-of-lines P = blocks-past-kinds (P .kinds) (blockLines (P .blocks)) ∙ blocks-of-blocks (P .blocks)
+
+abbrev NoKind : Form → Type 0
+NoKind (kind K) = ⊥
+NoKind (opens o) = Unit {0}
+NoKind (line x) = Unit {0}
+
+no-kind-in-lets : (es : List Expr) (Fs : List Form) → Every NoKind Fs → Every NoKind (letLines es Fs)
+unfolding letLines
+no-kind-in-lets [] Fs h = h
+no-kind-in-lets (e ∷ es) Fs h = (tt, no-kind-in-lets es Fs h)
+
+no-kind-in-blocks : (Bs : List Block) → Every NoKind (blockLines Bs)
+unfolding blockLines
+no-kind-in-blocks [] = tt
+no-kind-in-blocks (B ∷ Bs) = (tt, no-kind-in-lets (B .lets) (line (give (B .result)) ∷ blockLines Bs) (tt, no-kind-in-blocks Bs))
+
+kind-among-kinds : (Ks : List Kind) (Fs : List Form) (n : ℕ) (K : Kind) → Every NoKind Fs → getD (kindLines Ks Fs) n noForm ≡ kind K → n < length Ks
+unfolding kindLines
+kind-among-kinds [] Fs n K h e = absurd (subst NoKind e (every-get NoKind Fs n noForm tt h))
+kind-among-kinds (L ∷ Ks) Fs zero K h e = omega arith
+kind-among-kinds (L ∷ Ks) Fs (suc n) K h e = suc-le-suc (kind-among-kinds Ks Fs n K h e)
+
+-- ---- Blocks of a sort
+
+sort-by-number : (o p : Sort) → eqb (sortNumber o) (sortNumber p) ≡ sameSort o p
+unfolding sameSort
+sort-by-number thread thread = refl
+sort-by-number thread method = refl
+sort-by-number method thread = refl
+sort-by-number method method = refl
+
+pub no-such-block : (P : Program) (o : Sort) (b : ℕ) → length (P .blocks) ≤ b → false ≡ isSort P o b
+unfolding isSort
+no-such-block P o b h = rw (le-ltb b (length (P .blocks)) h)
+
+-- `is` is the number of block b's sort
+pub sort-of-block : (P : Program) (o : Sort) (b is asked : ℕ) → b < length (P .blocks) → asked ≡ sortNumber o
+    → (b < length (blocksOf (linesOf P)) → is ≡ sortNumber (getD (blocksOf (linesOf P)) b noBlock .sort)) → eqb is asked ≡ isSort P o b
+unfolding isSort blockAt
+sort-of-block P o b is asked h e read =
+    let told : is ≡ sortNumber (getD (P .blocks) b noBlock .sort) = rw (blocks-of-lines P) at read h in
+    rw (lt-ltb b (length (P .blocks)) h, told, e) (sort-by-number (getD (P .blocks) b noBlock .sort) o)
+
+-- ---- Methods of a kind
+
+-- the words of a list of items: 0 after the last
+item-words : (ms : List ℕ) (i : ℕ) → getD (map suc ms) i 0 ≡ cond (ltb i (length ms)) (suc (getD ms i 0)) 0
+item-words [] i = rw (leb·suc-zero i)
+item-words (m ∷ ms) zero = rw (leb·suc-suc 0 (length ms), leb·zero (length ms))
+item-words (m ∷ ms) (suc i) = rw (leb·suc-suc (suc i) (length ms)) (item-words ms i)
+
+abbrev pub noMethod : Program → ℕ → Bool
+noMethod P i = not (isSort P method i)
+
+-- whether item i is there and passes a test
+abbrev passesAt : (ℕ → Bool) → List ℕ → ℕ → Bool
+passesAt f ms i = cond (ltb i (length ms)) (f (getD ms i 0)) false
+
+pub no-such-method : (f : ℕ → Bool) (ms : List ℕ) (i word : ℕ) → word ≡ getD (map suc ms) i 0 → word ≡ 0 → false ≡ passesAt f ms i
+no-such-method f ms i word e none =
+    by-bool (ltb i (length ms))
+    (λ t. absurd (let z : word ≡ suc (getD ms i 0) = rw t at (e ∙ item-words ms i) in omega arith))
+    (λ t. rw t)
+
+pub method-named : (f : ℕ → Bool) (ms : List ℕ) (i word : ℕ) → word ≡ getD (map suc ms) i 0 → (word ≡ 0 → ⊥) → f (word - 1) ≡ passesAt f ms i
+method-named f ms i word e some =
+    by-bool (ltb i (length ms))
+    (λ t. let z : word - 1 ≡ getD ms i 0 = let s : word ≡ suc (getD ms i 0) = rw t at (e ∙ item-words ms i) in omega arith in rw (t, z))
+    (λ t. absurd (some (rw t at (e ∙ item-words ms i))))
+
+-- any of a list of at most four is the or of the first four
+four-asked : (f : ℕ → Bool) (ms : List ℕ) → length ms ≤ 4 → (passesAt f ms 0 || (passesAt f ms 1 || (passesAt f ms 2 || passesAt f ms 3))) ≡ any f ms
+unfolding any
+four-asked f [] h = refl
+four-asked f (a ∷ []) h = refl
+four-asked f (a ∷ b ∷ []) h = refl
+four-asked f (a ∷ b ∷ c ∷ []) h = refl
+four-asked f (a ∷ b ∷ c ∷ d ∷ []) h = rw (or-none (f d))
+four-asked f (a ∷ b ∷ c ∷ d ∷ e ∷ ms) h = absurd (omega arith)
+
+-- ---- What a line's number tells
+
+-- 1 for an item that is there
+abbrev pub given : ℕ → ℕ
+given w = cond (eqb w 0) 0 1
+
+-- how many of the four words after a new's kind hold an operand
+abbrev operandCount : List ℕ → ℕ
+operandCount ws = given (getD ws 3 0) + given (getD ws 4 0) + given (getD ws 5 0) + given (getD ws 6 0)
+
+operands-counted : (k : Cap) (i : ℕ) (ws : List Operand) → length ws ≤ 4 → operandCount (row (line (bind (new k i ws)))) ≡ length ws
+unfolding row lineWords pad
+operands-counted k i [] h = refl
+operands-counted k i (a ∷ []) h = rw (eqb·suc-zero (operandWord a))
+operands-counted k i (a ∷ b ∷ []) h = rw (eqb·suc-zero (operandWord a), eqb·suc-zero (operandWord b))
+operands-counted k i (a ∷ b ∷ c ∷ []) h = rw (eqb·suc-zero (operandWord a), eqb·suc-zero (operandWord b), eqb·suc-zero (operandWord c))
+operands-counted k i (a ∷ b ∷ c ∷ d ∷ []) h = rw (eqb·suc-zero (operandWord a), eqb·suc-zero (operandWord b), eqb·suc-zero (operandWord c), eqb·suc-zero (operandWord d))
+operands-counted k i (a ∷ b ∷ c ∷ d ∷ e ∷ ws) h = absurd (omega arith)
+
+module _ (P : Program) (b : ℕ) where
+  -- whether a new dangles, by its words
+  abbrev NewTold : Form → Type 0
+  NewTold F = overLine F ≡ false → dangles P b F ≡ not (ltb (getD (row F) 2 0) (length (P .kinds)) && eqb (operandCount (row F)) (kindAt P (getD (row F) 2 0) .fields))
+
+  new-told : (k : Cap) (i : ℕ) (ws : List Operand) → NewTold (line (bind (new k i ws)))
+  unfolding dangles overLine operandsIn row lineWords pad
+  new-told k i ws small =
+      let few : length ws ≤ Most.operands = ltb-false Most.operands (length ws) (or-false (ltb Most.operands (length ws)) (over255 (line (bind (new k i ws)))) small .0) in
+      ap (λ m. not (ltb i (length (P .kinds)) && eqb m (kindAt P i .fields))) (sym (operands-counted k i ws few))
+
+  -- what its number tells of a form: that it is a kind, or whether it dangles
+  abbrev Told : ℕ → Form → Type 0
+  Told n F =
+      cond (eqb n 1) ((K : Kind) × (F ≡ kind K))
+      (cond (eqb n 3) (dangles P b F ≡ eqb b 0)
+      (cond (eqb n 9) (NewTold F)
+      (cond (eqb n 11) (dangles P b F ≡ not (isSort P thread (getD (row F) 1 0))) (dangles P b F ≡ false))))
+
+  told : (F : Form) → Told (getD (row F) 0 0) F
+  unfolding row lineWords pad dangles
+  told (kind K) = (K, refl)
+  told (opens thread) = refl
+  told (opens method) = refl
+  told (line (give w)) = refl
+  told (line (bind (value w))) = refl
+  told (line (bind (field s f))) = refl
+  told (line (bind (swap s f w))) = refl
+  told (line (bind (call s i w))) = refl
+  told (line (bind (new k i ws))) = new-told k i ws
+  told (line (bind (cast k w))) = refl
+  told (line (bind (spawn i))) = refl
+  told (line (bind (send s w))) = refl
+  told (line (bind (recv s))) = refl
+
+  by-number : (F : Form) (n : ℕ) → n ≡ getD (row F) 0 0 → Told n F
+  by-number F n e = subst (λ m. Told m F) (sym e) (told F)
+
+  pub method-line : (F : Form) (n : ℕ) → n ≡ getD (row F) 0 0 → n ≡ 3 → eqb b 0 ≡ dangles P b F
+  method-line F n e is = sym (rw is at (by-number F n e))
+
+  pub spawn-line : (F : Form) (n : ℕ) → n ≡ getD (row F) 0 0 → n ≡ 11 → not (isSort P thread (getD (row F) 1 0)) ≡ dangles P b F
+  spawn-line F n e is = sym (rw is at (by-number F n e))
+
+  pub other-line : (F : Form) (n : ℕ) → n ≡ getD (row F) 0 0 → (n ≡ 1 → ⊥) → (n ≡ 3 → ⊥) → (n ≡ 9 → ⊥) → (n ≡ 11 → ⊥) → false ≡ dangles P b F
+  other-line F n e no-kind no-method no-new no-spawn =
+      sym (rw (ne-eqb n 1 no-kind, ne-eqb n 3 no-method, ne-eqb n 9 no-new, ne-eqb n 11 no-spawn) at (by-number F n e))
+
+  module _ (F : Form) (small : overLine F ≡ false) (new-there : getD (row F) 0 0 ≡ 9) (i : ℕ) (kind-is : i ≡ getD (row F) 2 0) where
+    new-line : dangles P b F ≡ not (ltb i (length (P .kinds)) && eqb (operandCount (row F)) (kindAt P i .fields))
+    new-line = rw kind-is (subst (λ n. Told n F) new-there (told F) small)
+
+    pub no-such-kind : length (P .kinds) ≤ i → true ≡ dangles P b F
+    no-such-kind h = sym (rw (le-ltb i (length (P .kinds)) h) at new-line)
+
+    pub fields-given : (fields w x y z : ℕ) → i < length (P .kinds) → fields ≡ kindAt P i .fields
+        → w ≡ given (getD (row F) 3 0) → x ≡ given (getD (row F) 4 0) → y ≡ given (getD (row F) 5 0) → z ≡ given (getD (row F) 6 0)
+        → not (eqb fields (w + x + y + z)) ≡ dangles P b F
+    fields-given fields w x y z h ef ew ex ey ez =
+        rw (ef, ew, ex, ey, ez, eqb-sym (kindAt P i .fields) (operandCount (row F)))
+        (sym (rw (lt-ltb i (length (P .kinds)) h) at new-line))
+
+-- a thread or a method opens a block
+opened-told : (F : Form) (b : ℕ) → cond (ltb (getD (row F) 0 0) 2) b (cond (ltb (getD (row F) 0 0) 4) (b + 1) b) ≡ opened F b
+unfolding row lineWords pad opened
+opened-told (kind K) b = refl
+opened-told (opens thread) b = add-one b
+opened-told (opens method) b = add-one b
+opened-told (line (give w)) b = refl
+opened-told (line (bind (value w))) b = refl
+opened-told (line (bind (field s f))) b = refl
+opened-told (line (bind (swap s f w))) b = refl
+opened-told (line (bind (call s i w))) b = refl
+opened-told (line (bind (new k i ws))) b = refl
+opened-told (line (bind (cast k w))) b = refl
+opened-told (line (bind (spawn i))) b = refl
+opened-told (line (bind (send s w))) b = refl
+opened-told (line (bind (recv s))) b = refl
+
+pub opened-by-number : (F : Form) (b n : ℕ) → n ≡ getD (row F) 0 0 → cond (ltb n 2) b (cond (ltb n 4) (b + 1) b) ≡ opened F b
+opened-by-number F b n e = rw e (opened-told F b)
+
+-- ---- A table's lines
+
+module _ {t : List ℕ} {P : Program} (table : Table t P) where
+  pub small-line : (n : ℕ) → n < length (linesOf P) → overLine (formAt P n) ≡ false
+  small-line n h = every-at (λ F. overLine F ≡ false) (linesOf P) n noForm h (table .small)
+
+  pub line-word-is : {n k r : ℕ} → LineWord t n k r → n < length (linesOf P) → r ≡ getD (row (formAt P n)) k 0
+  line-word-is word h = word .is (table .counts) (table .rest) (linesOf P) (table .filled) h
+
+  few-methods : (n : ℕ) → n < length (P .kinds) → length (kindAt P n .methods) ≤ Most.methods
+  unfolding overLine
+  few-methods n h =
+      let K = kindAt P n in
+      let small : overLine (kind K) ≡ false = rw (kind-stands P n h) at (small-line n (kind-there P n h)) in
+      let after = or-false (ltb Most.fields (K .fields)) (ltb Most.methods (length (K .methods)) || over255 (kind K)) small in
+      ltb-false Most.methods (length (K .methods)) (or-false (ltb Most.methods (length (K .methods))) (over255 (kind K)) (after .1) .0)
+
+  -- a kind's methods, asked for one after the other
+  pub any-method : (n : ℕ) → n < length (P .kinds) → (a b c d : Bool)
+      → a ≡ passesAt (noMethod P) (kindAt P n .methods) 0 → b ≡ passesAt (noMethod P) (kindAt P n .methods) 1
+      → c ≡ passesAt (noMethod P) (kindAt P n .methods) 2 → d ≡ passesAt (noMethod P) (kindAt P n .methods) 3
+      → (a || (b || (c || d))) ≡ any (noMethod P) (kindAt P n .methods)
+  any-method n h a b c d ea eb ec ed = rw (ea, eb, ec, ed) (four-asked (noMethod P) (kindAt P n .methods) (few-methods n h))
+
+-- a kind in line n is kind n
+pub kind-line : (P : Program) (n form : ℕ) → form ≡ getD (row (formAt P n)) 0 0 → form ≡ 1 → n < length (P .kinds)
+unfolding linesOf
+kind-line P n form e is =
+    let (K, here) : (K : Kind) × (formAt P n ≡ kind K) = rw is at (by-number P 0 (formAt P n) form e) in
+    kind-among-kinds (P .kinds) (blockLines (P .blocks)) n K (no-kind-in-blocks (P .blocks)) here
+
+pub kind-line-dangles : (P : Program) (b n : ℕ) → n < length (P .kinds) → any (noMethod P) (kindAt P n .methods) ≡ dangles P b (formAt P n)
+unfolding dangles
+kind-line-dangles P b n h = ap (dangles P b) (sym (kind-stands P n h))
+
+-- ---- The walk
+
+-- before line n, b blocks are opened and no line dangled
+pub record LinkedTo (t : List ℕ) (kinds blocks lines b n : ℕ) : Type 0 where
+  pub is : (P : Program) → Table t P → kinds ≡ length (P .kinds) → blocks ≡ length (P .blocks) → lines ≡ length (linesOf P)
+      → link P 0 0 (linesOf P) ≡ link P b n (drop n (linesOf P))
+
+pub at-first-line : (t : List ℕ) (kinds blocks lines : ℕ) → LinkedTo t kinds blocks lines 0 0
+at-first-line t kinds blocks lines = record { is = λ P table k l m. refl }
+
+one-line : (P : Program) (b n : ℕ) → n < length (linesOf P)
+    → link P b n (drop n (linesOf P)) ≡ cond (dangles P b (formAt P n)) (turnedAway No.dangling n) (link P (opened (formAt P n) b) (suc n) (drop (suc n) (linesOf P)))
+unfolding link
+one-line P b n h = ap (link P b n) (drop-cons (linesOf P) n noForm h)
+
+no-line : (P : Program) (b n : ℕ) → length (linesOf P) ≤ n → link P b n (drop n (linesOf P)) ≡ accepted P
+unfolding link
+no-line P b n h = ap (link P b n) (drop-of-length-le (linesOf P) h)
+
+module _ {t : List ℕ} {kinds blocks lines b n : ℕ} (so-far : LinkedTo t kinds blocks lines b n) where
+  pub line-found : {r : Bool} → LineDangles t kinds blocks b n r → r ≡ true → n < lines → FirstDangling t kinds blocks lines n
+  line-found tells e h = record {
+    is = λ P table k l m.
+        so-far .is P table k l m ∙ one-line P b n (rw m at h) ∙ rw (sym (tells .is P table k l (rw m at h)) ∙ e, lt-ltb n lines h);
+  }
+
+  pub line-passed : {r : Bool} {b′ : ℕ} → LineDangles t kinds blocks b n r → r ≡ false → BlocksAfter t b n b′ → n < lines → LinkedTo t kinds blocks lines b′ (n + 1)
+  line-passed tells e after h = record {
+    is = λ P table k l m.
+        so-far .is P table k l m ∙ one-line P b n (rw m at h)
+        ∙ rw (sym (tells .is P table k l (rw m at h)) ∙ e, add-one n, after .is P table (rw m at h));
+  }
+
+  pub no-line-left : lines ≤ n → FirstDangling t kinds blocks lines n
+  no-line-left h = record { is = λ P table k l m. so-far .is P table k l m ∙ no-line P b n (rw m at h) ∙ rw (le-ltb n lines h) }

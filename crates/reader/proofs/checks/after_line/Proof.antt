@@ -1,0 +1,77 @@
+-- The number of a form says its sort, and with it what the line adds; an opener starts the count of slots, a let adds one.
+use native.Mathlib.Omega.{arith}
+use mathlib.Core.Path.{refl}
+use borrow.Author.Needs.{needs}
+use Rattle.rules.specs.Reading.{slotsFilled, readOn}
+use Rattle.reader.proofs.LineChecks.{told, is-kind, is-thread, is-method, is-give, is-let, let-goes-on, tidy-let}
+use Rattle.reader.proofs.checks.after_line.Statement.{statement}
+use Rattle.reader.proofs.checks.after_line.Tie as tie
+
+add-next : tie.Need-add-next
+add-next c = search needs
+
+add-next-2 : tie.Need-add-next-2
+add-next-2 c = search needs
+
+add-next-3 : tie.Need-add-next-3
+add-next-3 c = search needs
+
+add-next-4 : tie.Need-add-next-4
+add-next-4 c = search needs
+
+add-next-5 : tie.Need-add-next-5
+add-next-5 c = search needs
+
+returns : tie.Need-returns
+unfolding readOn
+returns c = record {
+  is = λ F e. let (K, k) = is-kind F (told F e) (c .before .match .keys1) in rw k;
+  tidy = λ m F e t placed free. record { filled = t .filled; bounded = t .bounded };
+}
+
+returns-2 : tie.Need-returns-2
+unfolding readOn slotsFilled
+returns-2 c = record {
+  is = λ F e. rw (is-thread F (told F e) (c .before .match .keys2));
+  tidy = λ m F e t placed free. record { filled = refl; bounded = omega arith };
+}
+
+returns-3 : tie.Need-returns-3
+unfolding readOn slotsFilled
+returns-3 c = record {
+  is = λ F e. rw (is-method F (told F e) (c .before .match .keys3));
+  tidy = λ m F e t placed free. record { filled = refl; bounded = omega arith };
+}
+
+returns-4 : tie.Need-returns-4
+unfolding readOn slotsFilled
+returns-4 c = record {
+  is = λ F e. let (w, k) = is-give F (told F e) (c .match .keys4) in rw k;
+  tidy = λ m F e t placed free. record { filled = refl; bounded = omega arith };
+}
+
+returns-5 : tie.Need-returns-5
+returns-5 c =
+    let other = c .before .before .match .rest in
+    let r = c .before .before .before .args .r in
+    record {
+      is = λ F e. let (x, k) = is-let F (told F e) (other .0 .0 .0 .1) (λ a b. omega (arith, other .0 .0 .1, other .0 .1)) (other .1) in rw k (let-goes-on r x);
+      tidy = λ m F e t placed free.
+          let (x, k) = is-let F (told F e) (other .0 .0 .0 .1) (λ a b. omega (arith, other .0 .0 .1, other .0 .1)) (other .1) in
+          tidy-let m r x t (rw k at placed) (rw k at free);
+    }
+
+pub after-line-spec : {M : Type 1} → statement M
+after-line-spec =
+    tie.close
+    (tie.spec
+    add-next
+    add-next-2
+    add-next-3
+    add-next-4
+    add-next-5
+    returns
+    returns-2
+    returns-3
+    returns-4
+    returns-5)

@@ -1,0 +1,86 @@
+-- `reader::linking::line_dangles` meets its contract: only kinds, methods, news and spawns can dangle, and a kind in line n is kind n.
+use mathlib.Core.Path.{refl, sym, ap, _∙_}
+use mathlib.Core.Bool.{not}
+use Rattle.rules.specs.Script.{thread}
+use Rattle.rules.specs.Reading.{isSort}
+use Rattle.reader.specs.Linking.{formAt}
+use Rattle.reader.proofs.Links.{method-line, spawn-line, other-line, line-word-is, kind-line, kind-line-dangles}
+use borrow.Author.Needs.{needs}
+use Rattle.reader.proofs.linking.line_dangles.Statement.{statement}
+use Rattle.reader.proofs.linking.line_dangles.Tie as tie
+
+line-word-requires : tie.Need-line-word-requires
+line-word-requires c κs = search needs
+
+kind-dangles-requires : tie.Need-kind-dangles-requires
+kind-dangles-requires c κs = search needs
+
+new-dangles-requires : tie.Need-new-dangles-requires
+new-dangles-requires c κs = search needs
+
+line-word-requires-2 : tie.Need-line-word-requires-2
+line-word-requires-2 c κs = search needs
+
+cast-is-sort : tie.Need-cast-is-sort
+cast-is-sort c = search needs
+
+is-sort-requires : tie.Need-is-sort-requires
+is-sort-requires c κs = search needs
+
+returns : tie.Need-returns
+returns c =
+    let a = c .before .before .before .before .args in
+    let word = c .before .before .line-word in
+    record {
+      is = λ P table k l h.
+          let at = kind-line P (a .n) (word .result) (line-word-is table (word .ensures .1) h) (c .before .match .keys1) in
+          c .kind-dangles .ensures .is P table l at ∙ kind-line-dangles P (a .b) (a .n) at;
+    }
+
+returns-2 : tie.Need-returns-2
+returns-2 c =
+    let a = c .before .before .before .args in
+    let word = c .before .line-word in
+    record { is = λ P table k l h. method-line P (a .b) (formAt P (a .n)) (word .result) (line-word-is table (word .ensures .1) h) (c .match .keys2) }
+
+returns-3 : tie.Need-returns-3
+returns-3 c =
+    let a = c .before .before .before .before .args in
+    let word = c .before .before .line-word in
+    record { is = λ P table k l h. c .new-dangles .ensures .is P (a .b) table k h (sym (line-word-is table (word .ensures .1) h) ∙ c .before .match .keys3) }
+
+returns-4 : tie.Need-returns-4
+returns-4 c =
+    let a = c .before .before .before .before .before .args in
+    let word = c .before .before .before .line-word in
+    record {
+      is = λ P table k l h.
+          ap not (c .is-sort .ensures .is P thread table l refl ∙ ap (isSort P thread) (line-word-is table (c .before .line-word2 .ensures .1) h))
+          ∙ spawn-line P (a .b) (formAt P (a .n)) (word .result) (line-word-is table (word .ensures .1) h) (c .before .before .match .keys4);
+    }
+
+returns-5 : tie.Need-returns-5
+returns-5 c =
+    let a = c .before .before .before .args in
+    let word = c .before .line-word in
+    let others = c .match .rest in
+    record {
+      is = λ P table k l h.
+          other-line P (a .b) (formAt P (a .n)) (word .result) (line-word-is table (word .ensures .1) h) (others .0 .0 .0 .1) (others .0 .0 .1) (others .0 .1) (others .1);
+    }
+
+pub line-dangles-spec : {M : Type 1} → statement M
+line-dangles-spec =
+    tie.close
+    (tie.spec
+    line-word-requires
+    kind-dangles-requires
+    new-dangles-requires
+    line-word-requires-2
+    cast-is-sort
+    is-sort-requires
+    returns
+    returns-2
+    returns-3
+    returns-4
+    returns-5)

@@ -1,0 +1,49 @@
+-- The scan of all lines, as the code's answer and the table that it fills.
+use Prim.Native.Nat.{ℕ, _≤_}
+use mathlib.Core.Path.{_≡_}
+use mathlib.Core.Bool.{false}
+use mathlib.Core.List.{List, [], _∷_, _++_}
+use lib.ListN.{length}
+use Rattle.rules.specs.declared.Mosts.{Mosts}
+use Rattle.rules.specs.Mosts.{mosts}
+use Rattle.rules.specs.Text.{lines}
+use Rattle.rules.specs.Script.{Form, kindsOf, blocksOf}
+use Rattle.rules.specs.Reading as R
+use Rattle.rules.specs.Reading.{faulty, scanned}
+use Rattle.grammar.specs.declared.forms.Line.{Line}
+use Rattle.grammar.specs.Decoded.{Tells}
+use Rattle.table.specs.Program.{Filled}
+use Rattle.reader.specs.declared.checks.Sofar.{Sofar}
+use Rattle.reader.specs.declared.scanning.Scan.{Scan}
+use Rattle.reader.specs.declared.scanning.Scan.the-variants.{Fault, Done}
+use Rattle.reader.specs.Sofar.{soFar}
+
+-- line n is written, after b blocks
+pub record Put (n b : ℕ) (l : Line) (t t′ : List ℕ) : Type 0 where
+  pub added : (counts rest : List ℕ) (Fs : List Form) (F : Form) → Filled t counts Fs rest → n ≡ length Fs → b ≡ length (blocksOf Fs)
+      → Tells l F → l .over ≡ false → length (blocksOf (Fs ++ (F ∷ []))) ≤ mosts .blocks → Filled t′ counts (Fs ++ (F ∷ [])) rest
+
+-- after the last line
+abbrev pub Finished : R.Sofar → ℕ → Scan → Type 0
+Finished r n (Fault k l) = R.finish r n ≡ faulty k l
+Finished r n (Done kinds blocks l) = (R.finish r n ≡ scanned []) × (kinds ≡ r .kinds) × (blocks ≡ r .blocks) × (l ≡ n)
+
+pub record Finishes (r : Sofar) (n : ℕ) (s : Scan) : Type 0 where
+  pub is : Finished (soFar r) n s
+
+-- the scan that the definition gives; where it has no fault, the table holds its lines
+pub record Done-with (m : Mosts) (text : List ℕ) (kinds blocks lineCount : ℕ) (rest t : List ℕ) : Type 0 where
+  pub forms : List Form
+  pub scans : R.scan m R.nothing 0 (lines text) ≡ scanned forms
+  pub kinds-count : kinds ≡ length (kindsOf forms)
+  pub blocks-count : blocks ≡ length (blocksOf forms)
+  pub line-count : lineCount ≡ length forms
+  pub few-kinds : kinds ≤ m .kinds
+  pub filled : Filled t [] forms rest
+
+abbrev pub ScansTo : Mosts → List ℕ → Scan → List ℕ → List ℕ → Type 0
+ScansTo m text (Fault k n) rest t = R.scan m R.nothing 0 (lines text) ≡ faulty k n
+ScansTo m text (Done kinds blocks n) rest t = Done-with m text kinds blocks n rest t
+
+pub record Scans (m : Mosts) (text t : List ℕ) (s : Scan) (t′ : List ℕ) : Type 0 where
+  pub is : (rest : List ℕ) → Filled t [] [] rest → ScansTo m text s rest t′

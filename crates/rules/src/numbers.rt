@@ -1,0 +1,20 @@
+// The numbers of document 01's "Turning away", for the code. (The definitions have theirs in specs/Numbers; the contracts hold them together.)
+
+// text or turns too long
+pub const OVERLONG: u16 = 1;
+// a byte outside the list
+pub const STRAY_BYTE: u16 = 2;
+// not a form, out of its place, or without its LF
+pub const MALFORMED: u16 = 3;
+// a most, or 255, exceeded
+pub const OVER_COUNT: u16 = 4;
+// slot not yet filled in its block
+pub const UNBOUND: u16 = 5;
+// take of slot 0 in a method
+pub const SELF_TAKEN: u16 = 6;
+// no block, or the last one open
+pub const UNFINISHED: u16 = 7;
+// no such kind or block, wrong sort of block, operands unlike the kind's fields, block 0 not a thread
+pub const DANGLING: u16 = 8;
+// a lent table or list under its length
+pub const SHORT_TABLE: u16 = 9;

@@ -1,0 +1,190 @@
+-- The program table's words: where each part stands, and what a write of a line, of an opener or of the counts makes of the table.
+use Prim.Native.Nat.{ℕ, suc, _+_, _*_, _≤_, _<_}
+use native.Mathlib.Nat.{add-zero, zero-add, suc-add, add-suc}
+use native.Mathlib.Numerals.{add-one}
+use native.Mathlib.Omega.{arith}
+use mathlib.Core.Path.{_≡_, refl, sym, ap, _∙_}
+use mathlib.Core.List.{List, [], _∷_, _++_, append-assoc, append-nil}
+use lib.ListN.{length, getD, set, take, drop, length-append, length-set, List·getD-append}
+use lib.Seq.{set-append-left, sets-eq}
+use Rattle.rules.specs.Mosts as Most
+use Rattle.rules.specs.Mosts.{mosts}
+use Rattle.rules.specs.Lists.{pad, cells}
+use Rattle.rules.specs.Script.{Sort, thread, method, Form, kind, opens, line, blocksOf, Program, linesOf}
+use Rattle.rules.specs.Tables.{lineWords, row, firstLines, usedProgramWords, programWords}
+use Rattle.rules.proofs.ListLaws.{length-snoc, length-pad, length-cells, get-past, set-past, get-cell, cells-snoc, get-pad, set-pad, pad-more, pad-snoc}
+use Rattle.table.specs.Program.{lineTable, Filled, noForm, sortNumber}
+
+-- eight words written one after the other
+pub eight-set : {A : Type 0} (t : List A) (p : ℕ) (a b c d e f g h : A) → p + 8 ≤ length t
+    → set (set (set (set (set (set (set (set t p a) (p + 1) b) (p + 2) c) (p + 3) d) (p + 4) e) (p + 5) f) (p + 6) g) (p + 7) h
+    ≡ take p t ++ ((a ∷ b ∷ c ∷ d ∷ e ∷ f ∷ g ∷ h ∷ []) ++ drop (p + 8) t)
+eight-set t p a b c d e f g h l =
+    rw (add-suc p 6, add-suc p 5, add-suc p 4, add-suc p 3, add-suc p 2, add-suc p 1, add-one p)
+    (sets-eq (a ∷ b ∷ c ∷ d ∷ e ∷ f ∷ g ∷ h ∷ []) t p l ∙ append-assoc (take p t) _ _)
+
+-- ---- The parts of the table
+
+-- the words before the zeros at the end
+unfoldable usedWords : List ℕ → List Form → List ℕ
+usedWords counts Fs = pad 8 0 counts ++ (pad (mosts .blocks) 0 (firstLines 0 Fs) ++ cells row Fs)
+
+row-length : (F : Form) → length (row F) ≡ 8
+unfolding row
+row-length F = length-pad 8 0 (lineWords F)
+
+pub opener-row : (o : Sort) → sortNumber o ∷ 0 ∷ 0 ∷ 0 ∷ 0 ∷ 0 ∷ 0 ∷ 0 ∷ [] ≡ row (opens o)
+unfolding row lineWords pad
+opener-row thread = refl
+opener-row method = refl
+
+used-length : (counts : List ℕ) (Fs : List Form) → length (usedWords counts Fs) ≡ 72 + length Fs * 8
+unfolding usedWords
+used-length counts Fs = simp (length-append, length-pad, length-cells row 8 row-length) (omega arith)
+
+-- the zeros at the end are made up
+table-is : (counts : List ℕ) (Fs : List Form) → lineTable counts Fs ≡ pad Most.words 0 (usedWords counts Fs)
+unfolding lineTable usedWords
+table-is counts Fs = refl
+
+table-words : {t counts rest : List ℕ} {Fs : List Form} → Filled t counts Fs rest → t ≡ pad Most.words 0 (usedWords counts Fs) ++ rest
+table-words {counts} {rest} {Fs} filled = filled .words ∙ ap (λ l. l ++ rest) (table-is counts Fs)
+
+pub program-words-by-lines : (P : Program) → programWords P ≡ lineTable (length (P .kinds) ∷ length (P .blocks) ∷ length (linesOf P) ∷ []) (linesOf P)
+unfolding programWords usedProgramWords lineTable
+program-words-by-lines P = refl
+
+-- ---- The first lines of blocks
+
+pub first-lines-append : (n : ℕ) (Fs Gs : List Form) → firstLines n (Fs ++ Gs) ≡ firstLines n Fs ++ firstLines (n + length Fs) Gs
+unfolding firstLines
+first-lines-append n [] Gs = rw (add-zero n)
+first-lines-append n (kind K ∷ Fs) Gs = rw (add-suc n (length Fs), ← suc-add n (length Fs)) (first-lines-append (suc n) Fs Gs)
+first-lines-append n (opens o ∷ Fs) Gs = rw (add-suc n (length Fs), ← suc-add n (length Fs)) (ap (suc n ∷_) (first-lines-append (suc n) Fs Gs))
+first-lines-append n (line x ∷ Fs) Gs = rw (add-suc n (length Fs), ← suc-add n (length Fs)) (first-lines-append (suc n) Fs Gs)
+
+-- one for each block
+pub first-lines-length : (n : ℕ) (Fs : List Form) → length (firstLines n Fs) ≡ length (blocksOf Fs)
+unfolding firstLines blocksOf
+first-lines-length n [] = refl
+first-lines-length n (kind K ∷ Fs) = first-lines-length (suc n) Fs
+first-lines-length n (opens o ∷ Fs) = ap suc (first-lines-length (suc n) Fs)
+first-lines-length n (line x ∷ Fs) = first-lines-length (suc n) Fs
+
+-- a line more is a block more where it has a first line
+pub blocks-more : (Fs : List Form) (F : Form) → length (blocksOf (Fs ++ (F ∷ []))) ≡ length (blocksOf Fs) + length (firstLines (length Fs) (F ∷ []))
+blocks-more Fs F =
+    sym (first-lines-length 0 (Fs ++ (F ∷ []))) ∙ ap length (first-lines-append 0 Fs (F ∷ [])) ∙ length-append (firstLines 0 Fs) _
+    ∙ rw (first-lines-length 0 Fs, zero-add (length Fs))
+
+-- ---- Reading
+
+module _ {t counts rest : List ℕ} {Fs : List Form} (filled : Filled t counts Fs rest) where
+  used-word : (i : ℕ) → i < Most.words → getD t i 0 ≡ getD (usedWords counts Fs) i 0
+  used-word i h =
+      ap (λ l. getD l i 0) (table-words filled)
+      ∙ List·getD-append (pad Most.words 0 (usedWords counts Fs)) rest 0 i (rw (length-pad Most.words 0 (usedWords counts Fs)) h)
+      ∙ get-pad Most.words 0 (usedWords counts Fs) i h
+
+  -- word k of line n
+  pub line-word-is : (n k i : ℕ) → n < length Fs → k < 8 → i ≡ 72 + n * 8 + k → getD t i 0 ≡ getD (row (getD Fs n noForm)) k 0
+  unfolding usedWords
+  line-word-is n k i h l e =
+      let place : i ≡ 8 + (64 + (n * 8 + k)) = omega arith in
+      used-word i (omega (arith, filled .lines)) ∙ ap (λ j. getD (usedWords counts Fs) j 0) place
+      ∙ get-past (pad 8 0 counts) _ 8 (64 + (n * 8 + k)) 0 (length-pad 8 0 counts)
+      ∙ get-past (pad (mosts .blocks) 0 (firstLines 0 Fs)) _ 64 (n * 8 + k) 0 (length-pad (mosts .blocks) 0 (firstLines 0 Fs))
+      ∙ get-cell row 8 row-length Fs noForm n k h l
+
+  pub first-line-is : (b : ℕ) → b < mosts .blocks → getD t (8 + b) 0 ≡ getD (firstLines 0 Fs) b 0
+  unfolding usedWords
+  first-line-is b h =
+      used-word (8 + b) (omega arith)
+      ∙ get-past (pad 8 0 counts) _ 8 b 0 (length-pad 8 0 counts)
+      ∙ List·getD-append (pad (mosts .blocks) 0 (firstLines 0 Fs)) (cells row Fs) 0 b (rw (length-pad (mosts .blocks) 0 (firstLines 0 Fs)) h)
+      ∙ get-pad (mosts .blocks) 0 (firstLines 0 Fs) b h
+
+-- ---- Writing
+
+-- the words with a line more: those before it and its own
+line-more : (counts : List ℕ) (Fs : List Form) (F : Form) → firstLines (length Fs) (F ∷ []) ≡ [] → usedWords counts Fs ++ row F ≡ usedWords counts (Fs ++ (F ∷ []))
+unfolding usedWords
+line-more counts Fs F none =
+    let firsts : firstLines 0 (Fs ++ (F ∷ [])) ≡ firstLines 0 Fs =
+    first-lines-append 0 Fs (F ∷ []) ∙ rw (zero-add (length Fs), none) (append-nil (firstLines 0 Fs)) in
+    rw (firsts, cells-snoc row Fs F) (simp append-assoc)
+
+-- and where it opens a block, the block's first line
+opener-more : (counts : List ℕ) (Fs : List Form) (o : Sort) → length (blocksOf Fs) < mosts .blocks
+    → set (usedWords counts Fs ++ row (opens o)) (8 + length (blocksOf Fs)) (length Fs + 1) ≡ usedWords counts (Fs ++ (opens o ∷ []))
+unfolding usedWords firstLines
+opener-more counts Fs o few =
+    let one-each = first-lines-length 0 Fs in
+    let head = pad 8 0 counts in
+    let firsts = pad (mosts .blocks) 0 (firstLines 0 Fs) in
+    let written : set firsts (length (blocksOf Fs)) (length Fs + 1) ≡ pad (mosts .blocks) 0 (firstLines 0 (Fs ++ (opens o ∷ []))) =
+    rw (← one-each, ← pad-snoc (mosts .blocks) 0 (firstLines 0 Fs) _ (length Fs + 1) refl (omega arith), first-lines-append 0 Fs (opens o ∷ []), zero-add (length Fs), add-one (length Fs)) in
+    ap (λ l. set l (8 + length (blocksOf Fs)) (length Fs + 1)) (append-assoc head _ (row (opens o)) ∙ ap (head ++_) (append-assoc firsts (cells row Fs) (row (opens o))))
+    ∙ set-past head _ 8 (length (blocksOf Fs)) (length Fs + 1) (length-pad 8 0 counts)
+    ∙ ap (head ++_) (set-append-left firsts _ (length (blocksOf Fs)) (length Fs + 1) (rw (length-pad (mosts .blocks) 0 (firstLines 0 Fs)) few))
+    ∙ rw (written, cells-snoc row Fs (opens o))
+
+-- a word in use is written
+used-set : (us rest : List ℕ) (i v : ℕ) → length us ≤ Most.words → i < length us → set (pad Most.words 0 us ++ rest) i v ≡ pad Most.words 0 (set us i v) ++ rest
+used-set us rest i v few h =
+    set-append-left (pad Most.words 0 us) rest i v (omega (arith, length-pad Most.words 0 us)) ∙ ap (λ l. l ++ rest) (set-pad Most.words 0 us i v h few)
+
+counts-more : (Fs : List Form) (kinds blocks lines : ℕ) → set (set (set (usedWords [] Fs) 0 kinds) 1 blocks) 2 lines ≡ usedWords (kinds ∷ blocks ∷ lines ∷ []) Fs
+unfolding usedWords pad
+counts-more Fs kinds blocks lines = refl
+
+module _ {t counts rest : List ℕ} {Fs : List Form} (filled : Filled t counts Fs rest) (n : ℕ) (here : n ≡ length Fs) (room : n < 672) where
+  line-written : (F : Form) (words : List ℕ) → words ≡ row F
+      → take (72 + n * 8) t ++ (words ++ drop (80 + n * 8) t) ≡ pad Most.words 0 (usedWords counts Fs ++ row F) ++ rest
+  line-written F words same =
+      ap (λ (l : List ℕ). take (72 + n * 8) t ++ (l ++ drop (80 + n * 8) t)) same
+      ∙ ap (λ (l : List ℕ). take (72 + n * 8) l ++ (row F ++ drop (80 + n * 8) l)) (table-words filled)
+      ∙ pad-more Most.words 0 (usedWords counts Fs) (row F) rest (72 + n * 8) (80 + n * 8) (omega (arith, used-length counts Fs)) (omega (arith, row-length F)) (omega arith)
+
+  pub line-added : (F : Form) (words t′ : List ℕ) → t′ ≡ take (72 + n * 8) t ++ (words ++ drop (80 + n * 8) t) → words ≡ row F → firstLines n (F ∷ []) ≡ []
+      → Filled t′ counts (Fs ++ (F ∷ [])) rest
+  line-added F words t′ e same none =
+      let no-first : firstLines (length Fs) (F ∷ []) ≡ [] = rw here at none in
+      record {
+        words = e ∙ line-written F words same ∙ rw (line-more counts Fs F no-first, table-is counts (Fs ++ (F ∷ [])));
+        lines = omega (arith, length-snoc Fs F);
+        blocks = omega (arith, blocks-more Fs F, ap length no-first, filled .blocks);
+      }
+
+  pub opener-added : (o : Sort) (b form : ℕ) (t′ : List ℕ)
+      → t′ ≡ set (take (72 + n * 8) t ++ ((form ∷ 0 ∷ 0 ∷ 0 ∷ 0 ∷ 0 ∷ 0 ∷ 0 ∷ []) ++ drop (80 + n * 8) t)) (8 + b) (n + 1)
+      → b ≡ length (blocksOf Fs) → b < mosts .blocks → form ≡ sortNumber o → Filled t′ counts (Fs ++ (opens o ∷ [])) rest
+  unfolding firstLines
+  opener-added o b form t′ e next few same =
+      let used : List ℕ = usedWords counts Fs ++ row (opens o) in
+      let long : length used ≡ 80 + length Fs * 8 = omega (arith, length-append (usedWords counts Fs) (row (opens o)), used-length counts Fs, row-length (opens o)) in
+      let written : set used (8 + b) (n + 1) ≡ usedWords counts (Fs ++ (opens o ∷ [])) = rw (next, here) (opener-more counts Fs o (omega arith)) in
+      record {
+        words =
+            e ∙ ap (λ l. set l (8 + b) (n + 1)) (line-written (opens o) _ (ap (λ w. w ∷ 0 ∷ 0 ∷ 0 ∷ 0 ∷ 0 ∷ 0 ∷ 0 ∷ []) same ∙ opener-row o)) ∙ used-set used rest (8 + b) (n + 1) (omega arith) (omega arith)
+            ∙ rw (written, table-is counts (Fs ++ (opens o ∷ [])));
+        lines = omega (arith, length-snoc Fs (opens o));
+        blocks = omega (arith, blocks-more Fs (opens o));
+      }
+
+pub counts-added : {t rest : List ℕ} {Fs : List Form} → Filled t [] Fs rest → (kinds blocks lines : ℕ) (t′ : List ℕ)
+    → t′ ≡ set (set (set t 0 kinds) 1 blocks) 2 lines → Filled t′ (kinds ∷ blocks ∷ lines ∷ []) Fs rest
+counts-added {t} {rest} {Fs} filled kinds blocks lines t′ e =
+    let used : List ℕ = usedWords [] Fs in
+    let long : length used ≡ 72 + length Fs * 8 = used-length [] Fs in
+    let few = filled .lines in
+    record {
+      words =
+          e ∙ ap (λ l. set (set (set l 0 kinds) 1 blocks) 2 lines) (table-words filled)
+          ∙ ap (λ l. set (set l 1 blocks) 2 lines) (used-set used rest 0 kinds (omega arith) (omega arith))
+          ∙ ap (λ l. set l 2 lines) (used-set (set used 0 kinds) rest 1 blocks (simp length-set (omega arith)) (simp length-set (omega arith)))
+          ∙ used-set (set (set used 0 kinds) 1 blocks) rest 2 lines (simp length-set (omega arith)) (simp length-set (omega arith))
+          ∙ rw (counts-more Fs kinds blocks lines, table-is (kinds ∷ blocks ∷ lines ∷ []) Fs);
+      lines = filled .lines;
+      blocks = filled .blocks;
+    }

@@ -1,0 +1,2 @@
+-- What the accessors say of the abstract program and state.
+pub mod Program

@@ -1,0 +1,64 @@
+-- The program table by its lines, while it is filled and when it is full; and what each accessor says of the abstract program.
+use Prim.Native.Nat.{ℕ, suc, _+_, _≤_, _<_}
+use mathlib.Core.Path.{_≡_}
+use mathlib.Core.List.{List, [], _∷_, _++_, map}
+use lib.ListN.{length, getD}
+use Rattle.rules.specs.Mosts as Most
+use Rattle.rules.specs.Mosts.{mosts}
+use Rattle.rules.specs.Lists.{pad, cells}
+use Rattle.rules.specs.Script.{Sort, thread, method, Form, opens, line, blocksOf, Program, linesOf, kindAt, blockAt, lineAt, noBlock}
+use Rattle.rules.specs.Tables.{row, firstLines}
+
+-- counts, first lines of blocks, lines; `programWords P` has its counts and the lines of P
+unfoldable pub lineTable : (counts : List ℕ) → List Form → List ℕ
+lineTable counts Fs = pad Most.words 0 (pad 8 0 counts ++ (pad (mosts .blocks) 0 (firstLines 0 Fs) ++ cells row Fs))
+
+-- a table that holds these lines; `rest` stands past its 8,192 words
+pub record Filled (t counts : List ℕ) (Fs : List Form) (rest : List ℕ) : Type 0 where
+  pub words : t ≡ lineTable counts Fs ++ rest
+  pub lines : length Fs ≤ 672
+  pub blocks : length (blocksOf Fs) ≤ mosts .blocks
+
+-- what is asked for past the end is never used
+abbrev pub noForm : Form
+noForm = opens thread
+
+abbrev pub sortNumber : Sort → ℕ
+sortNumber thread = 2
+sortNumber method = 3
+
+-- line n is written, and opens no block
+pub record LineAdded (n : ℕ) (words t t′ : List ℕ) : Type 0 where
+  pub added : (counts rest : List ℕ) (Fs : List Form) (F : Form) → Filled t counts Fs rest → n ≡ length Fs → n < 672
+      → words ≡ row F → firstLines n (F ∷ []) ≡ [] → Filled t′ counts (Fs ++ (F ∷ [])) rest
+
+-- line n is written, and opens block b
+pub record OpenerAdded (n b form : ℕ) (t t′ : List ℕ) : Type 0 where
+  pub added : (counts rest : List ℕ) (Fs : List Form) (o : Sort) → Filled t counts Fs rest → n ≡ length Fs → n < 672
+      → b ≡ length (blocksOf Fs) → b < mosts .blocks → form ≡ sortNumber o → Filled t′ counts (Fs ++ (opens o ∷ [])) rest
+
+-- the counts are written
+pub record Counted (kinds blocks lines : ℕ) (t t′ : List ℕ) : Type 0 where
+  pub counted : (rest : List ℕ) (Fs : List Form) → Filled t [] Fs rest → Filled t′ (kinds ∷ blocks ∷ lines ∷ []) Fs rest
+
+-- by lines of the text
+pub record LineWord (t : List ℕ) (n k r : ℕ) : Type 0 where
+  pub is : (counts rest : List ℕ) (Fs : List Form) → Filled t counts Fs rest → n < length Fs → r ≡ getD (row (getD Fs n noForm)) k 0
+
+pub record BlockForm (t : List ℕ) (b r : ℕ) : Type 0 where
+  pub is : (counts rest : List ℕ) (Fs : List Form) → Filled t counts Fs rest → b < length (blocksOf Fs) → r ≡ sortNumber (getD (blocksOf Fs) b noBlock .sort)
+
+-- by the program
+pub record FirstLine (t : List ℕ) (b r : ℕ) : Type 0 where
+  pub is : (counts rest : List ℕ) (Fs : List Form) → Filled t counts Fs rest → r ≡ getD (firstLines 0 Fs) b 0
+
+pub record LinePart (t : List ℕ) (b l k r : ℕ) : Type 0 where
+  pub is : (P : Program) (counts rest : List ℕ) → Filled t counts (linesOf P) rest → b < length (P .blocks) → l ≤ length (blockAt P b .lets)
+      → r ≡ getD (row (line (lineAt P b l))) k 0
+
+pub record KindFields (t : List ℕ) (n r : ℕ) : Type 0 where
+  pub is : (P : Program) (counts rest : List ℕ) → Filled t counts (linesOf P) rest → n < length (P .kinds) → r ≡ kindAt P n .fields
+
+pub record KindMethod (t : List ℕ) (n i r : ℕ) : Type 0 where
+  pub is : (P : Program) (counts rest : List ℕ) → Filled t counts (linesOf P) rest → n < length (P .kinds)
+      → r ≡ getD (map suc (kindAt P n .methods)) i 0

@@ -1,0 +1,129 @@
+//! Random and damaged texts, read by the compiled reader and by the second interpreter: the same answer, the table's words by
+//! docs/LAYOUT.md, and every other lent word as it was.
+
+use second::damage::damage;
+use second::generate;
+use second::numbers::*;
+use second::random::Random;
+use second::reading;
+
+use crate::{full, layout, reader};
+
+/// What a run of texts came to: how many were read, and how many had each refusal, at line 0 and at later lines.
+#[derive(Clone, Debug, Default, PartialEq, Eq)]
+pub struct Counts {
+    pub read: u64,
+    pub refused: [[u64; 2]; SHORT_TABLE as usize + 1],
+}
+
+impl Counts {
+    /// Refusals that no text had; 1 and 9 stand at line 0 alone, and 5 and 6 never do.
+    pub fn missing(&self) -> Vec<String> {
+        let at_zero = |number: u8| number != UNBOUND && number != SELF_TAKEN;
+        let later = |number: u8| number != OVERLONG && number != SHORT_TABLE;
+        let mut missing = Vec::new();
+        if self.read == 0 {
+            missing.push("read".to_string());
+        }
+        for number in OVERLONG..=SHORT_TABLE {
+            let [first, others] = self.refused[usize::from(number)];
+            if at_zero(number) && first == 0 {
+                missing.push(format!("refused {} at line 0", number));
+            }
+            if later(number) && others == 0 {
+                missing.push(format!("refused {} at a later line", number));
+            }
+        }
+        missing
+    }
+
+    pub fn rows(&self) -> Vec<(String, u64)> {
+        let mut rows = vec![("read".to_string(), self.read)];
+        for number in OVERLONG..=SHORT_TABLE {
+            let [first, others] = self.refused[usize::from(number)];
+            rows.push((format!("refused {} at line 0", number), first));
+            rows.push((format!("refused {} at a later line", number), others));
+        }
+        rows
+    }
+}
+
+fn text(random: &mut Random, seed: u64, n: u64) -> Vec<u8> {
+    let input = generate::input(seed, n);
+    let last = input[..input.len().saturating_sub(1)]
+        .iter()
+        .rposition(|byte| *byte == b'\n')
+        .map_or(0, |place| place + 1);
+    let mut text = match random.weighted(&[900, 40, 10, 50]) {
+        0 => input[..last].to_vec(),
+        1 => full::script(seed.wrapping_add(n)),
+        2 => [full::script(seed.wrapping_add(n)), b"\n".to_vec()].concat(),
+        _ => input[..last.min(random.below(24))].to_vec(),
+    };
+    if random.chance(40) {
+        damage(random, &mut text);
+    }
+    text
+}
+
+fn table(random: &mut Random) -> Vec<u16> {
+    let length = match random.weighted(&[80, 15, 4, 1]) {
+        0 => TABLE_WORDS,
+        1 => TABLE_WORDS + random.between(1, 40),
+        2 => TABLE_WORDS - random.between(1, 40),
+        _ => random.below(TABLE_WORDS),
+    };
+    let mut word = random.word();
+    (0..length)
+        .map(|_| {
+            word = word
+                .wrapping_mul(6_364_136_223_846_793_005)
+                .wrapping_add(1_442_695_040_888_963_407);
+            (word >> 48) as u16
+        })
+        .collect()
+}
+
+/// One text: the answer of both, or how they differ.
+pub fn one(text: &[u8], table: &[u16]) -> Result<Result<(), Refusal>, String> {
+    let mut lent = table.to_vec();
+    let ours = reader::read(text, &mut lent);
+    let theirs = reading::lengths(text.len(), 0, &[(table.len(), TABLE_WORDS)])
+        .and_then(|()| reading::read_lines(text));
+    let expected = match &theirs {
+        Ok(program) => [&layout::program(program), &table[TABLE_WORDS..]].concat(),
+        Err(_) => table.to_vec(),
+    };
+    let theirs = theirs.map(|_| ());
+    if ours != theirs {
+        return Err(format!(
+            "the reader says {:?}, the second interpreter {:?}",
+            ours, theirs
+        ));
+    }
+    match lent.iter().zip(&expected).position(|(a, b)| a != b) {
+        Some(place) => Err(format!(
+            "word {} is {} and not {} ({:?})",
+            place, lent[place], expected[place], ours
+        )),
+        None => Ok(ours),
+    }
+}
+
+/// Many texts of a seed; the first difference, with its text.
+pub fn many(seed: u64, count: u64) -> Result<Counts, (Vec<u8>, String)> {
+    let mut counts = Counts::default();
+    for n in 0..count {
+        let mut random = Random::of(seed ^ 0x5eed, n);
+        let text = text(&mut random, seed, n);
+        let table = table(&mut random);
+        match one(&text, &table) {
+            Ok(Ok(())) => counts.read += 1,
+            Ok(Err(refusal)) => {
+                counts.refused[usize::from(refusal.number)][usize::from(refusal.line > 0)] += 1
+            }
+            Err(fault) => return Err((text, fault)),
+        }
+    }
+    Ok(counts)
+}

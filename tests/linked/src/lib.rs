@@ -1,0 +1,7 @@
+//! The compiled box against the second interpreter: answers, tables and time.
+
+pub mod agree;
+pub mod bench;
+pub mod full;
+pub mod layout;
+pub mod reader;
