@@ -7,9 +7,8 @@ use lib.Dec.{eqb}
 use borrow.Author.Tests.{eqb-true, eqb-false, eq-eqb, ne-eqb}
 use Rattle.rules.specs.Script.{rank}
 use Rattle.rules.specs.Reading.{slotOf, takesFirst}
-use Rattle.rules.specs.Tables.{operandWord, operandItem}
+use Rattle.rules.specs.Tables.{operandWord, operandItem, operandOf, capOf}
 use Rattle.rules.proofs.ListLaws.{by-bool}
-use Rattle.grammar.specs.Parts.{operandOf, capOf}
 
 pub operand-word : (w : ℕ) → operandWord (operandOf w) ≡ w
 operand-word w = by-bool (eqb (w % 2) 1)

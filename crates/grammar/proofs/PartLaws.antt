@@ -14,9 +14,9 @@ use Rattle.rules.specs.declared.Cap.the-variants.{Imm, Iso, Local, Unsafe}
 use Rattle.rules.specs.Text.{bytes}
 use Rattle.rules.specs.Script.{Operand, reads, takes}
 use Rattle.rules.specs.Templates.{Taken, took, unfit, _>>=_, orElse, placeOf, digitOf, digitsAt, isNumber, decimalValue, number, operandBy, operand, capWord, capBy, capability}
+use Rattle.rules.specs.Tables.{operandOf}
 use Rattle.rules.proofs.ListLaws.{by-bool}
 use Rattle.grammar.specs.Words.{begins}
-use Rattle.grammar.specs.Parts.{operandOf}
 use Rattle.grammar.proofs.WordLaws.{literal-begins, begins-front, drop-next}
 
 -- ---- Digits

@@ -13,9 +13,8 @@ use Rattle.rules.specs.Mosts as Most
 use Rattle.rules.specs.Lists.{any, pad}
 use Rattle.rules.specs.Script.{Operand, value, field, swap, call, new, cast, spawn, send, recv, bind, give, thread, method, Form, kind, opens, line}
 use Rattle.rules.specs.Reading.{slotOf, operandsIn, targetsIn, numbersIn, slotsIn, takesFirst, over255}
-use Rattle.rules.specs.Tables.{operandItem, lineWords, row}
+use Rattle.rules.specs.Tables.{operandItem, lineWords, row, operandOf, capOf}
 use Rattle.rules.proofs.ListLaws.{by-bool, or-false as or-false-both}
-use Rattle.grammar.specs.Parts.{operandOf, capOf}
 use Rattle.grammar.specs.Items.{past, Listed}
 use Rattle.grammar.specs.Decoded.{overLine, lineRow, Tells, OperandRest, PlaceRest}
 use Rattle.grammar.specs.declared.forms.Line.{Line}

@@ -7,9 +7,9 @@ use lib.Dec.{eqb}
 use lib.ListN.{length, drop}
 use lib.Seq.{drop-drop}
 use Rattle.rules.specs.Templates.{Taken, took, unfit, _>>=_, literal, number, operand, capability, Part, character, oneNumber, oneOperand, oneCap, manyNumbers, manyOperands, Holds, fit}
+use Rattle.rules.specs.Tables.{operandOf, capOf}
 use Rattle.rules.proofs.ListLaws.{by-bool, impossible}
 use Rattle.grammar.specs.Words.{begins}
-use Rattle.grammar.specs.Parts.{operandOf, capOf}
 use Rattle.grammar.specs.Items.{NumbersAt, OperandsAt}
 use Rattle.grammar.specs.Decoded.{operandRest, OperandRest, placeRest, PlaceRest}
 use Rattle.grammar.specs.declared.forms.Line.{Line}

@@ -11,8 +11,8 @@ ghost use lib.Dec.{ltb};
 ghost use lib.ListN.{length, drop};
 ghost use Rattle.rules.specs.Templates.{took, unfit, digitOf, number, operand, capability};
 ghost use Rattle.rules.specs.Mosts as Most;
+ghost use Rattle.rules.specs.Tables.{operandOf, capOf};
 ghost use Rattle.grammar.specs.Items.{Listed, Adds, NumbersAt, OperandsAt};
-ghost use Rattle.grammar.specs.Parts.{operandOf, capOf};
 
 // What a part reads at a place: whether it fits there, its word, and the place after it.
 pub struct Part {

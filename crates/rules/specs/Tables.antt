@@ -1,8 +1,11 @@
 -- Both tables to the word: "8,192 words of 16 bits each", "unused words among the 8,192 are zero". docs/LAYOUT.md says the same in prose.
-use Prim.Native.Nat.{ℕ, suc, _+_, _*_}
+use Prim.Native.Nat.{ℕ, zero, suc, _+_, _*_, _/_, _%_}
+use mathlib.Core.Bool.{cond}
 use mathlib.Core.List.{List, [], _∷_, _++_, map}
+use lib.Dec.{eqb}
 use lib.ListN.{length}
-use Rattle.rules.specs.declared.Cap.the-variants.{Imm}
+use Rattle.rules.specs.declared.Cap.{Cap}
+use Rattle.rules.specs.declared.Cap.the-variants.{Imm, Iso, Local, Unsafe}
 use Rattle.rules.specs.declared.Value.{Value}
 use Rattle.rules.specs.declared.Value.the-variants.{Absent, Obj, Chan}
 use Rattle.rules.specs.Mosts as Most
@@ -21,6 +24,16 @@ operandWord (takes s) = s * 2 + 1
 -- an item of a list: one more, so that 0 stands after the last
 abbrev pub operandItem : Operand → ℕ
 operandItem w = suc (operandWord w)
+
+-- and read back
+abbrev pub operandOf : ℕ → Operand
+operandOf w = cond (eqb (w % 2) 1) (takes (w / 2)) (reads (w / 2))
+
+abbrev pub capOf : ℕ → Cap
+capOf zero = Imm
+capOf (suc zero) = Iso
+capOf (suc (suc zero)) = Local
+capOf (suc (suc (suc n))) = Unsafe
 
 -- a line: the number of its form, and its parts as they are written
 unfoldable pub lineWords : Form → List ℕ

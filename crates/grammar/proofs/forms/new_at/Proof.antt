@@ -3,8 +3,8 @@ use native.Mathlib.Omega.{arith}
 use mathlib.Core.Path.{refl, _∙_}
 use Rattle.rules.specs.Lists.{all}
 use Rattle.rules.specs.Text.{bytes}
+use Rattle.rules.specs.Tables.{capOf}
 use Rattle.grammar.specs.Words.{plain}
-use Rattle.grammar.specs.Parts.{capOf}
 use Rattle.grammar.proofs.Told.{fits-as, two-words, word, last, a-number, a-cap, some-operands}
 use Rattle.grammar.proofs.Telling.{new-tells}
 use borrow.Author.Needs.{needs}

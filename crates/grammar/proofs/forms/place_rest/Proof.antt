@@ -3,8 +3,8 @@ use native.Mathlib.Omega.{arith}
 use mathlib.Core.Path.{sym, _∙_}
 use Rattle.rules.specs.Lists.{all}
 use Rattle.rules.specs.Text.{bytes}
+use Rattle.rules.specs.Tables.{operandOf}
 use Rattle.grammar.specs.Words.{plain}
-use Rattle.grammar.specs.Parts.{operandOf}
 use Rattle.grammar.proofs.Told.{after, word, last, a-number, an-operand}
 use Rattle.grammar.proofs.OperandWords.{operand-word, operand-slot, operand-first}
 use Rattle.grammar.proofs.Telling.{short-row}

@@ -10,11 +10,10 @@ use lib.ListN.{length}
 use Rattle.rules.specs.Lists.{any}
 use Rattle.rules.specs.Script.{Operand}
 use Rattle.rules.specs.Templates.{operand}
-use Rattle.rules.specs.Tables.{operandItem}
+use Rattle.rules.specs.Tables.{operandItem, operandOf}
 use Rattle.rules.specs.Reading.{slotOf, takesFirst}
 use Rattle.grammar.specs.declared.parts.Items.{Items}
 use Rattle.grammar.specs.Items.{Listed, past}
-use Rattle.grammar.specs.Parts.{operandOf}
 use Rattle.grammar.proofs.Many.{ReadTo, read-none, read-inside, read-more, read-all, operand-shortens}
 use Rattle.grammar.proofs.ItemLists.{any-more, past-more, listed-more}
 use Rattle.grammar.proofs.OperandWords.{operand-item, operand-slot, operand-first}
