@@ -13,12 +13,12 @@ use Rattle.rules.specs.declared.Cap.{Cap}
 use Rattle.rules.specs.Mosts as Most
 use Rattle.rules.specs.Numbers as No
 use Rattle.rules.specs.Lists.{any, pad, Every}
-use Rattle.rules.specs.Script.{Operand, Expr, value, field, swap, call, new, cast, spawn, send, recv, bind, give, Sort, thread, method, Kind, Form, kind, opens, line, Block, noBlock, Program, letsOf, resultOf, blocksOf, letLines, blockLines, kindLines, linesOf, kindAt, blockAt}
+use Rattle.rules.specs.Script.{Operand, Expr, value, field, swap, call, new, cast, spawn, send, recv, bind, give, Sort, thread, method, Kind, Form, kind, opens, line, Block, noBlock, Program, blocksOf, letLines, blockLines, kindLines, linesOf, kindAt, blockAt}
 use Rattle.rules.specs.Reading.{operandsIn, over255, sameSort, isSort, dangles, opened, turnedAway, accepted, link}
 use Rattle.rules.specs.Tables.{operandWord, lineWords, row}
 use Rattle.rules.proofs.ListLaws.{by-bool, or-false, every-get, every-at}
 use Rattle.table.specs.Program.{noForm, sortNumber, LineWord}
-use Rattle.table.proofs.ProgramLines.{kind-stands, kind-there}
+use Rattle.table.proofs.ProgramLines.{blocks-of-lines, kind-stands, kind-there}
 use Rattle.grammar.specs.Decoded.{overLine}
 use Rattle.reader.specs.Linking.{Table, formAt, LineDangles, BlocksAfter, FirstDangling}
 
@@ -28,36 +28,6 @@ eqb-sym : (m n : ℕ) → eqb m n ≡ eqb n m
 eqb-sym m n = by-bool (eqb n m) (λ t. rw t (eq-eqb m n (sym (eqb-true n m t)))) (λ t. rw t (ne-eqb m n (λ e. eqb-false n m t (sym e))))
 
 -- ---- The lines of a program: first the kinds, then its blocks
-
-lets-of-lines : (es : List Expr) (w : Operand) (Fs : List Form) → letsOf (letLines es (line (give w) ∷ Fs)) ≡ es
-unfolding letLines letsOf
-lets-of-lines [] w Fs = refl
-lets-of-lines (e ∷ es) w Fs = ap (e ∷_) (lets-of-lines es w Fs)
-
-result-of-lines : (es : List Expr) (w : Operand) (Fs : List Form) → resultOf (letLines es (line (give w) ∷ Fs)) ≡ w
-unfolding letLines resultOf
-result-of-lines [] w Fs = refl
-result-of-lines (e ∷ es) w Fs = result-of-lines es w Fs
-
-blocks-past-lets : (es : List Expr) (Fs : List Form) → blocksOf (letLines es Fs) ≡ blocksOf Fs
-unfolding letLines blocksOf
-blocks-past-lets [] Fs = refl
-blocks-past-lets (e ∷ es) Fs = blocks-past-lets es Fs
-
-blocks-past-kinds : (Ks : List Kind) (Fs : List Form) → blocksOf (kindLines Ks Fs) ≡ blocksOf Fs
-unfolding kindLines blocksOf
-blocks-past-kinds [] Fs = refl
-blocks-past-kinds (K ∷ Ks) Fs = blocks-past-kinds Ks Fs
-
-blocks-of-blocks : (Bs : List Block) → blocksOf (blockLines Bs) ≡ Bs
-unfolding blockLines blocksOf
-blocks-of-blocks [] = refl
-blocks-of-blocks (B ∷ Bs) =
-    rw (lets-of-lines (B .lets) (B .result) (blockLines Bs), result-of-lines (B .lets) (B .result) (blockLines Bs), blocks-past-lets (B .lets) (line (give (B .result)) ∷ blockLines Bs), blocks-of-blocks Bs)
-
-blocks-of-lines : (P : Program) → blocksOf (linesOf P) ≡ P .blocks
-unfolding linesOf
-blocks-of-lines P = blocks-past-kinds (P .kinds) (blockLines (P .blocks)) ∙ blocks-of-blocks (P .blocks)
 
 abbrev NoKind : Form → Type 0
 NoKind (kind K) = ⊥

@@ -240,9 +240,9 @@ module _ {A : Type 0} (n : ℕ) (d : A) (xs : List A) where
   unfolding pad
   get-pad i h = getD-take n (xs ++ replicate n d) i d h ∙ get-made-up n d xs i
 
-  pub set-pad : (i : ℕ) (a : A) → i < length xs → length xs ≤ n → set (pad n d xs) i a ≡ pad n d (set xs i a)
+  pub set-pad : (i : ℕ) (a : A) → i < length xs → i < n → set (pad n d xs) i a ≡ pad n d (set xs i a)
   unfolding pad
-  set-pad i a h l = sym (take-set-lt n (xs ++ replicate n d) i a (omega arith)) ∙ ap (take n) (set-append-left xs (replicate n d) i a h)
+  set-pad i a h l = sym (take-set-lt n (xs ++ replicate n d) i a l) ∙ ap (take n) (set-append-left xs (replicate n d) i a h)
 
 -- words put after the last that is not made up; `rest` stands past the padded list
 pub pad-more : {A : Type 0} (n : ℕ) (d : A) (xs ys rest : List A) (p q : ℕ) → p ≡ length xs → q ≡ p + length ys → q ≤ n

@@ -35,19 +35,19 @@ used-program-words-length P = simp (length-append, length-pad, length-cells row 
 pub program-uncut : (P : Program) → Valid Most.mosts P → length (usedProgramWords P) ≤ Most.words
 program-uncut P valid = omega (arith, used-program-words-length P, table-lines P valid)
 
-object-words-length : (o : Object) → length (objectWords o) ≡ 8
+pub object-words-length : (o : Object) → length (objectWords o) ≡ 8
 unfolding objectWords
 object-words-length o = simp (length-map, length-pad)
 
-frame-words-length : (f : Frame) → length (frameWords f) ≡ 19
+pub frame-words-length : (f : Frame) → length (frameWords f) ≡ 19
 unfolding frameWords
 frame-words-length f = simp (length-map, length-pad)
 
-thread-words-length : (t : Thread) → length (threadWords t) ≡ 306
+pub thread-words-length : (t : Thread) → length (threadWords t) ≡ 306
 unfolding threadWords
 thread-words-length t = ap (λ k. suc (suc k)) (length-records frameWords _ frame-words-length _ noFrame (outermostFirst (t .frames)))
 
-channel-words-length : (c : Channel) → length (channelWords c) ≡ 2
+pub channel-words-length : (c : Channel) → length (channelWords c) ≡ 2
 unfolding channelWords
 channel-words-length c = refl
 
@@ -313,7 +313,7 @@ unfolding outermostFirst
 outermost-reverse [] = refl
 outermost-reverse (f ∷ fs) = ap (λ (gs : List Frame). gs ++ (f ∷ [])) (outermost-reverse fs) ∙ sym (reverse-cons f fs)
 
-length-outermost : (fs : List Frame) → length (outermostFirst fs) ≡ length fs
+pub length-outermost : (fs : List Frame) → length (outermostFirst fs) ≡ length fs
 length-outermost fs = ap length (outermost-reverse fs) ∙ length-reverse fs
 
 outermost-tells : (fs fs′ : List Frame) → outermostFirst fs ≡ outermostFirst fs′ → fs ≡ fs′

@@ -6,7 +6,7 @@ use native.Mathlib.Omega.{arith}
 use mathlib.Core.Path.{_≡_, refl, sym, ap, _∙_}
 use mathlib.Core.List.{List, [], _∷_, map}
 use lib.ListN.{length, getD}
-use Rattle.rules.specs.Script.{Expr, Operand, Kind, Form, kind, opens, line, give, Block, noBlock, noKind, Program, blocksOf, letLines, blockLines, kindLines, linesOf, lineOf, lineAt, blockAt, kindAt}
+use Rattle.rules.specs.Script.{Expr, Operand, Kind, Form, kind, opens, line, give, Block, noBlock, noKind, Program, letsOf, resultOf, blocksOf, letLines, blockLines, kindLines, linesOf, lineOf, lineAt, blockAt, kindAt}
 use Rattle.rules.specs.Mosts.{mosts}
 use Rattle.rules.specs.Tables.{lineWords, row, firstLines}
 use Rattle.rules.proofs.ListLaws.{impossible}
@@ -95,6 +95,37 @@ blocks-stand (B ∷ Bs) (suc b) h n = past refl (past-lets (B .lets) (λ m. past
 block-stands : (P : Program) (b : ℕ) → b < length (P .blocks) → Stands 0 (linesOf P) b (blockAt P b)
 unfolding linesOf blockAt
 block-stands P b h = past-kinds (P .kinds) (blocks-stand (P .blocks) b h) 0
+
+-- the lines tell the blocks
+lets-of-lines : (es : List Expr) (w : Operand) (Fs : List Form) → letsOf (letLines es (line (give w) ∷ Fs)) ≡ es
+unfolding letLines letsOf
+lets-of-lines [] w Fs = refl
+lets-of-lines (e ∷ es) w Fs = ap (e ∷_) (lets-of-lines es w Fs)
+
+result-of-lines : (es : List Expr) (w : Operand) (Fs : List Form) → resultOf (letLines es (line (give w) ∷ Fs)) ≡ w
+unfolding letLines resultOf
+result-of-lines [] w Fs = refl
+result-of-lines (e ∷ es) w Fs = result-of-lines es w Fs
+
+blocks-past-lets : (es : List Expr) (Fs : List Form) → blocksOf (letLines es Fs) ≡ blocksOf Fs
+unfolding letLines blocksOf
+blocks-past-lets [] Fs = refl
+blocks-past-lets (e ∷ es) Fs = blocks-past-lets es Fs
+
+blocks-past-kinds : (Ks : List Kind) (Fs : List Form) → blocksOf (kindLines Ks Fs) ≡ blocksOf Fs
+unfolding kindLines blocksOf
+blocks-past-kinds [] Fs = refl
+blocks-past-kinds (K ∷ Ks) Fs = blocks-past-kinds Ks Fs
+
+blocks-of-blocks : (Bs : List Block) → blocksOf (blockLines Bs) ≡ Bs
+unfolding blockLines blocksOf
+blocks-of-blocks [] = refl
+blocks-of-blocks (B ∷ Bs) =
+    rw (lets-of-lines (B .lets) (B .result) (blockLines Bs), result-of-lines (B .lets) (B .result) (blockLines Bs), blocks-past-lets (B .lets) (line (give (B .result)) ∷ blockLines Bs), blocks-of-blocks Bs)
+
+pub blocks-of-lines : (P : Program) → blocksOf (linesOf P) ≡ P .blocks
+unfolding linesOf
+blocks-of-lines P = blocks-past-kinds (P .kinds) (blockLines (P .blocks)) ∙ blocks-of-blocks (P .blocks)
 
 -- ---- Kinds
 

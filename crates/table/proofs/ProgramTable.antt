@@ -132,7 +132,7 @@ opener-more counts Fs o few =
 -- a word in use is written
 used-set : (us rest : List ℕ) (i v : ℕ) → length us ≤ Most.words → i < length us → set (pad Most.words 0 us ++ rest) i v ≡ pad Most.words 0 (set us i v) ++ rest
 used-set us rest i v few h =
-    set-append-left (pad Most.words 0 us) rest i v (omega (arith, length-pad Most.words 0 us)) ∙ ap (λ l. l ++ rest) (set-pad Most.words 0 us i v h few)
+    set-append-left (pad Most.words 0 us) rest i v (omega (arith, length-pad Most.words 0 us)) ∙ ap (λ l. l ++ rest) (set-pad Most.words 0 us i v h (omega arith))
 
 counts-more : (Fs : List Form) (kinds blocks lines : ℕ) → set (set (set (usedWords [] Fs) 0 kinds) 1 blocks) 2 lines ≡ usedWords (kinds ∷ blocks ∷ lines ∷ []) Fs
 unfolding usedWords pad

@@ -1,0 +1,473 @@
+-- The state table's words: where each record stands, and what a record written in its place makes of the state.
+use Prim.Native.Nat.{ℕ, zero, suc, _+_, _-_, _*_, _≤_, _<_}
+use native.Mathlib.Nat.{le-of-suc-le-suc, not-suc-le-zero, suc-mul, zero-mul, add-comm, add-assoc, zero-add, add-zero}
+use native.Mathlib.Omega.{arith}
+use mathlib.Core.Path.{_≡_, refl, sym, ap, _∙_}
+use mathlib.Core.List.{List, [], _∷_, _++_, append-assoc, append-nil}
+use lib.Dec.{eqb}
+use lib.ListN.{length, getD, set, take, drop, replicate, length-append, length-set, length-drop, drop-of-length-le, List·getD-append, List·getD-eq-default}
+use lib.Seq.{length-take-le, take-append-le, take-append-add, drop-append-le, drop-append-add, set-append-left, set-at, set-getD, take-set-lt}
+use borrow.Author.Tests.{eqb-true, eqb-false}
+use Rattle.rules.specs.Mosts as Most
+use Rattle.rules.specs.Lists.{pad, cells}
+use Rattle.rules.specs.State.{Object, Frame, Sender, ready, Thread, noThread, Channel, emptyChannel, State, threadAt, channelAt}
+use Rattle.rules.specs.Turn.{putThread, putObjects, putChannel, started}
+use Rattle.rules.specs.Tables.{unmade, noFrame, objectWords, frameWords, senderWord, outermostFirst, threadWords, channelWords, usedStateWords, stateWords}
+use Rattle.rules.specs.declared.Value.the-variants.{Chan}
+use Rattle.rules.proofs.ListLaws.{by-bool, length-snoc, length-pad, pad-front, length-records, get-past, set-past, get-pad, set-pad, pad-snoc}
+use Rattle.rules.proofs.TableWords.{object-words-length, frame-words-length, thread-words-length, channel-words-length, state-words-length, used-state-words-length, length-outermost}
+use Rattle.table.specs.State.{Held, frameAt, onFrame, editFrame, HasFrame, Innermost, innerLess}
+
+-- ---- A part of a list, replaced
+
+unfoldable pub splice : List ℕ → ℕ → List ℕ → List ℕ
+splice l at ys = take at l ++ (ys ++ drop (at + length ys) l)
+
+length-splice : (l ys : List ℕ) (at : ℕ) → at + length ys ≤ length l → length (splice l at ys) ≡ length l
+unfolding splice
+length-splice l ys at h =
+    length-append (take at l) (ys ++ drop (at + length ys) l)
+    ∙ omega (arith, length-take-le at l (omega arith), length-append ys (drop (at + length ys) l), length-drop (at + length ys) l)
+
+-- a part past the first list, a part of the first list
+splice-past : (p q : List ℕ) (b at : ℕ) (ys : List ℕ) → length p ≡ b → splice (p ++ q) (b + at) ys ≡ p ++ splice q at ys
+unfolding splice
+splice-past p q b at ys e =
+    rw (← e, take-append-add p q at, add-assoc (length p) at (length ys), drop-append-add p q (at + length ys)) (append-assoc p (take at q) _)
+
+splice-before : (p q : List ℕ) (at : ℕ) (ys : List ℕ) → at + length ys ≤ length p → splice (p ++ q) at ys ≡ splice p at ys ++ q
+unfolding splice
+splice-before p q at ys h =
+    rw (take-append-le at p q (omega arith), drop-append-le (at + length ys) p q h) (simp append-assoc)
+
+splice-between : (p q r : List ℕ) (b at : ℕ) (ys : List ℕ) → length p ≡ b → at + length ys ≤ length q
+    → splice (p ++ (q ++ r)) (b + at) ys ≡ p ++ (splice q at ys ++ r)
+splice-between p q r b at ys e h = splice-past p (q ++ r) b at ys e ∙ ap (p ++_) (splice-before q r at ys h)
+
+splice-all : (l ys : List ℕ) → length ys ≡ length l → splice l 0 ys ≡ ys
+unfolding splice
+splice-all l ys e = rw (zero-add (length ys), drop-of-length-le l {i = length ys} (omega arith)) (append-nil ys)
+
+-- a part of the part
+splice-inside : (l zs : List ℕ) (b at : ℕ) (ys : List ℕ) → b + length zs ≤ length l → at + length ys ≤ length zs
+    → splice (splice l b zs) (b + at) ys ≡ splice l b (splice zs at ys)
+unfolding splice
+splice-inside l zs b at ys h k =
+    splice-between (take b l) zs (drop (b + length zs) l) b at ys (length-take-le b l (omega arith)) k
+    ∙ ap (λ n. take b l ++ (splice zs at ys ++ drop (b + n) l)) (sym (length-splice zs ys at k))
+
+-- a word written inside it; a read inside it
+pub set-splice : (l ys : List ℕ) (at j w : ℕ) → at + length ys < suc (length l) → j < length ys → set (splice l at ys) (at + j) w ≡ splice l at (set ys j w)
+unfolding splice
+set-splice l ys at j w h k =
+    set-past (take at l) (ys ++ drop (at + length ys) l) at j w (length-take-le at l (omega arith))
+    ∙ ap (take at l ++_) (set-append-left ys (drop (at + length ys) l) j w k)
+    ∙ ap (λ n. take at l ++ (set ys j w ++ drop (at + n) l)) (sym (length-set ys j w))
+
+pub get-splice : (l ys : List ℕ) (at j : ℕ) → at + length ys < suc (length l) → j < length ys → getD (splice l at ys) (at + j) 0 ≡ getD ys j 0
+unfolding splice
+get-splice l ys at j h k =
+    get-past (take at l) (ys ++ drop (at + length ys) l) at j 0 (length-take-le at l (omega arith)) ∙ List·getD-append ys (drop (at + length ys) l) 0 j k
+
+-- ---- Records among others
+
+module _ {A : Type 0} (n : ℕ) (d : A) (xs : List A) (i : ℕ) (h : i < n) where
+  -- one in its place; and what stands there already
+  set-padded : (x : A) → i < length xs → set (pad n d xs) i x ≡ pad n d (set xs i x)
+  unfolding pad
+  set-padded x k = sym (take-set-lt n (xs ++ replicate n d) i x h) ∙ ap (take n) (set-append-left xs (replicate n d) i x k)
+
+  set-same : set (pad n d xs) i (getD xs i d) ≡ pad n d xs
+  set-same = rw (← get-pad n d xs i h) (set-getD (pad n d xs) i d)
+
+  -- what would be made up may as well be there
+  pad-made-up : length xs ≡ i → pad n d (xs ++ (d ∷ [])) ≡ pad n d xs
+  pad-made-up e = pad-snoc n d xs i d e h ∙ ap (set (pad n d xs) i) (sym (List·getD-eq-default xs d (omega arith))) ∙ set-same
+
+module _ {A : Type 0} (f : A → List ℕ) (w : ℕ) (wide : (a : A) → length (f a) ≡ w) where
+  splice-cells : (xs : List A) (i : ℕ) (x : A) → i < length xs → splice (cells f xs) (i * w) (f x) ≡ cells f (set xs i x)
+  unfolding cells
+  splice-cells [] i x h = absurd (not-suc-le-zero h)
+  splice-cells (y ∷ xs) zero x h =
+      rw (zero-mul w) (splice-before (f y) (cells f xs) 0 (f x) (omega (arith, wide x, wide y)) ∙ ap (λ l. l ++ cells f xs) (splice-all (f y) (f x) (wide x ∙ sym (wide y))))
+  splice-cells (y ∷ xs) (suc i) x h =
+      rw (suc-mul i w, add-comm (i * w) w)
+      (splice-past (f y) (cells f xs) w (i * w) (f x) (wide y) ∙ ap (f y ++_) (splice-cells xs i x (le-of-suc-le-suc h)))
+
+  module _ (n : ℕ) (d : A) (xs : List A) (i : ℕ) (h : i < n) where
+    splice-record : (x : A) → splice (cells f (pad n d xs)) (i * w) (f x) ≡ cells f (set (pad n d xs) i x)
+    splice-record x = splice-cells (pad n d xs) i x (rw (length-pad n d xs) h)
+
+    record-is : splice (cells f (pad n d xs)) (i * w) (f (getD xs i d)) ≡ cells f (pad n d xs)
+    record-is = splice-record (getD xs i d) ∙ ap (cells f) (set-same n d xs i h)
+
+    record-put : (x : A) → i < length xs → splice (cells f (pad n d xs)) (i * w) (f x) ≡ cells f (pad n d (set xs i x))
+    record-put x k = splice-record x ∙ ap (cells f) (set-padded n d xs i h x k)
+
+    record-more : (x : A) → length xs ≡ i → splice (cells f (pad n d xs)) (i * w) (f x) ≡ cells f (pad n d (xs ++ (x ∷ [])))
+    record-more x e = splice-record x ∙ ap (cells f) (sym (pad-snoc n d xs i x e h))
+
+-- ---- The words in use
+
+splice-pad : (n : ℕ) (us rest : List ℕ) (at : ℕ) (ys : List ℕ) → length us ≤ n → at + length ys ≤ length us
+    → splice (pad n 0 us ++ rest) at ys ≡ pad n 0 (splice us at ys) ++ rest
+splice-pad n us rest at ys few h =
+    let same = length-splice us ys at h in
+    let zeros : ℕ → List ℕ = λ k. take (n - k) (replicate n 0) in
+    splice-before (pad n 0 us) rest at ys (omega (arith, length-pad n 0 us))
+    ∙ ap (λ l. l ++ rest) (
+    ap (λ l. splice l at ys) (pad-front n 0 us few) ∙ splice-before us (zeros (length us)) at ys h
+    ∙ ap (λ k. splice us at ys ++ zeros k) (sym same) ∙ sym (pad-front n 0 (splice us at ys) (omega arith))
+    )
+
+-- the counts, and the records made up to their number
+unfoldable tableOf : ℕ → ℕ → List Object → List Thread → List Channel → List ℕ
+tableOf a b os ts cs = pad 8 0 (a ∷ b ∷ []) ++ (cells objectWords (pad 256 unmade os) ++ (cells threadWords (pad 16 noThread ts) ++ cells channelWords (pad 16 emptyChannel cs)))
+
+used-words : (S : State) → usedStateWords S ≡ tableOf (length (S .objects)) (length (S .threads)) (S .objects) (S .threads) (S .channels)
+unfolding usedStateWords tableOf
+used-words S = refl
+
+module _ (a b : ℕ) (os : List Object) (ts : List Thread) (cs : List Channel) where
+  first-count : getD (tableOf a b os ts cs) 0 0 ≡ a
+  unfolding tableOf pad
+  first-count = refl
+
+  second-count : getD (tableOf a b os ts cs) 1 0 ≡ b
+  unfolding tableOf pad
+  second-count = refl
+
+  set-first-count : (n : ℕ) → set (tableOf a b os ts cs) 0 n ≡ tableOf n b os ts cs
+  unfolding tableOf pad
+  set-first-count n = refl
+
+  set-second-count : (n : ℕ) → set (tableOf a b os ts cs) 1 n ≡ tableOf a n os ts cs
+  unfolding tableOf pad
+  set-second-count n = refl
+
+  objects-to : (o : ℕ) (x : Object) (os₁ : List Object) → o < 256
+      → splice (cells objectWords (pad 256 unmade os)) (o * 8) (objectWords x) ≡ cells objectWords (pad 256 unmade os₁)
+      → splice (tableOf a b os ts cs) (8 + o * 8) (objectWords x) ≡ tableOf a b os₁ ts cs
+  unfolding tableOf
+  objects-to o x os₁ h e =
+      let counts = pad 8 0 (a ∷ b ∷ []) in
+      let others = cells threadWords (pad 16 noThread ts) ++ cells channelWords (pad 16 emptyChannel cs) in
+      splice-between counts (cells objectWords (pad 256 unmade os)) others 8 (o * 8) (objectWords x) (length-pad 8 0 (a ∷ b ∷ []))
+      (omega (arith, object-words-length x, length-records objectWords 8 object-words-length 256 unmade os))
+      ∙ ap (λ (l : List ℕ). counts ++ (l ++ others)) e
+
+  threads-to : (t : ℕ) (x : Thread) (ts₁ : List Thread) → t < 16
+      → splice (cells threadWords (pad 16 noThread ts)) (t * 306) (threadWords x) ≡ cells threadWords (pad 16 noThread ts₁)
+      → splice (tableOf a b os ts cs) (2056 + t * 306) (threadWords x) ≡ tableOf a b os ts₁ cs
+  unfolding tableOf
+  threads-to t x ts₁ h e =
+      let counts = pad 8 0 (a ∷ b ∷ []) in
+      let objects = cells objectWords (pad 256 unmade os) in
+      let threads = cells threadWords (pad 16 noThread ts) in
+      let channels = cells channelWords (pad 16 emptyChannel cs) in
+      let place : 2056 + t * 306 ≡ 8 + (2048 + t * 306) = omega arith in
+      ap (λ i. splice (counts ++ (objects ++ (threads ++ channels))) i (threadWords x)) place
+      ∙ splice-past counts (objects ++ (threads ++ channels)) 8 (2048 + t * 306) (threadWords x) (length-pad 8 0 (a ∷ b ∷ []))
+      ∙ ap (counts ++_) (
+      splice-between objects threads channels 2048 (t * 306) (threadWords x) (length-records objectWords 8 object-words-length 256 unmade os)
+      (omega (arith, thread-words-length x, length-records threadWords 306 thread-words-length 16 noThread ts))
+      ∙ ap (λ (l : List ℕ). objects ++ (l ++ channels)) e
+      )
+
+  channels-to : (c : ℕ) (x : Channel) (cs₁ : List Channel)
+      → splice (cells channelWords (pad 16 emptyChannel cs)) (c * 2) (channelWords x) ≡ cells channelWords (pad 16 emptyChannel cs₁)
+      → splice (tableOf a b os ts cs) (6952 + c * 2) (channelWords x) ≡ tableOf a b os ts cs₁
+  unfolding tableOf
+  channels-to c x cs₁ e =
+      let counts = pad 8 0 (a ∷ b ∷ []) in
+      let objects = cells objectWords (pad 256 unmade os) in
+      let threads = cells threadWords (pad 16 noThread ts) in
+      let channels = cells channelWords (pad 16 emptyChannel cs) in
+      let place : 6952 + c * 2 ≡ 8 + (2048 + (4896 + c * 2)) = omega arith in
+      ap (λ i. splice (counts ++ (objects ++ (threads ++ channels))) i (channelWords x)) place
+      ∙ splice-past counts (objects ++ (threads ++ channels)) 8 (2048 + (4896 + c * 2)) (channelWords x) (length-pad 8 0 (a ∷ b ∷ []))
+      ∙ ap (counts ++_) (
+      splice-past objects (threads ++ channels) 2048 (4896 + c * 2) (channelWords x) (length-records objectWords 8 object-words-length 256 unmade os)
+      ∙ ap (objects ++_) (
+      splice-past threads channels 4896 (c * 2) (channelWords x) (length-records threadWords 306 thread-words-length 16 noThread ts) ∙ ap (threads ++_) e
+      )
+      )
+
+  -- a channel that holds nothing is made up
+  channel-made-up : (n : ℕ) → n < 16 → length cs ≡ n → tableOf a b os ts cs ≡ tableOf a b os ts (cs ++ (emptyChannel ∷ []))
+  unfolding tableOf
+  channel-made-up n h e = rw (pad-made-up 16 emptyChannel cs n h e)
+
+-- they stand before the zeros at the end
+record Used (l us rest : List ℕ) : Type 0 where
+  words : l ≡ pad Most.words 0 us ++ rest
+  long : length us ≡ 6984
+
+used : {l rest : List ℕ} {S : State} → Held l S rest → Used l (tableOf (length (S .objects)) (length (S .threads)) (S .objects) (S .threads) (S .channels)) rest
+unfolding stateWords
+used {rest} {S} held =
+    record { words = held .words ∙ ap (λ us. pad Most.words 0 us ++ rest) (used-words S); long = ap length (sym (used-words S)) ∙ used-state-words-length S }
+
+now-held : {l us rest : List ℕ} (S : State) → us ≡ tableOf (length (S .objects)) (length (S .threads)) (S .objects) (S .threads) (S .channels) → Used l us rest → Held l S rest
+unfolding stateWords
+now-held {rest} S e u = record { words = u .words ∙ ap (λ us. pad Most.words 0 us ++ rest) (e ∙ sym (used-words S)) }
+
+module _ {l us rest : List ℕ} (u : Used l us rest) where
+  used-get : (i : ℕ) → i < 6984 → getD l i 0 ≡ getD us i 0
+  used-get i h =
+      ap (λ l. getD l i 0) (u .words) ∙ List·getD-append (pad Most.words 0 us) rest 0 i (omega (arith, length-pad Most.words 0 us)) ∙ get-pad Most.words 0 us i (omega arith)
+
+  used-set : (i w : ℕ) → i < 6984 → Used (set l i w) (set us i w) rest
+  used-set i w h =
+      let long = u .long in
+      record {
+        words =
+            ap (λ l. set l i w) (u .words) ∙ set-append-left (pad Most.words 0 us) rest i w (omega (arith, length-pad Most.words 0 us))
+            ∙ ap (λ l. l ++ rest) (set-pad Most.words 0 us i w (omega arith) (omega arith));
+        long = length-set us i w ∙ long;
+      }
+
+  used-splice : (at : ℕ) (ys : List ℕ) → at + length ys ≤ 6984 → Used (splice l at ys) (splice us at ys) rest
+  used-splice at ys h =
+      let long = u .long in
+      record {
+        words = ap (λ l. splice l at ys) (u .words) ∙ splice-pad Most.words us rest at ys (omega arith) (omega arith);
+        long = length-splice us ys at (omega arith) ∙ long;
+      }
+
+  -- a part that is there already
+  used-same : (at : ℕ) (ys : List ℕ) → at + length ys ≤ 6984 → splice us at ys ≡ us → l ≡ splice l at ys
+  used-same at ys h e = u .words ∙ ap (λ us. pad Most.words 0 us ++ rest) (sym e) ∙ sym (used-splice at ys h .words)
+
+-- ---- The frames of a thread
+
+module _ (fs : List Frame) (d : Sender) (k : ℕ) where
+  frames-to : (f : Frame) (gs : List Frame) → splice (cells frameWords (pad 16 noFrame (outermostFirst fs))) (k * 19) (frameWords f) ≡ cells frameWords (pad 16 noFrame gs)
+      → splice (threadWords (record { frames = fs; sender = d })) (2 + k * 19) (frameWords f) ≡ length fs ∷ senderWord d ∷ cells frameWords (pad 16 noFrame gs)
+  unfolding threadWords
+  frames-to f gs e =
+      splice-past (length fs ∷ senderWord d ∷ []) (cells frameWords (pad 16 noFrame (outermostFirst fs))) 2 (k * 19) (frameWords f) refl
+      ∙ ap (λ (l : List ℕ). length fs ∷ senderWord d ∷ l) e
+
+length-on-frame : (k : ℕ) (g : Frame → Frame) (fs : List Frame) → length (onFrame k g fs) ≡ length fs
+unfolding onFrame
+length-on-frame k g [] = refl
+length-on-frame k g (f ∷ fs) = by-bool (eqb k (length fs)) (λ t. rw t) (λ t. rw t (ap suc (length-on-frame k g fs)))
+
+outermost-on-frame : (k : ℕ) (f : Frame) (fs : List Frame) → k < length fs → set (outermostFirst fs) k f ≡ outermostFirst (onFrame k (λ _. f) fs)
+unfolding onFrame outermostFirst
+outermost-on-frame k f [] h = absurd (not-suc-le-zero h)
+outermost-on-frame k f (g ∷ fs) h = by-bool (eqb k (length fs))
+    (λ t. rw t (set-at (outermostFirst fs) g [] f k (length-outermost fs ∙ sym (eqb-true k (length fs) t))))
+    (λ t. let less : k < length fs = omega (arith, eqb-false k (length fs) t) in
+    rw t (set-append-left (outermostFirst fs) (g ∷ []) k f (omega (arith, length-outermost fs)) ∙ ap (λ (gs : List Frame). gs ++ (g ∷ [])) (outermost-on-frame k f fs less)))
+
+-- the innermost frame is the last of the outermost first
+inner-less-count : (fs : List Frame) (k : ℕ) → length fs ≡ suc k → k ≡ length (innerLess fs)
+unfolding innerLess
+inner-less-count [] k e = absurd (omega arith)
+inner-less-count (f ∷ fs) k e = omega arith
+
+inner-less-frames : (fs : List Frame) (k : ℕ) → k < 16 → length fs ≡ suc k
+    → splice (cells frameWords (pad 16 noFrame (outermostFirst fs))) (k * 19) (frameWords noFrame) ≡ cells frameWords (pad 16 noFrame (outermostFirst (innerLess fs)))
+unfolding innerLess outermostFirst
+inner-less-frames [] k h e = absurd (omega arith)
+inner-less-frames (f ∷ fs) k h e =
+    let callers : List Frame = outermostFirst fs in
+    let last : length callers ≡ k = omega (arith, length-outermost fs) in
+    record-put frameWords 19 frame-words-length 16 noFrame (callers ++ (f ∷ [])) k h noFrame (omega (arith, length-snoc callers f))
+    ∙ ap (λ xs. cells frameWords (pad 16 noFrame xs)) (set-at callers f [] noFrame k last) ∙ ap (cells frameWords) (pad-made-up 16 noFrame callers k h last)
+
+-- ---- The records, in their places (whether they are there or not)
+
+held-by : {l l₁ rest : List ℕ} {S : State} → l₁ ≡ l → Held l S rest → Held l₁ S rest
+held-by e held = record { words = e ∙ held .words }
+
+module _ {l rest : List ℕ} {S : State} (held : Held l S rest) where
+  pub held-length : 8192 < suc (length l)
+  held-length = omega (arith, ap length (held .words) ∙ length-append (stateWords S) rest, state-words-length S)
+
+  pub objects-at : getD l 0 0 ≡ length (S .objects)
+  objects-at = used-get (used held) 0 (omega arith) ∙ first-count (length (S .objects)) (length (S .threads)) (S .objects) (S .threads) (S .channels)
+
+  pub threads-at : getD l 1 0 ≡ length (S .threads)
+  threads-at = used-get (used held) 1 (omega arith) ∙ second-count (length (S .objects)) (length (S .threads)) (S .objects) (S .threads) (S .channels)
+
+  pub object-at : (o : ℕ) → o < 256 → l ≡ splice l (8 + o * 8) (objectWords (getD (S .objects) o unmade))
+  object-at o h =
+      let x : Object = getD (S .objects) o unmade in
+      used-same (used held) (8 + o * 8) (objectWords x) (omega (arith, object-words-length x))
+      (objects-to _ _ (S .objects) (S .threads) (S .channels) o x (S .objects) h (record-is objectWords 8 object-words-length 256 unmade (S .objects) o h))
+
+  thread-at : (t : ℕ) → t < 16 → l ≡ splice l (2056 + t * 306) (threadWords (threadAt S t))
+  unfolding threadAt
+  thread-at t h =
+      let x : Thread = getD (S .threads) t noThread in
+      used-same (used held) (2056 + t * 306) (threadWords x) (omega (arith, thread-words-length x))
+      (threads-to _ _ (S .objects) (S .threads) (S .channels) t x (S .threads) h (record-is threadWords 306 thread-words-length 16 noThread (S .threads) t h))
+
+  -- word j of a thread; words of a thread replaced
+  thread-word : (t j : ℕ) → t < 16 → j < 306 → getD l (2056 + t * 306 + j) 0 ≡ getD (threadWords (threadAt S t)) j 0
+  thread-word t j h k =
+      let long = thread-words-length (threadAt S t) in
+      ap (λ l. getD l (2056 + t * 306 + j) 0) (thread-at t h)
+      ∙ get-splice l (threadWords (threadAt S t)) (2056 + t * 306) j (omega (arith, held-length)) (omega arith)
+
+  thread-part : (t at : ℕ) (ys : List ℕ) → t < 16 → at + length ys ≤ 306
+      → splice l (2056 + t * 306 + at) ys ≡ splice l (2056 + t * 306) (splice (threadWords (threadAt S t)) at ys)
+  thread-part t at ys h k =
+      let long = thread-words-length (threadAt S t) in
+      ap (λ l. splice l (2056 + t * 306 + at) ys) (thread-at t h)
+      ∙ splice-inside l (threadWords (threadAt S t)) (2056 + t * 306) at ys (omega (arith, held-length)) (omega arith)
+
+  pub frames-at : (t : ℕ) → t < 16 → getD l (2056 + t * 306) 0 ≡ length (threadAt S t .frames)
+  unfolding threadWords
+  frames-at t h = ap (λ i. getD l i 0) (sym (add-zero (2056 + t * 306))) ∙ thread-word t 0 h (omega arith)
+
+  pub sender-at : (t : ℕ) → t < 16 → getD l (2057 + t * 306) 0 ≡ senderWord (threadAt S t .sender)
+  unfolding threadWords
+  sender-at t h =
+      let place : 2057 + t * 306 ≡ 2056 + t * 306 + 1 = omega arith in
+      ap (λ i. getD l i 0) place ∙ thread-word t 1 h (omega arith)
+
+  frame-part : (t k : ℕ) (f : Frame) → t < 16 → k < 16
+      → splice l (2058 + t * 306 + k * 19) (frameWords f) ≡ splice l (2056 + t * 306) (splice (threadWords (threadAt S t)) (2 + k * 19) (frameWords f))
+  frame-part t k f h m =
+      let place : 2058 + t * 306 + k * 19 ≡ 2056 + t * 306 + (2 + k * 19) = omega arith in
+      ap (λ i. splice l i (frameWords f)) place ∙ thread-part t (2 + k * 19) (frameWords f) h (omega (arith, frame-words-length f))
+
+  pub frame-at : (t k : ℕ) → t < 16 → k < 16 → l ≡ splice l (2058 + t * 306 + k * 19) (frameWords (frameAt S t k))
+  unfolding frameAt threadWords
+  frame-at t k h m =
+      let fs = threadAt S t .frames in
+      thread-at t h
+      ∙ ap (splice l (2056 + t * 306)) (sym (frames-to fs (threadAt S t .sender) k (frameAt S t k) (outermostFirst fs) (record-is frameWords 19 frame-words-length 16 noFrame (outermostFirst fs) k m)))
+      ∙ sym (frame-part t k (frameAt S t k) h m)
+
+  pub channel-at : (c : ℕ) → c < 16 → l ≡ splice l (6952 + c * 2) (channelWords (channelAt S c))
+  unfolding channelAt
+  channel-at c h =
+      let x : Channel = getD (S .channels) c emptyChannel in
+      used-same (used held) (6952 + c * 2) (channelWords x) (omega (arith, channel-words-length x))
+      (channels-to _ _ (S .objects) (S .threads) (S .channels) c x (S .channels) (record-is channelWords 2 channel-words-length 16 emptyChannel (S .channels) c h))
+
+  -- ---- Records written
+
+  pub object-put : (o : ℕ) (x : Object) → o < 256 → o < length (S .objects) → Held (splice l (8 + o * 8) (objectWords x)) (putObjects S (set (S .objects) o x)) rest
+  unfolding putObjects
+  object-put o x h k =
+      now-held (putObjects S (set (S .objects) o x))
+      (objects-to _ _ (S .objects) (S .threads) (S .channels) o x (set (S .objects) o x) h (record-put objectWords 8 object-words-length 256 unmade (S .objects) o h x k)
+      ∙ ap (λ n. tableOf n (length (S .threads)) (set (S .objects) o x) (S .threads) (S .channels)) (sym (length-set (S .objects) o x)))
+      (used-splice (used held) (8 + o * 8) (objectWords x) (omega (arith, object-words-length x)))
+
+  pub object-made : (o : ℕ) (x : Object) → o < 256 → o ≡ length (S .objects) → Held (set (splice l (8 + o * 8) (objectWords x)) 0 (suc o)) (putObjects S (S .objects ++ (x ∷ []))) rest
+  unfolding putObjects
+  object-made o x h e =
+      let more : List Object = S .objects ++ (x ∷ []) in
+      let count : suc o ≡ length more = omega (arith, length-snoc (S .objects) x) in
+      now-held (putObjects S more)
+      (ap (λ us. set us 0 (suc o)) (objects-to _ _ (S .objects) (S .threads) (S .channels) o x more h (record-more objectWords 8 object-words-length 256 unmade (S .objects) o h x (sym e)))
+      ∙ set-first-count _ _ more (S .threads) (S .channels) (suc o)
+      ∙ ap (λ n. tableOf n (length (S .threads)) more (S .threads) (S .channels)) count)
+      (used-set (used-splice (used held) (8 + o * 8) (objectWords x) (omega (arith, object-words-length x))) 0 (suc o) (omega arith))
+
+  thread-put : (t : ℕ) (fs : List Frame) (d : Sender) → t < 16 → t < length (S .threads)
+      → Held (splice l (2056 + t * 306) (threadWords (record { frames = fs; sender = d }))) (putThread S t fs d) rest
+  unfolding putThread
+  thread-put t fs d h k =
+      let x : Thread = record { frames = fs; sender = d } in
+      now-held (putThread S t fs d)
+      (threads-to _ _ (S .objects) (S .threads) (S .channels) t x (set (S .threads) t x) h (record-put threadWords 306 thread-words-length 16 noThread (S .threads) t h x k)
+      ∙ ap (λ n. tableOf (length (S .objects)) n (S .objects) (set (S .threads) t x) (S .channels)) (sym (length-set (S .threads) t x)))
+      (used-splice (used held) (2056 + t * 306) (threadWords x) (omega (arith, thread-words-length x)))
+
+  pub frame-put : (t k : ℕ) (f : Frame) → t < 16 → k < 16 → HasFrame t k S → Held (splice l (2058 + t * 306 + k * 19) (frameWords f)) (editFrame S t k (λ _. f) (threadAt S t .sender)) rest
+  unfolding editFrame threadWords
+  frame-put t k f h m has =
+      let fs = threadAt S t .frames in
+      let d = threadAt S t .sender in
+      let gs : List Frame = onFrame k (λ _. f) fs in
+      let edited = record-put frameWords 19 frame-words-length 16 noFrame (outermostFirst fs) k m f (omega (arith, has .frame, length-outermost fs)) in
+      held-by (
+      frame-part t k f h m
+      ∙ ap (splice l (2056 + t * 306)) (
+      frames-to fs d k f (set (outermostFirst fs) k f) edited
+      ∙ ap (λ xs. length fs ∷ senderWord d ∷ cells frameWords (pad 16 noFrame xs)) (outermost-on-frame k f fs (has .frame))
+      ∙ ap (λ n. n ∷ senderWord d ∷ cells frameWords (pad 16 noFrame (outermostFirst gs))) (sym (length-on-frame k (λ _. f) fs))
+      )
+      ) (thread-put t gs d h (has .thread))
+
+  -- a word of a thread written
+  thread-set : (t j w : ℕ) (ys : List ℕ) → t < 16 → length ys ≡ 306 → j < 306 → set (splice l (2056 + t * 306) ys) (2056 + t * 306 + j) w ≡ splice l (2056 + t * 306) (set ys j w)
+  thread-set t j w ys h e k = set-splice l ys (2056 + t * 306) j w (omega (arith, held-length)) (omega arith)
+
+  pub sender-put : (t : ℕ) (d : Sender) → t < 16 → t < length (S .threads) → Held (set l (2057 + t * 306) (senderWord d)) (putThread S t (threadAt S t .frames) d) rest
+  unfolding threadWords
+  sender-put t d h k =
+      let place : 2057 + t * 306 ≡ 2056 + t * 306 + 1 = omega arith in
+      held-by (
+      ap (λ i. set l i (senderWord d)) place ∙ ap (λ l. set l (2056 + t * 306 + 1) (senderWord d)) (thread-at t h)
+      ∙ thread-set t 1 (senderWord d) (threadWords (threadAt S t)) h (thread-words-length (threadAt S t)) (omega arith)
+      ) (thread-put t (threadAt S t .frames) d h k)
+
+  -- a frame and the number of frames written
+  frames-put : (t k n : ℕ) (f : Frame) (gs : List Frame) → t < 16 → k < 16 → t < length (S .threads) → n ≡ length gs
+      → splice (cells frameWords (pad 16 noFrame (outermostFirst (threadAt S t .frames)))) (k * 19) (frameWords f) ≡ cells frameWords (pad 16 noFrame (outermostFirst gs))
+      → Held (set (splice l (2058 + t * 306 + k * 19) (frameWords f)) (2056 + t * 306) n) (putThread S t gs (threadAt S t .sender)) rest
+  unfolding threadWords
+  frames-put t k n f gs h m there e edited =
+      let fs = threadAt S t .frames in
+      let d = threadAt S t .sender in
+      let ys : List ℕ = length fs ∷ senderWord d ∷ cells frameWords (pad 16 noFrame (outermostFirst gs)) in
+      held-by (
+      ap (λ i. set (splice l (2058 + t * 306 + k * 19) (frameWords f)) i n) (sym (add-zero (2056 + t * 306)))
+      ∙ ap (λ l. set l (2056 + t * 306 + 0) n) (frame-part t k f h m ∙ ap (splice l (2056 + t * 306)) (frames-to fs d k f (outermostFirst gs) edited))
+      ∙ thread-set t 0 n ys h (thread-words-length (record { frames = gs; sender = d })) (omega arith)
+      ∙ ap (λ n. splice l (2056 + t * 306) (n ∷ senderWord d ∷ cells frameWords (pad 16 noFrame (outermostFirst gs)))) e
+      ) (thread-put t gs d h there)
+
+  pub frame-pushed : (t k : ℕ) (f : Frame) → t < 16 → k < 15 → Innermost t k S
+      → Held (set (splice l (2058 + t * 306 + suc k * 19) (frameWords f)) (2056 + t * 306) (k + 2)) (putThread S t (f ∷ threadAt S t .frames) (threadAt S t .sender)) rest
+  unfolding outermostFirst
+  frame-pushed t k f h m inner =
+      let fs = threadAt S t .frames in
+      let count = inner .frames in
+      frames-put t (suc k) (k + 2) f (f ∷ fs) h (omega arith) (inner .thread) (omega arith)
+      (record-more frameWords 19 frame-words-length 16 noFrame (outermostFirst fs) (suc k) (omega arith) f (length-outermost fs ∙ count))
+
+  pub frame-dropped : (t k : ℕ) → t < 16 → k < 16 → Innermost t k S
+      → Held (set (splice l (2058 + t * 306 + k * 19) (frameWords noFrame)) (2056 + t * 306) k) (putThread S t (innerLess (threadAt S t .frames)) (threadAt S t .sender)) rest
+  frame-dropped t k h m inner =
+      frames-put t k k noFrame (innerLess (threadAt S t .frames)) h m (inner .thread) (inner-less-count (threadAt S t .frames) k (inner .frames))
+      (inner-less-frames (threadAt S t .frames) k m (inner .frames))
+
+  pub channel-put : (c : ℕ) (x : Channel) → c < 16 → c < length (S .channels) → Held (splice l (6952 + c * 2) (channelWords x)) (putChannel S c x) rest
+  unfolding putChannel
+  channel-put c x h k =
+      now-held (putChannel S c x)
+      (channels-to _ _ (S .objects) (S .threads) (S .channels) c x (set (S .channels) c x) (record-put channelWords 2 channel-words-length 16 emptyChannel (S .channels) c h x k))
+      (used-splice (used held) (6952 + c * 2) (channelWords x) (omega (arith, channel-words-length x)))
+
+  pub thread-started : (n b : ℕ) → n < 16 → n ≡ length (S .threads) → length (S .channels) ≡ length (S .threads)
+      → (let new : Thread = record { frames = record { block = b; line = 0; slots = Chan n ∷ [] } ∷ []; sender = ready } in
+      Held (set (splice l (2056 + n * 306) (threadWords new)) 1 (suc n)) (started S b) rest)
+  unfolding started
+  thread-started n b h e c =
+      let new : Thread = record { frames = record { block = b; line = 0; slots = Chan n ∷ [] } ∷ []; sender = ready } in
+      let more : List Thread = S .threads ++ (new ∷ []) in
+      let count : suc n ≡ length more = omega (arith, length-snoc (S .threads) new) in
+      now-held (started S b)
+      (ap (λ us. set us 1 (suc n)) (threads-to _ _ (S .objects) (S .threads) (S .channels) n new more h (record-more threadWords 306 thread-words-length 16 noThread (S .threads) n h new (sym e)))
+      ∙ set-second-count _ _ (S .objects) more (S .channels) (suc n)
+      ∙ ap (λ m. tableOf (length (S .objects)) m (S .objects) more (S .channels)) count
+      ∙ channel-made-up (length (S .objects)) (length more) (S .objects) more (S .channels) n h (c ∙ sym e)
+      ∙ ap (λ (m : ℕ). let x : Thread = record { frames = record { block = b; line = 0; slots = Chan m ∷ [] } ∷ []; sender = ready } in
+      tableOf (length (S .objects)) (length (S .threads ++ (x ∷ []))) (S .objects) (S .threads ++ (x ∷ [])) (S .channels ++ (emptyChannel ∷ []))) e)
+      (used-set (used-splice (used held) (2056 + n * 306) (threadWords new) (omega (arith, thread-words-length new))) 1 (suc n) (omega arith))
+
+  -- the words of a thread that is not there
+  pub no-thread-at : (n : ℕ) → n < 16 → n ≡ length (S .threads) → l ≡ splice l (2056 + n * 306) (threadWords noThread)
+  unfolding threadAt
+  no-thread-at n h e =
+      thread-at n h ∙ ap (λ x. splice l (2056 + n * 306) (threadWords x)) (List·getD-eq-default (S .threads) noThread (omega arith))
