@@ -4,10 +4,10 @@ use native.Mathlib.Nat.{le-of-suc-le-suc, not-suc-le-zero, suc-mul, zero-mul, ad
 use native.Mathlib.Omega.{arith}
 use mathlib.Core.Path.{_≡_, refl, sym, ap, _∙_}
 use mathlib.Core.Bool.{Bool, true, false, not, Bool·not-not, _&&_, _||_, cond, false≢true}
-use mathlib.Core.List.{List, [], _∷_, _++_, map, append-assoc, append-nil}
+use mathlib.Core.List.{List, [], _∷_, _++_, map, map-append, append-assoc, append-nil}
 use lib.Dec.{ltb, eqb, ltb→lt}
-use lib.ListN.{length, getD, set, take, replicate, length-append, length-take, length-replicate, drop, replicate-append-replicate, List·getD-append}
-use lib.Seq.{take-at, drop-at, take-append-seam, drop-append-seam, take-append-add, take-append-le, drop-append-add, getD-append-add, getD-take, set-append-left, set-split, take-set-lt}
+use lib.ListN.{length, getD, set, take, replicate, length-append, length-take, length-replicate, drop, replicate-append-replicate, List·getD-append, List·getD-eq-default}
+use lib.Seq.{take-at, drop-at, take-append-seam, drop-append-seam, take-append-add, take-append-le, drop-append-add, getD-append-add, getD-set-other, getD-take, set-append-left, set-getD, set-split, take-set-lt}
 use borrow.Author.Tests.{eqb-true, eqb-false}
 use Rattle.rules.specs.Lists.{any, all, pad, cells, Every}
 
@@ -148,11 +148,24 @@ map-set f [] i a = refl
 map-set f (x ∷ xs) zero a = refl
 map-set f (x ∷ xs) (suc i) a = ap (f x ∷_) (map-set f xs i a)
 
+map-replicate : {A B : Type 0} (f : A → B) (n : ℕ) (d : A) → map f (replicate n d) ≡ replicate n (f d)
+map-replicate f zero d = refl
+map-replicate f (suc n) d = ap (f d ∷_) (map-replicate f n d)
+
+map-take : {A B : Type 0} (f : A → B) (n : ℕ) (xs : List A) → map f (take n xs) ≡ take n (map f xs)
+map-take f zero xs = refl
+map-take f (suc n) [] = refl
+map-take f (suc n) (x ∷ xs) = ap (f x ∷_) (map-take f n xs)
+
 -- ---- pad and cells
 
 pub length-pad : {A : Type 0} (n : ℕ) (d : A) (xs : List A) → length (pad n d xs) ≡ n
 unfolding pad
 length-pad n d xs = length-take n (xs ++ replicate n d) ∙ omega (arith, length-append xs (replicate n d), length-replicate n d)
+
+pub map-pad : {A B : Type 0} (f : A → B) (n : ℕ) (d : A) (xs : List A) → map f (pad n d xs) ≡ pad n (f d) (map f xs)
+unfolding pad
+map-pad f n d xs = map-take f n (xs ++ replicate n d) ∙ ap (take n) (map-append f xs (replicate n d) ∙ ap (map f xs ++_) (map-replicate f n d))
 
 pub length-cells : {A : Type 0} (f : A → List ℕ) (w : ℕ) → ((a : A) → length (f a) ≡ w) → (xs : List A) → length (cells f xs) ≡ length xs * w
 unfolding cells
@@ -190,6 +203,16 @@ pub length-records : {A : Type 0} (f : A → List ℕ) (w : ℕ) → ((a : A) �
 length-records f w e n d xs = length-cells f w e (pad n d xs) ∙ ap (λ k. k * w) (length-pad n d xs)
 
 -- ---- Reading and writing inside lists
+
+-- what is there does not depend on what stands past the end
+pub get-there : {A : Type 0} (l : List A) (i : ℕ) (d e : A) → i < length l → getD l i d ≡ getD l i e
+get-there [] i d e h = absurd (not-suc-le-zero h)
+get-there (x ∷ xs) zero d e h = refl
+get-there (x ∷ xs) (suc i) d e h = get-there xs i d e (le-of-suc-le-suc h)
+
+-- a place before one that is written
+pub get-before : {A : Type 0} (l : List A) (p q : ℕ) (a d : A) → q < p → getD (set l p a) q d ≡ getD l q d
+get-before l p q a d h = getD-set-other l p q a d (λ e. omega arith)
 
 -- a read and a write past a part of known length
 pub get-past : {A : Type 0} (p q : List A) (b k : ℕ) (d : A) → length p ≡ b → getD (p ++ q) (b + k) d ≡ getD q k d
@@ -244,6 +267,10 @@ module _ {A : Type 0} (n : ℕ) (d : A) (xs : List A) where
   unfolding pad
   set-pad i a h l = sym (take-set-lt n (xs ++ replicate n d) i a l) ∙ ap (take n) (set-append-left xs (replicate n d) i a h)
 
+  -- what stands there already
+  pub set-pad-same : (i : ℕ) → i < n → set (pad n d xs) i (getD xs i d) ≡ pad n d xs
+  set-pad-same i h = rw (← get-pad i h) (set-getD (pad n d xs) i d)
+
 -- words put after the last that is not made up; `rest` stands past the padded list
 pub pad-more : {A : Type 0} (n : ℕ) (d : A) (xs ys rest : List A) (p q : ℕ) → p ≡ length xs → q ≡ p + length ys → q ≤ n
     → take p (pad n d xs ++ rest) ++ (ys ++ drop q (pad n d xs ++ rest)) ≡ pad n d (xs ++ ys) ++ rest
@@ -260,12 +287,18 @@ pad-more {A} n d xs ys rest p q e₁ e₂ h =
     ∙ drop-append-add xs _ (length ys) ∙ drop-at (replicate (length ys) d) _ (length ys) (length-replicate (length ys) d) in
     rw (front, back, pad-by n d (xs ++ ys) k after) (simp append-assoc)
 
--- where there is room, one more takes the place of the first that is made up; where there is none, it is cut
+-- where there is room, one more takes the place of the first that is made up
 pub pad-snoc : {A : Type 0} (n : ℕ) (d : A) (xs : List A) (k : ℕ) (x : A) → length xs ≡ k → k < n → pad n d (xs ++ (x ∷ [])) ≡ set (pad n d xs) k x
 pad-snoc n d xs k x e h =
     sym (ap (λ i. set (pad n d xs) i x) (sym e) ∙ set-split (pad n d xs) (length xs) x (rw (length-pad n d xs) (omega arith))
     ∙ simp append-nil at (pad-more n d xs (x ∷ []) [] (length xs) (suc (length xs)) refl (omega arith) (omega arith)))
 
+-- what would be made up may as well be there
+pub pad-made-up : {A : Type 0} (n : ℕ) (d : A) (xs : List A) (k : ℕ) → length xs ≡ k → k < n → pad n d (xs ++ (d ∷ [])) ≡ pad n d xs
+pad-made-up n d xs k e h =
+    pad-snoc n d xs k d e h ∙ ap (set (pad n d xs) k) (sym (List·getD-eq-default xs d (omega arith))) ∙ set-pad-same n d xs k h
+
+-- where there is none, it is cut
 pub pad-cut : {A : Type 0} (n : ℕ) (d : A) (xs ys : List A) → n ≤ length xs → pad n d (xs ++ ys) ≡ pad n d xs
 unfolding pad
 pad-cut n d xs ys h =

@@ -16,7 +16,7 @@ use Rattle.rules.specs.Script.{Operand, reads, takes, Expr, value, field
 use Rattle.rules.specs.State.{Object, Frame, Sender, ready, waiting, Thread, noThread, Channel, emptyChannel, State}
 use Rattle.rules.specs.Valid.{OperandOk, ExprOk, LetsOk, BlockOk, KindOk, Valid}
 use Rattle.rules.specs.Fits.{InRange, IsObject, ObjectFits, FrameFits, SenderFits, ThreadFits, ChannelFits, Fits}
-use Rattle.rules.specs.Tables.{operandWord, operandItem, lineWords, row, firstLines, usedProgramWords, programWords, word, unmade, noFrame, objectWords, frameWords, senderWord, outermostFirst, threadWords, channelWords, usedStateWords, stateWords}
+use Rattle.rules.specs.Tables.{operandWord, operandItem, capOf, lineWords, row, firstLines, usedProgramWords, programWords, word, unmade, noFrame, objectWords, frameWords, senderWord, outermostFirst, threadWords, channelWords, usedStateWords, stateWords}
 use Rattle.rules.proofs.ListLaws.{every-map, every-append, every-snoc, every-image, every-pad, every-cells, append-cut, length-pad, length-cells, pad-front, pad-tells, length-records}
 use Rattle.rules.proofs.Accepted.{line-count, table-lines}
 use Rattle.rules.proofs.Keeps.{object-in-range, each-frame}
@@ -268,14 +268,7 @@ module _ {A : Type 0} (f : A → List ℕ) (w : ℕ) (wide : (a : A) → length 
       let c = append-cut _ _ us vs (length-records f w wide n d xs ∙ sym (length-records f w wide n d ys)) e in
       (records-tell n d xs ys m l h k (c .0), c .1)
 
-capOf : ℕ → Cap
-capOf zero = Imm
-capOf (suc zero) = Iso
-capOf (suc (suc zero)) = Local
-capOf (suc (suc (suc n))) = Unsafe
-
-cap-of-rank : (k : Cap) → capOf (rank k) ≡ k
-unfolding capOf
+pub cap-of-rank : (k : Cap) → capOf (rank k) ≡ k
 cap-of-rank Imm = refl
 cap-of-rank Iso = refl
 cap-of-rank Local = refl

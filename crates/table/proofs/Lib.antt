@@ -2,11 +2,12 @@
 -- the program table's words; the lines of a program
 pub mod ProgramTable
 pub mod ProgramLines
+-- edits of the abstract state
+pub mod StateEdits
 -- the state table's words; what is read of it
 pub mod StateTable
 mod StateReads
--- edits of the abstract state; slots, records and frames written
-pub mod StateEdits
+-- slots, records and frames written
 mod StateMoves
-mod StateEdits3
-mod StateEdits4
+mod StateRecords
+mod StateFrames

@@ -1,24 +1,24 @@
 -- What is read of the state table: a record's word stands in the record's place, and a value's word is read back as the value.
 use Prim.Native.Nat.{ℕ, zero, suc, _+_, _*_, _≤_, _<_}
-use native.Mathlib.Nat.{le-of-suc-le-suc, not-suc-le-zero, add-sub-cancel, mod-eq-of-lt}
+use native.Mathlib.Nat.{add-sub-cancel, mod-eq-of-lt}
 use native.Mathlib.Omega.{arith}
 use mathlib.Core.Path.{_≡_, refl, sym, ap, _∙_}
-use mathlib.Core.List.{List, [], _∷_, map}
+use mathlib.Core.List.{List, map}
 use lib.ListN.{length, getD, List·getD-eq-default, List·getD-map}
 use borrow.Author.Tests.{ne-eqb, lt-ltb, le-ltb}
 use Rattle.rules.specs.declared.Cap.{Cap}
-use Rattle.rules.specs.declared.Cap.the-variants.{Imm, Iso, Local, Unsafe}
+use Rattle.rules.specs.declared.Cap.the-variants.{Unsafe}
 use Rattle.rules.specs.declared.Value.{Value}
 use Rattle.rules.specs.declared.Value.the-variants.{Absent, Obj, Chan}
 use Rattle.rules.specs.Mosts as Most
 use Rattle.rules.specs.Lists.{pad}
-use Rattle.rules.specs.Script.{rank}
-use Rattle.rules.specs.State.{Object, State, objectAt, channelAt, slotAt}
-use Rattle.rules.specs.Tables.{word, unmade, objectWords, frameWords, channelWords}
-use Rattle.rules.proofs.ListLaws.{get-pad}
-use Rattle.rules.proofs.TableWords.{object-words-length, frame-words-length, channel-words-length}
-use Rattle.table.specs.State.{valueOf, capOf, InTable, Held, Sees, frameAt, FieldIn}
-use Rattle.table.proofs.StateTable.{splice, get-splice, held-length, object-at, frame-at, channel-at}
+use Rattle.rules.specs.State.{Object, State, noObject, objectAt, channelAt, slotAt}
+use Rattle.rules.specs.Tables.{capOf, word, unmade, objectWords, frameWords, channelWords}
+use Rattle.rules.proofs.ListLaws.{get-pad, get-there}
+use Rattle.rules.proofs.TableWords.{cap-of-rank}
+use Rattle.table.specs.State.{valueOf, InTable, Held, Sees, Placed, frameAt, FieldIn}
+use Rattle.table.specs.declared.state.Here.{Here}
+use Rattle.table.proofs.StateTable.{part-get, object-part, frame-part, channel-part}
 
 -- ---- Values and capabilities
 
@@ -28,15 +28,12 @@ value-of-word (Obj n) h = simp (ne-eqb (n + 1) 0 (λ e. omega arith), lt-ltb (n 
 value-of-word (Chan c) h =
     simp (ne-eqb (c + 257) 0 (λ e. omega arith), le-ltb (c + 257) 257 (omega arith), add-sub-cancel c 257) (ap Chan (mod-eq-of-lt h))
 
-cap-of-rank : (k : Cap) → capOf (rank k) ≡ k
-cap-of-rank Imm = refl
-cap-of-rank Iso = refl
-cap-of-rank Local = refl
-cap-of-rank Unsafe = refl
-
 -- a word of none of the first three is the fourth's
 pub other-cap : (w : ℕ) → (w ≡ 0 → ⊥) → (w ≡ 1 → ⊥) → (w ≡ 2 → ⊥) → Unsafe ≡ capOf w
-other-cap w imm iso local = simp (ne-eqb w 0 imm, ne-eqb w 1 iso, ne-eqb w 2 local)
+other-cap zero imm iso local = absurd (imm refl)
+other-cap (suc zero) imm iso local = absurd (iso refl)
+other-cap (suc (suc zero)) imm iso local = absurd (local refl)
+other-cap (suc (suc (suc n))) imm iso local = refl
 
 pub object-in-table : (v : Value) (n : ℕ) → v ≡ Obj n → InTable v → n < 256
 object-in-table v n e h = rw e at h
@@ -49,46 +46,30 @@ unfolding slotAt
 value-at n vs i h = List·getD-map word (pad n Absent vs) i Absent ∙ ap word (get-pad n Absent vs i h)
 
 -- an object that is there, and one that may not be
-object-there : (os : List Object) (o : ℕ) → o < length os → getD os o unmade ≡ objectAt os o
+pub object-there : (os : List Object) (o : ℕ) → o < length os → getD os o unmade ≡ objectAt os o
 unfolding objectAt
-object-there [] o h = absurd (not-suc-le-zero h)
-object-there (x ∷ os) zero h = refl
-object-there (x ∷ os) (suc o) h = object-there os o (le-of-suc-le-suc h)
+object-there os o h = get-there os o unmade noObject h
 
 object-fields : (os : List Object) (o : ℕ) → getD os o unmade .fields ≡ objectAt os o .fields
 unfolding objectAt
-object-fields [] o = refl
-object-fields (x ∷ os) zero = refl
-object-fields (x ∷ os) (suc o) = object-fields os o
+object-fields os o =
+    let fields : Object → List Value = λ x. x .fields in
+    sym (List·getD-map fields os o unmade) ∙ List·getD-map fields os o noObject
 
 -- ---- Words
 
--- a word of a part that is there
-word-of : (l ys : List ℕ) (at j i : ℕ) → l ≡ splice l at ys → at + length ys ≤ length l → j < length ys → i ≡ at + j → getD l i 0 ≡ getD ys j 0
-word-of l ys at j i e h k place = ap (λ i. getD l i 0) place ∙ ap (λ l. getD l (at + j) 0) e ∙ get-splice l ys at j (omega arith) k
-
 module _ {l rest : List ℕ} {S : State} (held : Held l S rest) where
-  -- word j of a frame, of a channel and of an object
+  -- word j of a frame, of a channel, and of an object that is there
   pub frame-word : (t k j i : ℕ) → t < 16 → k < 16 → j < 19 → i ≡ 2058 + t * 306 + k * 19 + j → getD l i 0 ≡ getD (frameWords (frameAt S t k)) j 0
-  frame-word t k j i h m lt place =
-      let long = frame-words-length (frameAt S t k) in
-      word-of l (frameWords (frameAt S t k)) (2058 + t * 306 + k * 19) j i (frame-at held t k h m) (omega (arith, held-length held)) (omega arith) place
+  frame-word t k j i h m lt place = part-get (frame-part held t k h m) j i place lt
 
   pub channel-word : (c j i : ℕ) → c < 16 → j < 2 → i ≡ 6952 + c * 2 + j → getD l i 0 ≡ getD (channelWords (channelAt S c)) j 0
-  channel-word c j i h lt place =
-      let long = channel-words-length (channelAt S c) in
-      word-of l (channelWords (channelAt S c)) (6952 + c * 2) j i (channel-at held c h) (omega (arith, held-length held)) (omega arith) place
-
-  object-part : (o j i : ℕ) → o < 256 → j < 8 → i ≡ 8 + o * 8 + j → getD l i 0 ≡ getD (objectWords (getD (S .objects) o unmade)) j 0
-  object-part o j i h lt place =
-      let x : Object = getD (S .objects) o unmade in
-      let long = object-words-length x in
-      word-of l (objectWords x) (8 + o * 8) j i (object-at held o h) (omega (arith, held-length held)) (omega arith) place
+  channel-word c j i h lt place = part-get (channel-part held c h) j i place lt
 
   pub object-word : (o j i : ℕ) → o < 256 → j < 8 → i ≡ 8 + o * 8 + j → o < length (S .objects) → getD l i 0 ≡ getD (objectWords (objectAt (S .objects) o)) j 0
-  object-word o j i h lt place there = object-part o j i h lt place ∙ ap (λ x. getD (objectWords x) j 0) (object-there (S .objects) o there)
+  object-word o j i h lt place there = part-get (object-part held o h) j i place lt ∙ ap (λ x. getD (objectWords x) j 0) (object-there (S .objects) o there)
 
-  -- the word of a slot, and of a field whether the object is there or not
+  -- the word of a slot, of a field whether the object is there or not, and of a message
   pub slot-word : (t k s i : ℕ) → t < 16 → k < 16 → s < 16 → i ≡ 2058 + t * 306 + k * 19 + 3 + s → getD l i 0 ≡ word (slotAt (frameAt S t k .slots) s)
   unfolding frameWords
   slot-word t k s i h m lt place = frame-word t k (suc (suc (suc s))) i h m (omega arith) (omega arith) ∙ value-at Most.slots (frameAt S t k .slots) s lt
@@ -96,8 +77,16 @@ module _ {l rest : List ℕ} {S : State} (held : Held l S rest) where
   pub field-word : (o j i : ℕ) → o < 256 → j < 4 → i ≡ 12 + o * 8 + j → getD l i 0 ≡ word (slotAt (objectAt (S .objects) o .fields) j)
   unfolding objectWords
   field-word o j i h lt place =
-      object-part o (suc (suc (suc (suc j)))) i h (omega arith) (omega arith) ∙ value-at Most.fields (getD (S .objects) o unmade .fields) j lt
+      part-get (object-part held o h) (suc (suc (suc (suc j)))) i (omega arith) (omega arith) ∙ value-at Most.fields (getD (S .objects) o unmade .fields) j lt
       ∙ ap (λ vs. word (slotAt vs j)) (object-fields (S .objects) o)
+
+  pub message-word : (c : ℕ) → c < 16 → getD l (6952 + c * 2) 0 ≡ word (channelAt S c .message)
+  unfolding channelWords
+  message-word c h = channel-word c 0 (6952 + c * 2) h (omega arith) (omega arith)
+
+  -- a slot where a thread stands
+  pub slot-here : (h : Here) → Placed h → (i : ℕ) → i < 16 → getD l (h .frame + 3 + i) 0 ≡ word (slotAt (frameAt S (h .thread) (h .depth) .slots) i)
+  slot-here h placed i lt = slot-word (h .thread) (h .depth) i (h .frame + 3 + i) (placed .thread) (placed .depth) lt (omega (arith, placed .frame))
 
 -- ---- What is seen
 
@@ -110,8 +99,7 @@ module _ {l : List ℕ} {r : Value} where
   field-seen o j h lt e = record { sees = λ S rest held has. e ∙ ap valueOf (field-word held o j (12 + o * 8 + j) h lt refl) ∙ value-of-word (slotAt (objectAt (S .objects) o .fields) j) (has .in-table) }
 
   pub message-seen : (c : ℕ) → c < 16 → r ≡ valueOf (getD l (6952 + c * 2) 0) → Sees l (λ S. InTable (channelAt S c .message)) (λ S. channelAt S c .message) r
-  unfolding channelWords
-  message-seen c h e = record { sees = λ S rest held in-table. e ∙ ap valueOf (channel-word held c 0 (6952 + c * 2) h (omega arith) (omega arith)) ∙ value-of-word (channelAt S c .message) in-table }
+  message-seen c h e = record { sees = λ S rest held in-table. e ∙ ap valueOf (message-word held c h) ∙ value-of-word (channelAt S c .message) in-table }
 
 -- no object has a fifth field
 pub no-field-seen : (l : List ℕ) (o j : ℕ) → 4 ≤ j → Sees l (FieldIn o j) (λ S. slotAt (objectAt (S .objects) o .fields) j) Absent

@@ -1,22 +1,21 @@
 -- The state table's words: where each record stands, and what a record written in its place makes of the state.
 use Prim.Native.Nat.{ℕ, zero, suc, _+_, _-_, _*_, _≤_, _<_}
-use native.Mathlib.Nat.{le-of-suc-le-suc, not-suc-le-zero, suc-mul, zero-mul, add-comm, add-assoc, zero-add, add-zero}
+use native.Mathlib.Nat.{le-of-suc-le-suc, not-suc-le-zero, suc-mul, zero-mul, add-comm, add-assoc, zero-add}
 use native.Mathlib.Omega.{arith}
 use mathlib.Core.Path.{_≡_, refl, sym, ap, _∙_}
 use mathlib.Core.List.{List, [], _∷_, _++_, append-assoc, append-nil}
-use lib.Dec.{eqb}
 use lib.ListN.{length, getD, set, take, drop, replicate, length-append, length-set, length-drop, drop-of-length-le, List·getD-append, List·getD-eq-default}
-use lib.Seq.{length-take-le, take-append-le, take-append-add, drop-append-le, drop-append-add, set-append-left, set-at, set-getD, take-set-lt}
-use borrow.Author.Tests.{eqb-true, eqb-false}
+use lib.Seq.{length-take-le, take-append-le, take-append-add, drop-append-le, drop-append-add, set-append-left, set-at}
 use Rattle.rules.specs.Mosts as Most
 use Rattle.rules.specs.Lists.{pad, cells}
 use Rattle.rules.specs.State.{Object, Frame, Sender, ready, Thread, noThread, Channel, emptyChannel, State, threadAt, channelAt}
 use Rattle.rules.specs.Turn.{putThread, putObjects, putChannel, started}
 use Rattle.rules.specs.Tables.{unmade, noFrame, objectWords, frameWords, senderWord, outermostFirst, threadWords, channelWords, usedStateWords, stateWords}
 use Rattle.rules.specs.declared.Value.the-variants.{Chan}
-use Rattle.rules.proofs.ListLaws.{by-bool, length-snoc, length-pad, pad-front, length-records, get-past, set-past, get-pad, set-pad, pad-snoc}
+use Rattle.rules.proofs.ListLaws.{length-snoc, length-pad, pad-front, length-records, get-past, set-past, get-pad, set-pad, set-pad-same, pad-snoc, pad-made-up}
 use Rattle.rules.proofs.TableWords.{object-words-length, frame-words-length, thread-words-length, channel-words-length, state-words-length, used-state-words-length, length-outermost}
 use Rattle.table.specs.State.{Held, frameAt, onFrame, editFrame, HasFrame, Innermost, innerLess}
+use Rattle.table.proofs.StateEdits.{length-edited, outermost-edited}
 
 -- ---- A part of a list, replaced
 
@@ -69,20 +68,25 @@ unfolding splice
 get-splice l ys at j h k =
     get-past (take at l) (ys ++ drop (at + length ys) l) at j 0 (length-take-le at l (omega arith)) ∙ List·getD-append ys (drop (at + length ys) l) 0 j k
 
+-- the n words ws stand at `at` in m, and what is around them is as in l
+pub record Part (l : List ℕ) (at n : ℕ) (ws m : List ℕ) : Type 0 where
+  pub is : m ≡ splice l at ws
+  pub long : length ws ≡ n
+  pub fits : at + n ≤ length l
+
+-- word j of them, at place i: read and written
+module _ {l ws m : List ℕ} {at n : ℕ} (p : Part l at n ws m) where
+  pub part-get : (j i : ℕ) → i ≡ at + j → j < n → getD m i 0 ≡ getD ws j 0
+  part-get j i e h = rw (e, p .is) (get-splice l ws at j (omega (arith, p .long, p .fits)) (omega (arith, p .long)))
+
+  pub part-set : (j i w : ℕ) → i ≡ at + j → j < n → Part l at n (set ws j w) (set m i w)
+  part-set j i w e h = record {
+    is = rw (e, p .is) (set-splice l ws at j w (omega (arith, p .long, p .fits)) (omega (arith, p .long)));
+    long = length-set ws j w ∙ p .long;
+    fits = p .fits;
+  }
+
 -- ---- Records among others
-
-module _ {A : Type 0} (n : ℕ) (d : A) (xs : List A) (i : ℕ) (h : i < n) where
-  -- one in its place; and what stands there already
-  set-padded : (x : A) → i < length xs → set (pad n d xs) i x ≡ pad n d (set xs i x)
-  unfolding pad
-  set-padded x k = sym (take-set-lt n (xs ++ replicate n d) i x h) ∙ ap (take n) (set-append-left xs (replicate n d) i x k)
-
-  set-same : set (pad n d xs) i (getD xs i d) ≡ pad n d xs
-  set-same = rw (← get-pad n d xs i h) (set-getD (pad n d xs) i d)
-
-  -- what would be made up may as well be there
-  pad-made-up : length xs ≡ i → pad n d (xs ++ (d ∷ [])) ≡ pad n d xs
-  pad-made-up e = pad-snoc n d xs i d e h ∙ ap (set (pad n d xs) i) (sym (List·getD-eq-default xs d (omega arith))) ∙ set-same
 
 module _ {A : Type 0} (f : A → List ℕ) (w : ℕ) (wide : (a : A) → length (f a) ≡ w) where
   splice-cells : (xs : List A) (i : ℕ) (x : A) → i < length xs → splice (cells f xs) (i * w) (f x) ≡ cells f (set xs i x)
@@ -99,10 +103,10 @@ module _ {A : Type 0} (f : A → List ℕ) (w : ℕ) (wide : (a : A) → length 
     splice-record x = splice-cells (pad n d xs) i x (rw (length-pad n d xs) h)
 
     record-is : splice (cells f (pad n d xs)) (i * w) (f (getD xs i d)) ≡ cells f (pad n d xs)
-    record-is = splice-record (getD xs i d) ∙ ap (cells f) (set-same n d xs i h)
+    record-is = splice-record (getD xs i d) ∙ ap (cells f) (set-pad-same n d xs i h)
 
     record-put : (x : A) → i < length xs → splice (cells f (pad n d xs)) (i * w) (f x) ≡ cells f (pad n d (set xs i x))
-    record-put x k = splice-record x ∙ ap (cells f) (set-padded n d xs i h x k)
+    record-put x k = splice-record x ∙ ap (cells f) (set-pad n d xs i x k h)
 
     record-more : (x : A) → length xs ≡ i → splice (cells f (pad n d xs)) (i * w) (f x) ≡ cells f (pad n d (xs ++ (x ∷ [])))
     record-more x e = splice-record x ∙ ap (cells f) (sym (pad-snoc n d xs i x e h))
@@ -196,7 +200,7 @@ module _ (a b : ℕ) (os : List Object) (ts : List Thread) (cs : List Channel) w
   -- a channel that holds nothing is made up
   channel-made-up : (n : ℕ) → n < 16 → length cs ≡ n → tableOf a b os ts cs ≡ tableOf a b os ts (cs ++ (emptyChannel ∷ []))
   unfolding tableOf
-  channel-made-up n h e = rw (pad-made-up 16 emptyChannel cs n h e)
+  channel-made-up n h e = rw (pad-made-up 16 emptyChannel cs n e h)
 
 -- they stand before the zeros at the end
 record Used (l us rest : List ℕ) : Type 0 where
@@ -249,19 +253,6 @@ module _ (fs : List Frame) (d : Sender) (k : ℕ) where
       splice-past (length fs ∷ senderWord d ∷ []) (cells frameWords (pad 16 noFrame (outermostFirst fs))) 2 (k * 19) (frameWords f) refl
       ∙ ap (λ (l : List ℕ). length fs ∷ senderWord d ∷ l) e
 
-length-on-frame : (k : ℕ) (g : Frame → Frame) (fs : List Frame) → length (onFrame k g fs) ≡ length fs
-unfolding onFrame
-length-on-frame k g [] = refl
-length-on-frame k g (f ∷ fs) = by-bool (eqb k (length fs)) (λ t. rw t) (λ t. rw t (ap suc (length-on-frame k g fs)))
-
-outermost-on-frame : (k : ℕ) (f : Frame) (fs : List Frame) → k < length fs → set (outermostFirst fs) k f ≡ outermostFirst (onFrame k (λ _. f) fs)
-unfolding onFrame outermostFirst
-outermost-on-frame k f [] h = absurd (not-suc-le-zero h)
-outermost-on-frame k f (g ∷ fs) h = by-bool (eqb k (length fs))
-    (λ t. rw t (set-at (outermostFirst fs) g [] f k (length-outermost fs ∙ sym (eqb-true k (length fs) t))))
-    (λ t. let less : k < length fs = omega (arith, eqb-false k (length fs) t) in
-    rw t (set-append-left (outermostFirst fs) (g ∷ []) k f (omega (arith, length-outermost fs)) ∙ ap (λ (gs : List Frame). gs ++ (g ∷ [])) (outermost-on-frame k f fs less)))
-
 -- the innermost frame is the last of the outermost first
 inner-less-count : (fs : List Frame) (k : ℕ) → length fs ≡ suc k → k ≡ length (innerLess fs)
 unfolding innerLess
@@ -276,11 +267,12 @@ inner-less-frames (f ∷ fs) k h e =
     let callers : List Frame = outermostFirst fs in
     let last : length callers ≡ k = omega (arith, length-outermost fs) in
     record-put frameWords 19 frame-words-length 16 noFrame (callers ++ (f ∷ [])) k h noFrame (omega (arith, length-snoc callers f))
-    ∙ ap (λ xs. cells frameWords (pad 16 noFrame xs)) (set-at callers f [] noFrame k last) ∙ ap (cells frameWords) (pad-made-up 16 noFrame callers k h last)
+    ∙ ap (λ xs. cells frameWords (pad 16 noFrame xs)) (set-at callers f [] noFrame k last) ∙ ap (cells frameWords) (pad-made-up 16 noFrame callers k last h)
 
 -- ---- The records, in their places (whether they are there or not)
 
-held-by : {l l₁ rest : List ℕ} {S : State} → l₁ ≡ l → Held l S rest → Held l₁ S rest
+-- the same list holds the same state
+pub held-by : {l l₁ rest : List ℕ} {S : State} → l₁ ≡ l → Held l S rest → Held l₁ S rest
 held-by e held = record { words = e ∙ held .words }
 
 module _ {l rest : List ℕ} {S : State} (held : Held l S rest) where
@@ -306,35 +298,30 @@ module _ {l rest : List ℕ} {S : State} (held : Held l S rest) where
       used-same (used held) (2056 + t * 306) (threadWords x) (omega (arith, thread-words-length x))
       (threads-to _ _ (S .objects) (S .threads) (S .channels) t x (S .threads) h (record-is threadWords 306 thread-words-length 16 noThread (S .threads) t h))
 
-  -- word j of a thread; words of a thread replaced
-  thread-word : (t j : ℕ) → t < 16 → j < 306 → getD l (2056 + t * 306 + j) 0 ≡ getD (threadWords (threadAt S t)) j 0
-  thread-word t j h k =
-      let long = thread-words-length (threadAt S t) in
-      ap (λ l. getD l (2056 + t * 306 + j) 0) (thread-at t h)
-      ∙ get-splice l (threadWords (threadAt S t)) (2056 + t * 306) j (omega (arith, held-length)) (omega arith)
+  thread-part : (t : ℕ) → t < 16 → Part l (2056 + t * 306) 306 (threadWords (threadAt S t)) l
+  thread-part t h = record { is = thread-at t h; long = thread-words-length (threadAt S t); fits = omega (arith, held-length) }
 
-  thread-part : (t at : ℕ) (ys : List ℕ) → t < 16 → at + length ys ≤ 306
+  -- words of a thread replaced
+  thread-splice : (t at : ℕ) (ys : List ℕ) → t < 16 → at + length ys ≤ 306
       → splice l (2056 + t * 306 + at) ys ≡ splice l (2056 + t * 306) (splice (threadWords (threadAt S t)) at ys)
-  thread-part t at ys h k =
+  thread-splice t at ys h k =
       let long = thread-words-length (threadAt S t) in
       ap (λ l. splice l (2056 + t * 306 + at) ys) (thread-at t h)
       ∙ splice-inside l (threadWords (threadAt S t)) (2056 + t * 306) at ys (omega (arith, held-length)) (omega arith)
 
   pub frames-at : (t : ℕ) → t < 16 → getD l (2056 + t * 306) 0 ≡ length (threadAt S t .frames)
   unfolding threadWords
-  frames-at t h = ap (λ i. getD l i 0) (sym (add-zero (2056 + t * 306))) ∙ thread-word t 0 h (omega arith)
+  frames-at t h = part-get (thread-part t h) 0 (2056 + t * 306) (omega arith) (omega arith)
 
   pub sender-at : (t : ℕ) → t < 16 → getD l (2057 + t * 306) 0 ≡ senderWord (threadAt S t .sender)
   unfolding threadWords
-  sender-at t h =
-      let place : 2057 + t * 306 ≡ 2056 + t * 306 + 1 = omega arith in
-      ap (λ i. getD l i 0) place ∙ thread-word t 1 h (omega arith)
+  sender-at t h = part-get (thread-part t h) 1 (2057 + t * 306) (omega arith) (omega arith)
 
-  frame-part : (t k : ℕ) (f : Frame) → t < 16 → k < 16
+  frame-splice : (t k : ℕ) (f : Frame) → t < 16 → k < 16
       → splice l (2058 + t * 306 + k * 19) (frameWords f) ≡ splice l (2056 + t * 306) (splice (threadWords (threadAt S t)) (2 + k * 19) (frameWords f))
-  frame-part t k f h m =
+  frame-splice t k f h m =
       let place : 2058 + t * 306 + k * 19 ≡ 2056 + t * 306 + (2 + k * 19) = omega arith in
-      ap (λ i. splice l i (frameWords f)) place ∙ thread-part t (2 + k * 19) (frameWords f) h (omega (arith, frame-words-length f))
+      ap (λ i. splice l i (frameWords f)) place ∙ thread-splice t (2 + k * 19) (frameWords f) h (omega (arith, frame-words-length f))
 
   pub frame-at : (t k : ℕ) → t < 16 → k < 16 → l ≡ splice l (2058 + t * 306 + k * 19) (frameWords (frameAt S t k))
   unfolding frameAt threadWords
@@ -342,7 +329,7 @@ module _ {l rest : List ℕ} {S : State} (held : Held l S rest) where
       let fs = threadAt S t .frames in
       thread-at t h
       ∙ ap (splice l (2056 + t * 306)) (sym (frames-to fs (threadAt S t .sender) k (frameAt S t k) (outermostFirst fs) (record-is frameWords 19 frame-words-length 16 noFrame (outermostFirst fs) k m)))
-      ∙ sym (frame-part t k (frameAt S t k) h m)
+      ∙ sym (frame-splice t k (frameAt S t k) h m)
 
   pub channel-at : (c : ℕ) → c < 16 → l ≡ splice l (6952 + c * 2) (channelWords (channelAt S c))
   unfolding channelAt
@@ -350,6 +337,16 @@ module _ {l rest : List ℕ} {S : State} (held : Held l S rest) where
       let x : Channel = getD (S .channels) c emptyChannel in
       used-same (used held) (6952 + c * 2) (channelWords x) (omega (arith, channel-words-length x))
       (channels-to _ _ (S .objects) (S .threads) (S .channels) c x (S .channels) (record-is channelWords 2 channel-words-length 16 emptyChannel (S .channels) c h))
+
+  -- and as parts of the table
+  pub object-part : (o : ℕ) → o < 256 → Part l (8 + o * 8) 8 (objectWords (getD (S .objects) o unmade)) l
+  object-part o h = record { is = object-at o h; long = object-words-length (getD (S .objects) o unmade); fits = omega (arith, held-length) }
+
+  pub frame-part : (t k : ℕ) → t < 16 → k < 16 → Part l (2058 + t * 306 + k * 19) 19 (frameWords (frameAt S t k)) l
+  frame-part t k h m = record { is = frame-at t k h m; long = frame-words-length (frameAt S t k); fits = omega (arith, held-length) }
+
+  pub channel-part : (c : ℕ) → c < 16 → Part l (6952 + c * 2) 2 (channelWords (channelAt S c)) l
+  channel-part c h = record { is = channel-at c h; long = channel-words-length (channelAt S c); fits = omega (arith, held-length) }
 
   -- ---- Records written
 
@@ -390,26 +387,18 @@ module _ {l rest : List ℕ} {S : State} (held : Held l S rest) where
       let gs : List Frame = onFrame k (λ _. f) fs in
       let edited = record-put frameWords 19 frame-words-length 16 noFrame (outermostFirst fs) k m f (omega (arith, has .frame, length-outermost fs)) in
       held-by (
-      frame-part t k f h m
+      frame-splice t k f h m
       ∙ ap (splice l (2056 + t * 306)) (
       frames-to fs d k f (set (outermostFirst fs) k f) edited
-      ∙ ap (λ xs. length fs ∷ senderWord d ∷ cells frameWords (pad 16 noFrame xs)) (outermost-on-frame k f fs (has .frame))
-      ∙ ap (λ n. n ∷ senderWord d ∷ cells frameWords (pad 16 noFrame (outermostFirst gs))) (sym (length-on-frame k (λ _. f) fs))
+      ∙ ap (λ xs. length fs ∷ senderWord d ∷ cells frameWords (pad 16 noFrame xs)) (sym (outermost-edited k (λ _. f) fs (has .frame)))
+      ∙ ap (λ n. n ∷ senderWord d ∷ cells frameWords (pad 16 noFrame (outermostFirst gs))) (sym (length-edited k (λ _. f) fs))
       )
       ) (thread-put t gs d h (has .thread))
-
-  -- a word of a thread written
-  thread-set : (t j w : ℕ) (ys : List ℕ) → t < 16 → length ys ≡ 306 → j < 306 → set (splice l (2056 + t * 306) ys) (2056 + t * 306 + j) w ≡ splice l (2056 + t * 306) (set ys j w)
-  thread-set t j w ys h e k = set-splice l ys (2056 + t * 306) j w (omega (arith, held-length)) (omega arith)
 
   pub sender-put : (t : ℕ) (d : Sender) → t < 16 → t < length (S .threads) → Held (set l (2057 + t * 306) (senderWord d)) (putThread S t (threadAt S t .frames) d) rest
   unfolding threadWords
   sender-put t d h k =
-      let place : 2057 + t * 306 ≡ 2056 + t * 306 + 1 = omega arith in
-      held-by (
-      ap (λ i. set l i (senderWord d)) place ∙ ap (λ l. set l (2056 + t * 306 + 1) (senderWord d)) (thread-at t h)
-      ∙ thread-set t 1 (senderWord d) (threadWords (threadAt S t)) h (thread-words-length (threadAt S t)) (omega arith)
-      ) (thread-put t (threadAt S t .frames) d h k)
+      held-by (part-set (thread-part t h) 1 (2057 + t * 306) (senderWord d) (omega arith) (omega arith) .is) (thread-put t (threadAt S t .frames) d h k)
 
   -- a frame and the number of frames written
   frames-put : (t k n : ℕ) (f : Frame) (gs : List Frame) → t < 16 → k < 16 → t < length (S .threads) → n ≡ length gs
@@ -420,10 +409,13 @@ module _ {l rest : List ℕ} {S : State} (held : Held l S rest) where
       let fs = threadAt S t .frames in
       let d = threadAt S t .sender in
       let ys : List ℕ = length fs ∷ senderWord d ∷ cells frameWords (pad 16 noFrame (outermostFirst gs)) in
+      let framed : Part l (2056 + t * 306) 306 ys (splice l (2058 + t * 306 + k * 19) (frameWords f)) = record {
+        is = frame-splice t k f h m ∙ ap (splice l (2056 + t * 306)) (frames-to fs d k f (outermostFirst gs) edited);
+        long = thread-words-length (record { frames = gs; sender = d });
+        fits = omega (arith, held-length);
+      } in
       held-by (
-      ap (λ i. set (splice l (2058 + t * 306 + k * 19) (frameWords f)) i n) (sym (add-zero (2056 + t * 306)))
-      ∙ ap (λ l. set l (2056 + t * 306 + 0) n) (frame-part t k f h m ∙ ap (splice l (2056 + t * 306)) (frames-to fs d k f (outermostFirst gs) edited))
-      ∙ thread-set t 0 n ys h (thread-words-length (record { frames = gs; sender = d })) (omega arith)
+      part-set framed 0 (2056 + t * 306) n (omega arith) (omega arith) .is
       ∙ ap (λ n. splice l (2056 + t * 306) (n ∷ senderWord d ∷ cells frameWords (pad 16 noFrame (outermostFirst gs)))) e
       ) (thread-put t gs d h there)
 

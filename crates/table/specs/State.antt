@@ -6,7 +6,6 @@ use mathlib.Core.List.{List, [], _∷_, _++_, map}
 use lib.Dec.{eqb, ltb}
 use lib.ListN.{length, getD, set}
 use Rattle.rules.specs.declared.Cap.{Cap}
-use Rattle.rules.specs.declared.Cap.the-variants.{Imm, Iso, Local, Unsafe}
 use Rattle.rules.specs.declared.Value.{Value}
 use Rattle.rules.specs.declared.Value.the-variants.{Absent, Obj, Chan}
 use Rattle.rules.specs.Mosts as Most
@@ -14,19 +13,16 @@ use Rattle.rules.specs.Lists.{pad, Every}
 use Rattle.rules.specs.Script.{Operand, line, Program, rank, linesOf, blockAt, lineAt}
 use Rattle.rules.specs.Reading.{slotOf}
 use Rattle.rules.specs.State.{Object, Frame, Sender, ready, waiting, State, objectAt, threadAt, channelAt, slotAt}
-use Rattle.rules.specs.Turn.{putThread, putObjects, putChannel, setField, withSlots, filled, started}
+use Rattle.rules.specs.Turn.{putThread, putObjects, putChannel, setField, withSlots, filled}
 use Rattle.rules.specs.Tables.{operandItem, row, word, outermostFirst, noFrame, stateWords}
 use Rattle.table.specs.Program.{Filled}
 use Rattle.table.specs.declared.state.Here.{Here}
 
--- ---- Values and capabilities
+-- ---- Values
 
 -- a word read back; channels stand in 16 places
 abbrev pub valueOf : ℕ → Value
 valueOf w = cond (eqb w 0) Absent (cond (ltb w 257) (Obj (w - 1)) (Chan ((w - 257) % 16)))
-
-abbrev pub capOf : ℕ → Cap
-capOf w = cond (eqb w 0) Imm (cond (eqb w 1) Iso (cond (eqb w 2) Local Unsafe))
 
 -- an object or a channel that has a place in the table
 abbrev pub InTable : Value → Type 0
@@ -162,7 +158,7 @@ pub record Next (n : ℕ) (S : State) : Type 0 where
   pub channels : length (S .channels) ≡ length (S .threads)
 
 pub record Makes (t k n cap kind : ℕ) (items : List ℕ) (e e₁ : List ℕ) : Type 0 where
-  pub makes : (c : Cap) (ws : List Operand) → cap ≡ rank c → items ≡ pad 4 0 (map operandItem ws) → length ws ≤ Most.operands
+  pub makes : (c : Cap) (ws : List Operand) → cap ≡ rank c → items ≡ pad 4 0 (map operandItem ws)
       → Every (λ w. slotOf w < Most.slots) ws
       → Becomes e (λ S. n ≡ length (S .objects)) (λ S. made (record { cap = c; kind = kind; creator = t; fields = map (λ w. slotAt (frameAt S t k .slots) (slotOf w)) ws }) S) e₁
 

@@ -1,7 +1,7 @@
 -- `table::state::add_object` meets its contract: the words of a place that is not used are zero, the object's are written over them, and then the count.
 use native.Mathlib.Omega.{arith}
 use lib.ListN.{length-set}
-use Rattle.table.proofs.StateEdits3.{object-added}
+use Rattle.table.proofs.StateRecords.{object-added}
 use borrow.Author.Needs.{needs}
 use Rattle.table.proofs.state.add_object.Statement.{statement}
 use Rattle.table.proofs.state.add_object.Tie as tie
@@ -101,7 +101,7 @@ returns c =
     let s = c .before .before .before .before .before .before .before .before .before .before in
     let a = s .args in
     record {
-      makes = λ k ws cap≡ items few low. record {
+      makes = λ k ws cap≡ items low. record {
         becomes = λ S rest held next.
             object-added held (a .h) (s .pre .1) (a .n) (a .cap) (a .kind) (a .a) (a .b) (a .c) (a .d) k ws (omega arith) cap≡
             (c .before .before .before .before .before .before .before .item-word .ensures)

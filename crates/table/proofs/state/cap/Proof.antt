@@ -1,7 +1,7 @@
 -- `table::state::cap` meets its contract: it is told by the first of the object's words; each arm is the definition's own.
 use native.Mathlib.Omega.{arith}
 use mathlib.Core.Path.{sym, ap}
-use Rattle.table.specs.State.{capOf}
+use Rattle.rules.specs.Tables.{capOf}
 use Rattle.table.proofs.StateReads.{cap-seen, other-cap}
 use borrow.Author.Needs.{needs}
 use Rattle.table.proofs.state.cap.Statement.{statement}

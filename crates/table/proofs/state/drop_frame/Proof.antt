@@ -5,7 +5,7 @@ use mathlib.Core.Path.{_≡_, refl, ap, _∙_}
 use lib.ListN.{length, set, length-set}
 use lib.Seq.{paste, paste-zero}
 use denote.Ref.{now}
-use Rattle.table.proofs.StateEdits4.{zeros, zero-more, frame-left}
+use Rattle.table.proofs.StateFrames.{zeros, zero-more, frame-left}
 use borrow.Author.Needs.{needs}
 use Rattle.table.proofs.state.drop_frame.Statement.{statement}
 use Rattle.table.proofs.state.drop_frame.Tie as tie

@@ -1,7 +1,7 @@
 -- `table::state::empty_channel` meets its contract: the channel's first word is its message, and 0 is absent.
 use native.Mathlib.Omega.{arith}
 use mathlib.Core.Path.{refl}
-use Rattle.table.proofs.StateEdits3.{channel-emptied}
+use Rattle.table.proofs.StateRecords.{channel-emptied}
 use borrow.Author.Needs.{needs}
 use Rattle.table.proofs.state.empty_channel.Statement.{statement}
 use Rattle.table.proofs.state.empty_channel.Tie as tie

@@ -1,5 +1,6 @@
 -- `table::state::give_field` meets its contract: the word read is that of the field's value.
-use Rattle.table.proofs.StateMoves.{field-word}
+use mathlib.Core.Path.{refl}
+use Rattle.table.proofs.StateReads.{field-word}
 use borrow.Author.Needs.{needs}
 use Rattle.table.proofs.state.give_field.Statement.{statement}
 use Rattle.table.proofs.state.give_field.Tie as tie
@@ -29,7 +30,7 @@ returns : tie.Need-returns
 returns c =
     let start = c .before .before .before .before .before .before in
     let a = start .args in
-    record { becomes = λ S rest held both. c .before .before .push-word .ensures .0 .pushes _ (field-word held (a .o) (a .j) (start .pre .2) (start .pre .3)) .becomes S rest held (both .0) }
+    record { becomes = λ S rest held both. c .before .before .push-word .ensures .0 .pushes _ (field-word held (a .o) (a .j) _ (start .pre .2) (start .pre .3) refl) .becomes S rest held (both .0) }
 
 pub give-field-spec : {M : Type 1} → statement M
 give-field-spec =

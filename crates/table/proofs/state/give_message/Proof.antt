@@ -1,5 +1,5 @@
 -- `table::state::give_message` meets its contract: the word read is that of the channel's message.
-use Rattle.table.proofs.StateMoves.{message-word}
+use Rattle.table.proofs.StateReads.{message-word}
 use borrow.Author.Needs.{needs}
 use Rattle.table.proofs.state.give_message.Statement.{statement}
 use Rattle.table.proofs.state.give_message.Tie as tie

@@ -1,7 +1,7 @@
 -- `table::state::locate` meets its contract: the remainders change nothing where the tables hold a state and its program.
 use native.Mathlib.Omega.{arith}
 use mathlib.Core.Path.{refl}
-use Rattle.table.proofs.StateEdits4.{on-its-line}
+use Rattle.table.proofs.StateFrames.{on-its-line}
 use borrow.Author.Needs.{needs}
 use Rattle.table.proofs.state.locate.Statement.{statement}
 use Rattle.table.proofs.state.locate.Tie as tie

@@ -1,7 +1,7 @@
 -- `table::state::push_frame` meets its contract: the words past the innermost frame are zero, so the four written make the callee's frame.
 use native.Mathlib.Omega.{arith}
 use lib.ListN.{length-set}
-use Rattle.table.proofs.StateEdits4.{frame-called}
+use Rattle.table.proofs.StateFrames.{frame-called}
 use borrow.Author.Needs.{needs}
 use Rattle.table.proofs.state.push_frame.Statement.{statement}
 use Rattle.table.proofs.state.push_frame.Tie as tie

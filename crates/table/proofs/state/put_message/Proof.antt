@@ -1,7 +1,8 @@
 -- `table::state::put_message` meets its contract: both words of the channel are written, then the sender's; below 32,768 a number is its own remainder.
 use native.Mathlib.Omega.{arith}
 use lib.ListN.{length-set}
-use Rattle.table.proofs.StateEdits3.{slot-word, message-put}
+use Rattle.table.proofs.StateReads.{slot-here}
+use Rattle.table.proofs.StateRecords.{message-put}
 use borrow.Author.Needs.{needs}
 use Rattle.table.proofs.state.put_message.Statement.{statement}
 use Rattle.table.proofs.state.put_message.Tie as tie
@@ -81,7 +82,7 @@ returns c =
     let placed = c .before .before .pre .1 in
     record {
       becomes = λ S rest held puts.
-          message-put held (a .h .thread) (a .c) _ _ (placed .thread) (omega arith) (slot-word held (a .h) placed (a .i) (omega arith)) puts;
+          message-put held (a .h .thread) (a .c) _ _ (placed .thread) (omega arith) (slot-here held (a .h) placed (a .i) (omega arith)) puts;
     }
 
 pub put-message-spec : {M : Type 1} → statement M

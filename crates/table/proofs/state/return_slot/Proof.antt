@@ -1,5 +1,5 @@
 -- `table::state::return_slot` meets its contract: the word read is that of the slot's value, and the caller's frame lies just before.
-use Rattle.table.proofs.StateMoves.{slot-word}
+use Rattle.table.proofs.StateReads.{slot-here}
 use borrow.Author.Needs.{needs}
 use Rattle.table.proofs.state.return_slot.Statement.{statement}
 use Rattle.table.proofs.state.return_slot.Tie as tie
@@ -31,7 +31,7 @@ same-length c = search needs
 returns : tie.Need-returns
 returns c =
     let start = c .before .before .before .before .before .before .before in
-    record { becomes = λ S rest held room. c .before .before .push-word .ensures .0 .pushes _ (slot-word held (start .args .h) (start .pre .1) (start .args .i) (start .pre .2)) .becomes S rest held room }
+    record { becomes = λ S rest held room. c .before .before .push-word .ensures .0 .pushes _ (slot-here held (start .args .h) (start .pre .1) (start .args .i) (start .pre .2)) .becomes S rest held room }
 
 pub return-slot-spec : {M : Type 1} → statement M
 return-slot-spec =

@@ -6,7 +6,7 @@ use mathlib.Core.Path.{_≡_, refl, sym, ap, _∙_}
 use lib.ListN.{length, set, length-set}
 use lib.Seq.{paste}
 use denote.Ref.{now}
-use Rattle.table.proofs.StateEdits4.{zeros, zero-more, all-zero-but-three}
+use Rattle.table.proofs.StateFrames.{zeros, zero-more, all-zero-but-three}
 use borrow.Author.Needs.{needs}
 use Rattle.table.proofs.state.start_state.Statement.{statement}
 use Rattle.table.proofs.state.start_state.Tie as tie

@@ -1,7 +1,7 @@
 -- `table::state::start_thread` meets its contract: the words of a thread that is not there are zero; what is written over them is its only frame.
 use native.Mathlib.Omega.{arith}
 use lib.ListN.{length-set}
-use Rattle.table.proofs.StateEdits3.{thread-added}
+use Rattle.table.proofs.StateRecords.{thread-added}
 use borrow.Author.Needs.{needs}
 use Rattle.table.proofs.state.start_thread.Statement.{statement}
 use Rattle.table.proofs.state.start_thread.Tie as tie

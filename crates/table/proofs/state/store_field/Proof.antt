@@ -1,7 +1,8 @@
 -- `table::state::store_field` meets its contract: the slot's word is that of its value, and it goes into the field's place among the object's words.
 use native.Mathlib.Omega.{arith}
 use mathlib.Core.Path.{refl}
-use Rattle.table.proofs.StateEdits3.{slot-word, field-stored}
+use Rattle.table.proofs.StateReads.{slot-here}
+use Rattle.table.proofs.StateRecords.{field-stored}
 use borrow.Author.Needs.{needs}
 use Rattle.table.proofs.state.store_field.Statement.{statement}
 use Rattle.table.proofs.state.store_field.Tie as tie
@@ -42,7 +43,7 @@ returns c =
       refl,
       record {
         becomes = λ S rest held has.
-            field-stored held (a .o) (a .j) _ _ (omega arith) (omega arith) (slot-word held (a .h) (c .before .pre .1) (a .i) (omega arith)) has;
+            field-stored held (a .o) (a .j) _ _ (omega arith) (omega arith) (slot-here held (a .h) (c .before .pre .1) (a .i) (omega arith)) has;
       },
     )
 
