@@ -18,3 +18,21 @@ pub const UNFINISHED: u16 = 7;
 pub const DANGLING: u16 = 8;
 // a lent table or list under its length
 pub const SHORT_TABLE: u16 = 9;
+// a slot that holds nothing
+pub const ABSENT: u16 = 10;
+// no such field
+pub const NO_FIELD: u16 = 11;
+// no such method
+pub const NO_METHOD: u16 = 12;
+// a channel where an object is wanted, or an object where a channel is
+pub const WRONG_THING: u16 = 13;
+// the grounds of a permission stop: something local to another thread; a second reference to an iso; any other
+pub const FOREIGN: u16 = 14;
+
+pub const ALIAS: u16 = 14;
+
+pub const OTHER: u16 = 14;
+// capability not K
+pub const CAST: u16 = 15;
+// objects, threads or frames used up
+pub const USED_UP: u16 = 16;

@@ -1,0 +1,113 @@
+-- One turn on tables against the rules: what the checks answer, and what a line makes of the table.
+use Prim.Native.Nat.{ℕ, suc, _+_, _/_, _≤_, _<_}
+use mathlib.Core.Path.{_≡_}
+use mathlib.Core.Bool.{Bool, true, false, not}
+use mathlib.Core.List.{List, [], _∷_, map}
+use lib.Dec.{ltb}
+use lib.ListN.{length, getD, set}
+use Rattle.rules.specs.declared.Value.{Value}
+use Rattle.rules.specs.declared.Value.the-variants.{Absent, Obj, Chan}
+use Rattle.rules.specs.Mosts as Most
+use Rattle.rules.specs.Mosts.{mosts}
+use Rattle.rules.specs.Numbers as No
+use Rattle.rules.specs.Lists.{Every}
+use Rattle.rules.specs.Script.{Operand, reads, takes, Program, linesOf, kindAt}
+use Rattle.rules.specs.Valid.{Valid}
+use Rattle.rules.specs.State.{Object, Frame, State, objectAt, threadAt, channelAt, slotAt}
+use Rattle.rules.specs.Tables.{operandOf}
+use Rattle.rules.specs.Turn as R
+use Rattle.rules.specs.Turn.{Res, ok, wait, stop, _>>=_, _>>_, check, waitUnless, permit, isLocal, isAbsent, asObject, permitSwap}
+use Rattle.rules.specs.Fits.{IsObject, Fits}
+use Rattle.table.specs.declared.state.Here.{Here}
+use Rattle.table.specs.Program.{Filled}
+use Rattle.table.specs.State.{InTable, Held}
+use Rattle.checks.specs.declared.lines.Check.{Check}
+use Rattle.checks.specs.declared.lines.Check.the-variants.{Pass, Wait, Stop}
+
+-- a result of the rules as a check
+abbrev pub checkOf : {A : Type 0} → Res A → Check
+checkOf (ok a) = Pass
+checkOf wait = Wait
+checkOf (stop n) = Stop n
+
+abbrev pub isPass : Check → Bool
+isPass Pass = true
+isPass Wait = false
+isPass (Stop n) = false
+
+abbrev pub numberOf : Value → ℕ
+numberOf Absent = 0
+numberOf (Obj n) = n
+numberOf (Chan c) = c
+
+-- the slots that an operand leaves
+abbrev pub leftBy : List Value → Operand → List Value
+leftBy vs (reads s) = vs
+leftBy vs (takes s) = set vs s Absent
+
+-- ---- What is asked of the state
+
+abbrev pub Made : ℕ → State → Type 0
+Made n S = n < length (S .objects)
+
+-- an object that is there, whose fields are objects that have a place in the table
+pub record Fielded (n : ℕ) (S : State) : Type 0 where
+  pub made : n < length (S .objects)
+  pub few : length (objectAt (S .objects) n .fields) ≤ Most.fields
+  pub fields : Every (IsObject 256) (objectAt (S .objects) n .fields)
+
+abbrev pub InObjects : Value → State → Type 0
+InObjects Absent S = Unit {0}
+InObjects (Obj n) S = n < length (S .objects)
+InObjects (Chan c) S = Unit {0}
+
+abbrev pub Few : State → Type 0
+Few S = length (S .threads) ≤ mosts .threads
+
+-- ---- Parts of the rules
+
+-- swap, past its target n
+unfoldable pub swapInto : ℕ → List Object → ℕ → ℕ → Value → Res (Unit {0})
+swapInto t os n f v = do
+  u ← asObject v
+  check (ltb f (length (objectAt os n .fields))) No.noField
+  permitSwap t (objectAt os n) (objectAt os u)
+
+-- send, past its target c
+unfoldable pub putInto : State → ℕ → Value → Res (Unit {0})
+putInto S c v = do
+  n ← asObject v
+  permit false false (isLocal (objectAt (S .objects) n .cap))
+  waitUnless (isAbsent (channelAt S c .message))
+
+-- ---- Where a thread stands
+
+abbrev pub hereAt : State → ℕ → Frame → List Frame → R.Here
+hereAt S t f fs = record { state = S; self = t; sender = threadAt S t .sender; frame = f; callers = fs }
+
+-- the table holds a state of a run of P, and the code's place is that of the thread's innermost frame
+pub record Stand (s : List ℕ) (h : Here) (P : Program) (n : ℕ) (S : State) (f : Frame) (fs : List Frame) (rest : List ℕ) : Type 0 where
+  pub held : Held s S rest
+  pub valid : Valid mosts P
+  pub fits : Fits mosts P n S
+  pub few-moves : n < Most.turns
+  pub frames : threadAt S (h .thread) .frames ≡ f ∷ fs
+  pub depth : length fs ≡ h .depth
+
+-- the slots that a line names are filled
+abbrev pub Named : List ℕ → Frame → Type 0
+Named is f = Every (λ i. i < length (f .slots)) is
+
+-- a check of a line that names these slots answers what the rule does
+pub record Checks {A : Type 0} (s : List ℕ) (h : Here) (is : List ℕ) (line : Program → R.Here → Res A) (k : Check) : Type 0 where
+  pub checks : (P : Program) (n : ℕ) (S : State) (f : Frame) (fs : List Frame) (rest : List ℕ) → Stand s h P n S f fs rest → Named is f
+      → k ≡ checkOf (line P (hereAt S (h .thread) f fs))
+
+-- method j of object n's kind, as an item
+pub record MethodItem (p s : List ℕ) (n j r : ℕ) : Type 0 where
+  pub is : (P : Program) (S : State) (counts rest₁ rest₂ : List ℕ) → Filled p counts (linesOf P) rest₁ → Held s S rest₂ → Valid mosts P → n < length (S .objects)
+      → objectAt (S .objects) n .kind < length (P .kinds) → r ≡ getD (map suc (kindAt P (objectAt (S .objects) n .kind) .methods)) j 0
+
+pub record ChecksCall (p s : List ℕ) (h : Here) (i j w : ℕ) (k : Check) : Type 0 where
+  pub checks : (P : Program) (n : ℕ) (S : State) (f : Frame) (fs : List Frame) (counts rest₁ rest₂ : List ℕ) → Filled p counts (linesOf P) rest₁
+      → Stand s h P n S f fs rest₂ → Named (i ∷ w / 2 ∷ []) f → k ≡ checkOf (R.callLine P (hereAt S (h .thread) f fs) i j (operandOf w))
