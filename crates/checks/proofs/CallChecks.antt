@@ -22,9 +22,9 @@ use Rattle.table.specs.Program.{Filled, KindMethod}
 use Rattle.table.specs.State.{Sees, Any}
 use Rattle.checks.specs.declared.lines.Check.{Check}
 use Rattle.checks.specs.declared.lines.Check.the-variants.{Pass, Stop}
-use Rattle.checks.specs.Turns.{checkOf, isPass, Made, Few, Stand, Named, MethodItem, ChecksCall}
-use Rattle.checks.proofs.Standing.{kind-is-there}
-use Rattle.checks.proofs.CheckLaws3.{TargetSeen, OperandChecked, target-read, operand-goes, target-object, not-passed}
+use Rattle.checks.specs.Checked.{checkOf, isPass, Made, Few, Stand, Named, MethodItem, ChecksCall}
+use Rattle.checks.proofs.CheckLaws.{stays}
+use Rattle.checks.proofs.Standing.{TargetSeen, OperandChecked, kind-is-there, target-read, target-object, operand-goes}
 
 -- ---- spawn: k threads
 
@@ -77,12 +77,7 @@ method-of-kind {k = k} j kind method =
 module _ {p s : List ℕ} {h : Here} (i j w : ℕ) {k : Check} (first : OperandChecked s h w k) where
   pub call-no-operand : isPass k ≡ false → ChecksCall p s h i j w k
   unfolding callLine
-  call-no-operand ends =
-      record {
-        checks = λ P n S f fs counts rest₁ rest₂ filled st named.
-            let same = first .checks P n S f fs rest₂ st (named .1) in
-            same ∙ sym (not-passed _ _ (sym (ap isPass same) ∙ ends));
-      }
+  call-no-operand fails = record { checks = λ P n S f fs counts rest₁ rest₂ filled st named. stays _ _ fails (first .checks P n S f fs rest₂ st (named .1)) }
 
   module _ {v : Value} (passed : isPass k ≡ true) (target : TargetSeen s h i w v) where
     pub call-no-target : v ≡ Absent → ChecksCall p s h i j w (Stop No.absent)
@@ -100,7 +95,7 @@ module _ {p s : List ℕ} {h : Here} (i j w : ℕ) {k : Check} (first : OperandC
       module _ {P : Program} {n : ℕ} {S : State} {f : Frame} {fs : List Frame} {counts rest₁ rest₂ : List ℕ}
           (filled : Filled p counts (linesOf P) rest₁) (st : Stand s h P n S f fs rest₂) (named : Named (i ∷ w / 2 ∷ []) f) where
         made : o < length (S .objects)
-        made = target-object st w i o (target-read st i w target (named .0) ∙ is)
+        made = target-object st i w o (target-read st i w target (named .0) ∙ is)
 
         item-is : getD (map suc (kindAt P (objectAt (S .objects) o .kind) .methods)) j 0 ≡ m
         item-is = sym (method .is P S counts rest₁ rest₂ filled (st .held) (st .valid) made (kind-is-there st o made))

@@ -1,6 +1,6 @@
 -- Each way out of the checks of recv and send: under the facts of that way the rule computes to the check's answer.
 use Prim.Native.Nat.{ℕ, _/_, _%_, _<_}
-use mathlib.Core.Path.{_≡_, refl, sym, ap, _∙_, subst}
+use mathlib.Core.Path.{_≡_, refl, sym, _∙_, subst}
 use mathlib.Core.Bool.{true, false}
 use mathlib.Core.List.{List, [], _∷_}
 use lib.ListN.{length}
@@ -17,9 +17,9 @@ use Rattle.table.specs.declared.state.Here.{Here}
 use Rattle.table.specs.State.{InTable, Held, Sees, Any}
 use Rattle.checks.specs.declared.lines.Check.{Check}
 use Rattle.checks.specs.declared.lines.Check.the-variants.{Pass, Wait, Stop}
-use Rattle.checks.specs.Turns.{checkOf, isPass, InObjects, putInto, Checks}
-use Rattle.checks.proofs.Standing.{slot-in-objects, message-in-table}
-use Rattle.checks.proofs.CheckLaws3.{SlotSeen, TargetSeen, MessageSeen, OperandChecked, slot-read, message-read, target-read, operand-goes, not-passed, same-after, then-ok}
+use Rattle.checks.specs.Checked.{checkOf, isPass, InObjects, putInto, Checks}
+use Rattle.checks.proofs.CheckLaws.{stays, then-ok, same-after}
+use Rattle.checks.proofs.Standing.{SlotSeen, TargetSeen, MessageSeen, OperandChecked, slot-in-objects, message-in-table, slot-read, target-read, message-read, operand-goes}
 
 -- ---- recv and sent: the target v in slot i, its message u
 
@@ -106,12 +106,7 @@ module _ {s : List ℕ} (c : ℕ) {v : Value} {n : ℕ} {k : Cap} (is : v ≡ Ob
 module _ {s : List ℕ} {h : Here} (i w : ℕ) {k : Check} (first : OperandChecked s h w k) where
   pub put-no-operand : isPass k ≡ false → Checks s h (i ∷ w / 2 ∷ []) (λ P H. putLine H i (operandOf w)) k
   unfolding putLine
-  put-no-operand ends =
-      record {
-        checks = λ P n S f fs rest st named.
-            let same = first .checks P n S f fs rest st (named .1) in
-            same ∙ sym (not-passed _ _ (sym (ap isPass same) ∙ ends));
-      }
+  put-no-operand fails = record { checks = λ P n S f fs rest st named. stays _ _ fails (first .checks P n S f fs rest st (named .1)) }
 
   module _ {v : Value} (passed : isPass k ≡ true) (target : TargetSeen s h i w v) where
     pub put-no-target : v ≡ Absent → Checks s h (i ∷ w / 2 ∷ []) (λ P H. putLine H i (operandOf w)) (Stop No.absent)
@@ -133,8 +128,7 @@ module _ {s : List ℕ} {h : Here} (i w : ℕ) {k : Check} (first : OperandCheck
               let answer = into .sees S rest (st .held) (subst (λ x. InObjects x S) value-is (slot-in-objects st (w / 2)), message-in-table st c) in
               answer
               ∙ rw (operand-goes st w first passed (named .1 .0), target-read st i w target (named .0) ∙ is, value-is)
-              (sym
               (same-after (asObject u) _ _ λ n.
               same-after (permit false false (isLocal (objectAt (S .objects) n .cap))) _ _ λ _.
-              then-ok (waitUnless (isAbsent (channelAt S c .message))) _));
+              then-ok (waitUnless (isAbsent (channelAt S c .message))) _);
         }

@@ -1,8 +1,8 @@
--- A rule's result as a check: where its first part does not pass, the whole answers the same; where it passes, the rest goes on with its value.
-use Prim.Native.Nat.{ℕ, _/_, _%_}
+-- A rule's result as a check: where its first part does not pass, the whole answers the same; an operand that passes gives its slot's value.
+use Prim.Native.Nat.{ℕ, zero, suc, _/_, _%_}
 use mathlib.Core.Path.{_≡_, refl, ap, _∙_}
 use mathlib.Core.Bool.{true, false}
-use mathlib.Core.List.{List}
+use mathlib.Core.List.{List, [], _∷_}
 use lib.Dec.{eqb}
 use lib.ListN.{set}
 use Rattle.rules.specs.declared.Value.{Value}
@@ -11,11 +11,11 @@ use Rattle.rules.specs.Script.{Operand, reads, takes}
 use Rattle.rules.specs.Reading.{slotOf}
 use Rattle.rules.specs.State.{Object, slotAt}
 use Rattle.rules.specs.Tables.{operandOf}
-use Rattle.rules.specs.Turn.{Res, ok, wait, stop, _>>=_, _>>_, check, permit, isIsoObject, present, operand}
+use Rattle.rules.specs.Turn.{Res, ok, wait, stop, _>>=_, _>>_, check, permit, isAbsent, isIsoObject, present, operand}
 use Rattle.rules.proofs.ListLaws.{impossible, by-bool}
 use Rattle.checks.specs.declared.lines.Check.{Check}
 use Rattle.checks.specs.declared.lines.Check.the-variants.{Pass, Wait, Stop}
-use Rattle.checks.specs.Turns.{checkOf, isPass, leftBy}
+use Rattle.checks.specs.Checked.{checkOf, isPass, leftBy}
 
 -- ---- Any two parts
 
@@ -32,20 +32,21 @@ stays (ok a) g {k = k} fails e = no-both k (ap isPass e) fails
 stays wait g fails e = e
 stays (stop n) g fails e = e
 
--- where it passes, it has a value
-pub record Passed {A : Type 0} (x : Res A) : Type 0 where
-  pub value : A
-  pub is : x ≡ ok value
+-- what cannot fail after a part changes no answer
+pub then-ok : {A B : Type 0} (x : Res A) (b : B) → checkOf x ≡ checkOf (x >> ok b)
+unfolding _>>_ _>>=_
+then-ok (ok a) b = refl
+then-ok wait b = refl
+then-ok (stop n) b = refl
 
-pub passed : {A : Type 0} (x : Res A) {k : Check} → isPass k ≡ true → k ≡ checkOf x → Passed x
-passed (ok a) passes e = record { value = a; is = refl }
-passed wait {k = k} passes e = no-both k passes (ap isPass e)
-passed (stop n) {k = k} passes e = no-both k passes (ap isPass e)
+-- where the rests answer the same, so do the wholes
+pub same-after : {A B C : Type 0} (x : Res A) (g : A → Res B) (g′ : A → Res C) → ((a : A) → checkOf (g a) ≡ checkOf (g′ a)) → checkOf (x >>= g) ≡ checkOf (x >>= g′)
+unfolding _>>=_
+same-after (ok a) g g′ same = same a
+same-after wait g g′ same = refl
+same-after (stop n) g g′ same = refl
 
 -- ---- An operand first
-
-pub operand-slot : (w : ℕ) → slotOf (operandOf w) ≡ w / 2
-operand-slot w = by-bool (eqb (w % 2) 1) (λ t. rw t refl) (λ t. rw t refl)
 
 -- what an operand gives where its slot holds v
 module _ (os : List Object) (vs : List Value) where
@@ -68,15 +69,25 @@ module _ (os : List Object) (vs : List Value) where
   taking-gives (Chan c) passes e = refl
 
 -- an operand that passes gives its slot's value
-pub operand-gives : (os : List Object) (vs : List Value) (w : Operand) {k : Check} → isPass k ≡ true → k ≡ checkOf (operand os vs w)
-    → operand os vs w ≡ ok (slotAt vs (slotOf w), leftBy vs w)
+given : (os : List Object) (vs : List Value) (w : Operand) {k : Check} → isPass k ≡ true → k ≡ checkOf (operand os vs w) → operand os vs w ≡ ok (slotAt vs (slotOf w), leftBy vs w)
 unfolding operand
-operand-gives os vs (reads s) passes e = reading-gives os vs (slotAt vs s) passes e
-operand-gives os vs (takes s) passes e = taking-gives os (set vs s Absent) (slotAt vs s) passes e
+given os vs (reads s) passes e = reading-gives os vs (slotAt vs s) passes e
+given os vs (takes s) passes e = taking-gives os (set vs s Absent) (slotAt vs s) passes e
 
--- and the line goes on with it
-pub past-operand : {B : Type 0} (os : List Object) (vs : List Value) (w : ℕ) (g : Value × List Value → Res B) {k : Check} → isPass k ≡ true → k ≡ checkOf (operand os vs (operandOf w))
-    → (operand os vs (operandOf w) >>= g) ≡ g (slotAt vs (w / 2), leftBy vs (operandOf w))
-unfolding _>>=_
-past-operand os vs w g passes e =
-    ap (_>>= g) (operand-gives os vs (operandOf w) passes e) ∙ ap (λ i. g (slotAt vs i, leftBy vs (operandOf w))) (operand-slot w)
+slot-of-word : (w : ℕ) → slotOf (operandOf w) ≡ w / 2
+slot-of-word w = by-bool (eqb (w % 2) 1) (λ t. rw t refl) (λ t. rw t refl)
+
+-- the operand of word w, where it passes, gives its slot's value and the slots that it leaves
+pub operand-gives : (os : List Object) (vs : List Value) (w : ℕ) {k : Check} → isPass k ≡ true → k ≡ checkOf (operand os vs (operandOf w))
+    → operand os vs (operandOf w) ≡ ok (slotAt vs (w / 2), leftBy vs (operandOf w))
+operand-gives os vs w passes e = given os vs (operandOf w) passes e ∙ ap (λ (i : ℕ). ok (slotAt vs i, leftBy vs (operandOf w))) (slot-of-word w)
+
+-- what an operand leaves in a slot was there before
+pub left-was-there : {v : Value} (vs : List Value) (w : Operand) (i : ℕ) → isAbsent v ≡ false → slotAt (leftBy vs w) i ≡ v → slotAt vs i ≡ v
+unfolding slotAt isAbsent
+left-was-there vs (reads k) i there is = is
+left-was-there [] (takes k) i there is = is
+left-was-there (u ∷ us) (takes zero) zero there is = impossible cc
+left-was-there (u ∷ us) (takes zero) (suc i) there is = is
+left-was-there (u ∷ us) (takes (suc k)) zero there is = is
+left-was-there (u ∷ us) (takes (suc k)) (suc i) there is = left-was-there us (takes k) i there is

@@ -1,9 +1,7 @@
 -- Why the checks answer what the rules do.
--- what a state of a run says of the place where a thread stands; checks one after the other
-pub mod Standing
+-- checks one after the other; what a state of a run says of the place where a thread stands
 pub mod CheckLaws
-mod CheckLaws2
-mod CheckLaws3
+pub mod Standing
 -- operands and casts; fields and swaps; channels; calls
 mod OperandChecks
 mod ObjectChecks

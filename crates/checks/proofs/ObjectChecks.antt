@@ -1,84 +1,103 @@
--- The answers of field and swap, one law for each way out of their checks.
-use Prim.Native.Nat.{ℕ, _%_, _<_}
-use mathlib.Core.Path.{_≡_, refl, sym, _∙_}
-use mathlib.Core.Bool.{true, false, not}
-use mathlib.Core.List.{List}
-use lib.ListN.{length}
-use borrow.Author.Tests.{eq-eqb, ne-eqb}
+-- Each way out of the checks of field and swap: under the facts of that way the rule computes to the check's answer.
+use Prim.Native.Nat.{ℕ, _/_, _%_, _<_}
+use mathlib.Core.Path.{_≡_, refl, sym, _∙_, subst}
+use mathlib.Core.Bool.{Bool, true, false, not}
+use mathlib.Core.List.{List, [], _∷_}
+use lib.Dec.{ltb}
+use lib.ListN.{length, getD, List·getD-eq-default}
+use borrow.Author.Tests.{ltb-false, eq-eqb, ne-eqb}
 use Rattle.rules.specs.declared.Value.{Value}
 use Rattle.rules.specs.declared.Value.the-variants.{Absent, Obj, Chan}
 use Rattle.rules.specs.Numbers as No
 use Rattle.rules.specs.Numbers.{foreign, alias, other}
 use Rattle.rules.specs.Lists.{Every}
-use Rattle.rules.specs.Script.{Operand, Program}
+use Rattle.rules.specs.Script.{Program}
 use Rattle.rules.specs.State.{Object, Frame, State, objectAt, slotAt}
-use Rattle.rules.specs.Turn.{ok, _>>=_, _>>_, check, permit, isImm, isLocal, mayHold, isForeign, isAbsent, isIsoObject, asObject, operand, Here, objectsOf, object, fieldLine, areApart, permitSwap, swapLine}
+use Rattle.rules.specs.Tables.{operandOf}
+use Rattle.rules.specs.Turn.{_>>=_, _>>_, check, permit, isImm, isLocal, mayHold, isForeign, isAbsent, isIsoObject, asObject, object, fieldLine, areApart, permitSwap, swapLine}
 use Rattle.rules.specs.Fits.{IsObject}
-use Rattle.table.specs.declared.state.Here as C
-use Rattle.table.specs.State.{InTable, Sees, FieldIn, frameAt}
-use Rattle.checks.specs.Turns.{isPass, checkOf, swapInto, InObjects, hereAt, Stand}
+use Rattle.rules.proofs.ListLaws.{by-bool, below, every-at}
+use Rattle.table.specs.declared.state.Here.{Here}
+use Rattle.table.specs.State.{Sees, FieldIn}
+use Rattle.checks.specs.Checked.{checkOf, isPass, Made, Fielded, InObjects, swapInto, hereAt, Stand, Named, Checks}
 use Rattle.checks.specs.declared.lines.Check.{Check}
 use Rattle.checks.specs.declared.lines.Check.the-variants.{Pass, Stop}
-use Rattle.checks.proofs.CheckLaws2.{stops-there, ends, same-after, has-field, slot-is, field-is, field-in-objects}
-use Rattle.checks.proofs.Standing.{slot-object, fielded}
+use Rattle.checks.proofs.CheckLaws.{stays, then-ok, same-after}
+use Rattle.checks.proofs.Standing.{SlotSeen, TargetSeen, OperandChecked, field-in, slot-in-objects, slot-object, fielded, field-in-objects, slot-read, target-read, target-object, operand-goes}
 
--- ---- field
+-- ---- A field that is there
 
--- the target in slot i is object n, whose field j reads v
-pub record FieldAt (H : Here) (i j n : ℕ) (v : Value) : Type 0 where
-  pub target : slotAt (H .frame .slots) i ≡ Obj n
-  pub made : n < length (H .state .objects)
-  pub fields : Every (IsObject 256) (objectAt (H .state .objects) n .fields)
-  pub read : v ≡ slotAt (objectAt (H .state .objects) n .fields) j
-  pub in-objects : InObjects v (H .state)
+object-is-there : (v : Value) → IsObject 256 v → isAbsent v ≡ false
+unfolding isAbsent
+object-is-there Absent h = absurd h
+object-is-there (Obj n) h = refl
+object-is-there (Chan c) h = absurd h
 
-module _ {s : List ℕ} {h : C.Here} {P : Program} {k : ℕ} {S : State} {f : Frame} {fs : List Frame} {rest : List ℕ} (st : Stand s h P k S f fs rest) where
-  -- where a thread stands, by what was read of its slot and of the object's field
-  pub field-at : (i j : ℕ) {n : ℕ} {x v : Value} → i < length (f .slots)
-      → Sees s (λ S. InTable (slotAt (frameAt S (h .thread) (h .depth) .slots) (i % 16))) (λ S. slotAt (frameAt S (h .thread) (h .depth) .slots) (i % 16)) x
-      → x ≡ Obj n → Sees s (FieldIn n j) (λ S. slotAt (objectAt (S .objects) n .fields) j) v → FieldAt (hereAt S (h .thread) f fs) i j n v
-  field-at i j {n} i< slot object field =
-      let target = sym (slot-is st i _ i< refl slot) ∙ object in
-      let made = slot-object st i n target in
-      let read = field-is st n j made field in
-      record { target = target; made = made; fields = fielded st n made .fields; read = read; in-objects = rw read (field-in-objects st n j made) }
+-- each field is an object: a place past them alone reads absent
+has-field : (vs : List Value) (j : ℕ) → Every (IsObject 256) vs → ltb j (length vs) ≡ not (isAbsent (slotAt vs j))
+unfolding slotAt isAbsent
+has-field vs j h = by-bool (ltb j (length vs))
+    (λ t. rw (t, object-is-there (getD vs j Absent) (every-at (IsObject 256) vs j Absent (below t) h)))
+    (λ t. rw (t, List·getD-eq-default vs Absent (ltb-false j (length vs) t)))
 
-module _ (H : Here) (i j : ℕ) where
-  pub field-of-absent : slotAt (H .frame .slots) i ≡ Absent → Stop No.absent ≡ checkOf (fieldLine H i j)
+-- ---- field: the target x in slot i
+
+module _ {s : List ℕ} {h : Here} (i j : ℕ) {x : Value} (target : SlotSeen s h (i % 16) x) where
+  pub field-no-target : x ≡ Absent → Checks s h (i ∷ []) (λ P H. fieldLine H i j) (Stop No.absent)
   unfolding fieldLine asObject _>>=_
-  field-of-absent target = rw target
+  field-no-target is = record { checks = λ P n S f fs rest st named. rw (slot-read st i _ refl target (named .0) ∙ is) refl }
 
-  pub field-of-channel : {c : ℕ} → slotAt (H .frame .slots) i ≡ Chan c → Stop No.wrongThing ≡ checkOf (fieldLine H i j)
+  pub field-of-channel : {c : ℕ} → x ≡ Chan c → Checks s h (i ∷ []) (λ P H. fieldLine H i j) (Stop No.wrongThing)
   unfolding fieldLine asObject _>>=_
-  field-of-channel target = rw target
+  field-of-channel is = record { checks = λ P n S f fs rest st named. rw (slot-read st i _ refl target (named .0) ∙ is) refl }
 
-module _ {H : Here} {i j n : ℕ} {v : Value} (field : FieldAt H i j n v) where
-  -- the answer by what the code reads: the field, whether the target is another thread's, whether the field holds an iso
-  field-answer : checkOf (check (not (isAbsent v)) No.noField >> permit (isForeign (H .self) (objectAt (H .state .objects) n)) (isIsoObject (H .state .objects) v) false) ≡ checkOf (fieldLine H i j)
-  unfolding fieldLine asObject object _>>=_ _>>_
-  field-answer =
-      rw (field .target, field .read, has-field (objectAt (H .state .objects) n .fields) j (field .fields))
-      (same-after (check _ No.noField) _ _ λ _. ends (permit _ _ false) _)
+  -- object o, whose field j reads v
+  module _ {o : ℕ} {v : Value} (is : x ≡ Obj o) (field : Sees s (FieldIn o j) (λ S. slotAt (objectAt (S .objects) o .fields) j) v) where
+    module _ {P : Program} {n : ℕ} {S : State} {f : Frame} {fs : List Frame} {rest : List ℕ} (st : Stand s h P n S f fs rest) (named : Named (i ∷ []) f) where
+      made : o < length (S .objects)
+      made = slot-object st i o (slot-read st i _ refl target (named .0) ∙ is)
 
-  pub field-missing : isAbsent v ≡ true → Stop No.noField ≡ checkOf (fieldLine H i j)
-  unfolding check _>>_ _>>=_
-  field-missing missing = rw missing at field-answer
+      field-is : v ≡ slotAt (objectAt (S .objects) o .fields) j
+      field-is = field .sees S rest (st .held) (field-in o j (fielded st o made))
 
-  module _ (there : isAbsent v ≡ false) where
-    pub field-of-foreign : isForeign (H .self) (objectAt (H .state .objects) n) ≡ true → Stop (No.permission foreign) ≡ checkOf (fieldLine H i j)
-    unfolding check permit _>>_ _>>=_
-    field-of-foreign far = rw (there, far) at field-answer
+      field-there : InObjects v S
+      field-there = rw field-is (field-in-objects st o j made)
 
-    module _ (near : isForeign (H .self) (objectAt (H .state .objects) n) ≡ false) where
-      pub field-iso : isIsoObject (H .state .objects) v ≡ true → Stop (No.permission alias) ≡ checkOf (fieldLine H i j)
+      -- the answer by what the code reads: the field, whether the target is another thread's, whether the field holds an iso
+      field-answer : checkOf (check (not (isAbsent v)) No.noField >> permit (isForeign (h .thread) (objectAt (S .objects) o)) (isIsoObject (S .objects) v) false)
+          ≡ checkOf (fieldLine (hereAt S (h .thread) f fs) i j)
+      unfolding fieldLine asObject object _>>=_ _>>_
+      field-answer =
+          rw (slot-read st i _ refl target (named .0) ∙ is, field-is, has-field (objectAt (S .objects) o .fields) j (fielded st o made .fields))
+          (same-after (check _ No.noField) _ _ λ _. then-ok (permit _ _ false) _)
+
+    pub field-missing : isAbsent v ≡ true → Checks s h (i ∷ []) (λ P H. fieldLine H i j) (Stop No.noField)
+    unfolding check _>>_ _>>=_
+    field-missing missing = record { checks = λ P n S f fs rest st named. let answer = field-answer st named in rw missing at answer }
+
+    module _ {b : Bool} (there : isAbsent v ≡ false) (away : Sees s (Made o) (λ S. isForeign (h .thread) (objectAt (S .objects) o)) b) where
+      pub field-of-foreign : b ≡ true → Checks s h (i ∷ []) (λ P H. fieldLine H i j) (Stop (No.permission foreign))
       unfolding check permit _>>_ _>>=_
-      field-iso iso = rw (there, near, iso) at field-answer
+      field-of-foreign far = record { checks = λ P n S f fs rest st named. let answer = field-answer st named in rw (there, sym (away .sees S rest (st .held) (made st named)) ∙ far) at answer }
 
-      pub field-passes : isIsoObject (H .state .objects) v ≡ false → Pass ≡ checkOf (fieldLine H i j)
-      unfolding check permit _>>_ _>>=_
-      field-passes not-iso = rw (there, near, not-iso) at field-answer
+      module _ {a : Bool} (near : b ≡ false) (iso : Sees s (InObjects v) (λ S. isIsoObject (S .objects) v) a) where
+        pub field-iso : a ≡ true → Checks s h (i ∷ []) (λ P H. fieldLine H i j) (Stop (No.permission alias))
+        unfolding check permit _>>_ _>>=_
+        field-iso is-iso =
+            record {
+              checks = λ P n S f fs rest st named.
+                  let answer = field-answer st named in rw (there, sym (away .sees S rest (st .held) (made st named)) ∙ near, sym (iso .sees S rest (st .held) (field-there st named)) ∙ is-iso) at answer;
+            }
 
--- ---- swap
+        pub field-passes : a ≡ false → Checks s h (i ∷ []) (λ P H. fieldLine H i j) Pass
+        unfolding check permit _>>_ _>>=_
+        field-passes not-iso =
+            record {
+              checks = λ P n S f fs rest st named.
+                  let answer = field-answer st named in rw (there, sym (away .sees S rest (st .held) (made st named)) ∙ near, sym (iso .sees S rest (st .held) (field-there st named)) ∙ not-iso) at answer;
+            }
+
+-- ---- swap: what may go into what
 
 -- local with other creators, and three ways not to be so
 module _ (o u : Object) where
@@ -141,22 +160,33 @@ module _ (t : ℕ) (os : List Object) (n j : ℕ) where
     unfolding swapInto asObject check _>>=_ _>>_
     into-field there = rw (has-field (objectAt os n .fields) j fields, there)
 
--- k is the check of the operand, which does not pass
-pub swap-stopped : (H : Here) (i j : ℕ) (w : Operand) {k : Check} → k ≡ checkOf (operand (objectsOf H) (H .frame .slots) w) → isPass k ≡ false → k ≡ checkOf (swapLine H i j w)
-unfolding swapLine
-swap-stopped H i j w is-check stops = is-check ∙ stops-there (operand (objectsOf H) (H .frame .slots) w) _ (rw is-check at stops)
+-- ---- swap: the operand's word w, the target x in slot i as the operand leaves it
 
--- past an operand that gave v and left the slots vs
-module _ (H : Here) (i j : ℕ) (w : Operand) (v : Value) (vs : List Value) (given : operand (objectsOf H) (H .frame .slots) w ≡ ok (v, vs)) where
-  pub swap-of-absent : slotAt vs i ≡ Absent → Stop No.absent ≡ checkOf (swapLine H i j w)
-  unfolding swapLine asObject _>>=_
-  swap-of-absent target = rw (given, target)
+module _ {s : List ℕ} {h : Here} (i j w : ℕ) {k : Check} (first : OperandChecked s h w k) where
+  pub swap-no-operand : isPass k ≡ false → Checks s h (i ∷ w / 2 ∷ []) (λ P H. swapLine H i j (operandOf w)) k
+  unfolding swapLine
+  swap-no-operand fails = record { checks = λ P n S f fs rest st named. stays _ _ fails (first .checks P n S f fs rest st (named .1)) }
 
-  pub swap-of-channel : {c : ℕ} → slotAt vs i ≡ Chan c → Stop No.wrongThing ≡ checkOf (swapLine H i j w)
-  unfolding swapLine asObject _>>=_
-  swap-of-channel target = rw (given, target)
+  module _ {x : Value} (passed : isPass k ≡ true) (target : TargetSeen s h i w x) where
+    pub swap-no-target : x ≡ Absent → Checks s h (i ∷ w / 2 ∷ []) (λ P H. swapLine H i j (operandOf w)) (Stop No.absent)
+    unfolding swapLine asObject _>>=_
+    swap-no-target is = record { checks = λ P n S f fs rest st named. rw (operand-goes st w first passed (named .1 .0), target-read st i w target (named .0) ∙ is) refl }
 
-  -- nothing after the value's own checks can stop
-  pub swap-of-object : (n : ℕ) → slotAt vs i ≡ Obj n → checkOf (swapInto (H .self) (H .state .objects) n j v) ≡ checkOf (swapLine H i j w)
-  unfolding swapLine swapInto object asObject _>>=_ _>>_
-  swap-of-object n target = rw (given, target) (same-after (asObject v) _ _ λ u. same-after (check _ No.noField) _ _ λ _. ends (permitSwap (H .self) _ _) _)
+    pub swap-of-channel : {c : ℕ} → x ≡ Chan c → Checks s h (i ∷ w / 2 ∷ []) (λ P H. swapLine H i j (operandOf w)) (Stop No.wrongThing)
+    unfolding swapLine asObject _>>=_
+    swap-of-channel is = record { checks = λ P n S f fs rest st named. rw (operand-goes st w first passed (named .1 .0), target-read st i w target (named .0) ∙ is) refl }
+
+    -- the value v, read at the place r; nothing after its own checks can stop
+    pub swap-of-object : {o r : ℕ} {v : Value} {a : Check} → x ≡ Obj o → r ≡ w / 2 % 16 → SlotSeen s h r v
+        → Sees s (λ S. Fielded o S × InObjects v S) (λ S. checkOf (swapInto (h .thread) (S .objects) o j v)) a → Checks s h (i ∷ w / 2 ∷ []) (λ P H. swapLine H i j (operandOf w)) a
+    unfolding swapLine swapInto object asObject _>>=_ _>>_
+    swap-of-object {o} {r} {v} is place value into =
+        record {
+          checks = λ P n S f fs rest st named.
+              let value-is = slot-read st (w / 2) r place value (named .1 .0) in
+              let target-is = target-read st i w target (named .0) ∙ is in
+              let there = subst (λ u. InObjects u S) value-is (slot-in-objects st (w / 2)) in
+              into .sees S rest (st .held) (fielded st o (target-object st i w o target-is), there)
+              ∙ rw (operand-goes st w first passed (named .1 .0), target-is, value-is)
+              (same-after (asObject v) _ _ λ u. same-after (check _ No.noField) _ _ λ _. then-ok (permitSwap (h .thread) _ _) _);
+        }

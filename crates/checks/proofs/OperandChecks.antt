@@ -1,4 +1,4 @@
--- The checks of an operand and of a cast: each way out is what the rule comes to where the slot holds that value.
+-- Each way out of the checks of an operand and of cast: under the facts of that way the rule computes to the check's answer.
 use Prim.Native.Nat.{ℕ, zero, suc, _+_, _*_, _/_, _%_, _<_}
 use native.Mathlib.Nat.{mod-eq-of-lt}
 use native.Mathlib.Omega.{arith}
@@ -13,72 +13,60 @@ use Rattle.rules.specs.declared.Cap.{Cap}
 use Rattle.rules.specs.declared.Value.{Value}
 use Rattle.rules.specs.declared.Value.the-variants.{Absent, Obj, Chan}
 use Rattle.rules.specs.Numbers as No
-use Rattle.rules.specs.Script.{Operand, Program, rank}
-use Rattle.rules.specs.State.{Object, Frame, State, objectAt, slotAt}
+use Rattle.rules.specs.Script.{Program, rank}
+use Rattle.rules.specs.State.{Frame, State, objectAt, slotAt}
 use Rattle.rules.specs.Tables.{operandOf, capOf}
-use Rattle.rules.specs.Turn as R
-use Rattle.rules.specs.Turn.{Res, ok, _>>=_, _>>_, check, permit, isIso, isLocal, sameCap, isForeign, isIsoObject, present, asObject, operand, objectsOf, object, gives, castLine}
+use Rattle.rules.specs.Turn.{_>>=_, _>>_, check, permit, isIso, isLocal, sameCap, isForeign, isIsoObject, present, asObject, operand, object, castLine}
 use Rattle.rules.proofs.ListLaws.{by-bool}
 use Rattle.table.specs.declared.state.Here.{Here}
 use Rattle.table.specs.State.{InTable, Sees, frameAt}
 use Rattle.checks.specs.declared.lines.Check.{Check}
 use Rattle.checks.specs.declared.lines.Check.the-variants.{Pass, Stop}
-use Rattle.checks.specs.Turns.{checkOf, isPass, leftBy, Made, InObjects, hereAt, Stand, Checks}
-use Rattle.checks.proofs.CheckLaws.{stays, past-operand}
-use Rattle.checks.proofs.Standing.{SlotIs, slot-object}
+use Rattle.checks.specs.Checked.{isPass, leftBy, Made, InObjects, Stand, Checks}
+use Rattle.checks.proofs.CheckLaws.{stays}
+use Rattle.checks.proofs.Standing.{SlotSeen, TargetSeen, OperandChecked, slot-object, slot-read, operand-goes}
 
--- ---- The rule
+-- ---- An operand: its word w, its slot's value v
 
-module _ (os : List Object) (vs : List Value) (w : ℕ) where
-  operand-absent : slotAt vs (w / 2) ≡ Absent → Stop No.absent ≡ checkOf (operand os vs (operandOf w))
+module _ {s : List ℕ} {h : Here} {r : ℕ} {v : Value} (w : ℕ) (place : r ≡ w / 2 % 16) (slot : SlotSeen s h r v) where
+  pub operand-absent : v ≡ Absent → OperandChecked s h w (Stop No.absent)
   unfolding operand present _>>=_
-  operand-absent e = by-bool (eqb (w % 2) 1) (λ t. rw (t, e) refl) (λ t. rw (t, e) refl)
+  operand-absent is =
+      record {
+        checks = λ P n S f fs rest st named.
+            let value = slot-read st (w / 2) _ place slot (named .0) ∙ is in
+            by-bool (eqb (w % 2) 1) (λ t. rw (t, value) refl) (λ t. rw (t, value) refl);
+      }
 
-  operand-channel : (c : ℕ) → slotAt vs (w / 2) ≡ Chan c → Pass ≡ checkOf (operand os vs (operandOf w))
+  pub operand-channel : {c : ℕ} → v ≡ Chan c → OperandChecked s h w Pass
   unfolding operand present permit check isIsoObject _>>=_ _>>_
-  operand-channel c e = by-bool (eqb (w % 2) 1) (λ t. rw (t, e) refl) (λ t. rw (t, e) refl)
+  operand-channel is =
+      record {
+        checks = λ P n S f fs rest st named.
+            let value = slot-read st (w / 2) _ place slot (named .0) ∙ is in
+            by-bool (eqb (w % 2) 1) (λ t. rw (t, value) refl) (λ t. rw (t, value) refl);
+      }
 
-  operand-taken : (n : ℕ) → slotAt vs (w / 2) ≡ Obj n → eqb (w % 2) 1 ≡ true → Pass ≡ checkOf (operand os vs (operandOf w))
-  unfolding operand present _>>=_
-  operand-taken n e takes = rw (takes, e) refl
+  module _ {o : ℕ} (is : v ≡ Obj o) where
+    pub operand-taken : w % 2 ≡ 1 → OperandChecked s h w Pass
+    unfolding operand present _>>=_
+    operand-taken takes =
+        record { checks = λ P n S f fs rest st named. rw (eq-eqb (w % 2) 1 takes, slot-read st (w / 2) _ place slot (named .0) ∙ is) refl }
 
-  operand-alias : (n : ℕ) → slotAt vs (w / 2) ≡ Obj n → eqb (w % 2) 1 ≡ false → isIso (objectAt os n .cap) ≡ true
-      → Stop (No.permission No.alias) ≡ checkOf (operand os vs (operandOf w))
-  unfolding operand present permit check isIsoObject _>>=_ _>>_
-  operand-alias n e reads iso = rw (reads, e, iso) refl
+    module _ {k : Cap} (reads : w % 2 ≡ 1 → ⊥) (cap : Sees s (λ S. o < length (S .objects)) (λ S. objectAt (S .objects) o .cap) k) where
+      iso-is : {P : Program} {n : ℕ} {S : State} {f : Frame} {fs : List Frame} {rest : List ℕ} → Stand s h P n S f fs rest → w / 2 < length (f .slots)
+          → isIso (objectAt (S .objects) o .cap) ≡ isIso k
+      iso-is {S = S} {rest = rest} st filled = ap isIso (sym (cap .sees S rest (st .held) (slot-object st (w / 2) o (slot-read st (w / 2) _ place slot filled ∙ is))))
 
-  operand-read : (n : ℕ) → slotAt vs (w / 2) ≡ Obj n → eqb (w % 2) 1 ≡ false → isIso (objectAt os n .cap) ≡ false → Pass ≡ checkOf (operand os vs (operandOf w))
-  unfolding operand present permit check isIsoObject _>>=_ _>>_
-  operand-read n e reads no-iso = rw (reads, e, no-iso) refl
+      pub operand-alias : isIso k ≡ true → OperandChecked s h w (Stop (No.permission No.alias))
+      unfolding operand present permit check isIsoObject _>>=_ _>>_
+      operand-alias iso =
+          record { checks = λ P n S f fs rest st named. rw (ne-eqb (w % 2) 1 reads, slot-read st (w / 2) _ place slot (named .0) ∙ is, iso-is st (named .0) ∙ iso) refl }
 
--- ---- The operand where the thread stands
-
-module _ {s : List ℕ} {h : Here} {v : Value} (w : ℕ) (slot : SlotIs s h (w / 2) v) where
-  abbrev OperandGives : Check → Type 0
-  OperandGives k = Checks s h (w / 2 ∷ []) (λ P H. operand (H .state .objects) (H .frame .slots) (operandOf w)) k
-
-  pub absent-stops : v ≡ Absent → OperandGives (Stop No.absent)
-  absent-stops is = record { checks = λ P n S f fs rest st named. operand-absent (S .objects) (f .slots) w (slot .is st (named .0) ∙ is) }
-
-  pub channel-passes : (c : ℕ) → v ≡ Chan c → OperandGives Pass
-  channel-passes c is = record { checks = λ P n S f fs rest st named. operand-channel (S .objects) (f .slots) w c (slot .is st (named .0) ∙ is) }
-
-  pub taken-passes : (n : ℕ) → v ≡ Obj n → w % 2 ≡ 1 → OperandGives Pass
-  taken-passes n is takes =
-      record { checks = λ P _ S f fs rest st named. operand-taken (S .objects) (f .slots) w n (slot .is st (named .0) ∙ is) (eq-eqb (w % 2) 1 takes) }
-
-  module _ (n : ℕ) (is : v ≡ Obj n) (reads : w % 2 ≡ 1 → ⊥) {k : Cap} (cap : Sees s (λ S. n < length (S .objects)) (λ S. objectAt (S .objects) n .cap) k) where
-    iso-is : {P : Program} {m : ℕ} {S : State} {f : Frame} {fs : List Frame} {rest : List ℕ} → Stand s h P m S f fs rest → w / 2 < length (f .slots)
-        → isIso (objectAt (S .objects) n .cap) ≡ isIso k
-    iso-is {S = S} {rest = rest} st filled = ap isIso (sym (cap .sees S rest (st .held) (slot-object st (w / 2) n (slot .is st filled ∙ is))))
-
-    pub alias-stops : isIso k ≡ true → OperandGives (Stop (No.permission No.alias))
-    alias-stops iso =
-        record { checks = λ P _ S f fs rest st named. operand-alias (S .objects) (f .slots) w n (slot .is st (named .0) ∙ is) (ne-eqb (w % 2) 1 reads) (iso-is st (named .0) ∙ iso) }
-
-    pub read-passes : isIso k ≡ false → OperandGives Pass
-    read-passes no-iso =
-        record { checks = λ P _ S f fs rest st named. operand-read (S .objects) (f .slots) w n (slot .is st (named .0) ∙ is) (ne-eqb (w % 2) 1 reads) (iso-is st (named .0) ∙ no-iso) }
+      pub operand-read : isIso k ≡ false → OperandChecked s h w Pass
+      unfolding operand present permit check isIsoObject _>>=_ _>>_
+      operand-read not-iso =
+          record { checks = λ P n S f fs rest st named. rw (ne-eqb (w % 2) 1 reads, slot-read st (w / 2) _ place slot (named .0) ∙ is, iso-is st (named .0) ∙ not-iso) refl }
 
 -- ---- A slot as the operand leaves it
 
@@ -101,14 +89,10 @@ slot-left vs i w other = by-bool (eqb (w % 2) 1)
     (λ t. rw t refl)
 
 module _ (s : List ℕ) (h : Here) (i w : ℕ) where
-  abbrev SlotAfter : Value → Type 0
-  SlotAfter v = Sees s (λ S. (i < 16) × InTable (slotAt (frameAt S (h .thread) (h .depth) .slots) i)) (λ S. slotAt (leftBy (frameAt S (h .thread) (h .depth) .slots) (operandOf w)) i) v
-
-  pub taken-seen : w ≡ i * 2 + 1 → SlotAfter Absent
+  pub taken-seen : w ≡ i * 2 + 1 → TargetSeen s h i w Absent
   taken-seen takes = record { sees = λ S rest held there. slot-taken (frameAt S (h .thread) (h .depth) .slots) i w takes }
 
-  pub left-seen : (r : ℕ) (v : Value) → r ≡ i % 16
-      → Sees s (λ S. InTable (slotAt (frameAt S (h .thread) (h .depth) .slots) r)) (λ S. slotAt (frameAt S (h .thread) (h .depth) .slots) r) v → (w ≡ i * 2 + 1 → ⊥) → SlotAfter v
+  pub left-seen : (r : ℕ) (v : Value) → r ≡ i % 16 → SlotSeen s h r v → (w ≡ i * 2 + 1 → ⊥) → TargetSeen s h i w v
   left-seen r v place seen other =
       record {
         sees = λ S rest held there.
@@ -117,40 +101,7 @@ module _ (s : List ℕ) (h : Here) (i w : ℕ) where
             seen .sees S rest held (subst (λ j. InTable (slotAt vs j)) (sym at) (there .1)) ∙ ap (slotAt vs) at ∙ sym (slot-left vs i w other);
       }
 
--- ---- A cast, past its operand
-
-unfoldable castPast : R.Here → Cap → Value × List Value → Res State
-castPast H c (v, vs) = do
-  n ← asObject v
-  check (sameCap (object H n .cap) c) No.cast
-  ok (gives (H .state) H vs v)
-
-cast-first : (H : R.Here) (c : Cap) (w : Operand) → castLine H c w ≡ (operand (objectsOf H) (H .frame .slots) w >>= castPast H c)
-unfolding castLine castPast
-cast-first H c w = refl
-
-module _ (H : R.Here) (c : Cap) (w : ℕ) {k : Check} (passes : isPass k ≡ true) (first : k ≡ checkOf (operand (objectsOf H) (H .frame .slots) (operandOf w))) where
-  cast-past : (v : Value) → slotAt (H .frame .slots) (w / 2) ≡ v → castLine H c (operandOf w) ≡ castPast H c (v, leftBy (H .frame .slots) (operandOf w))
-  cast-past v is =
-      cast-first H c (operandOf w)
-      ∙ past-operand (objectsOf H) (H .frame .slots) w (castPast H c) passes first
-      ∙ ap (λ (u : Value). castPast H c (u, leftBy (H .frame .slots) (operandOf w))) is
-
-  cast-absent : slotAt (H .frame .slots) (w / 2) ≡ Absent → Stop No.absent ≡ checkOf (castLine H c (operandOf w))
-  unfolding castPast asObject _>>=_
-  cast-absent is = rw (cast-past Absent is) refl
-
-  cast-channel : (d : ℕ) → slotAt (H .frame .slots) (w / 2) ≡ Chan d → Stop No.wrongThing ≡ checkOf (castLine H c (operandOf w))
-  unfolding castPast asObject _>>=_
-  cast-channel d is = rw (cast-past (Chan d) is) refl
-
-  cast-same : (n : ℕ) → slotAt (H .frame .slots) (w / 2) ≡ Obj n → sameCap (object H n .cap) c ≡ true → Pass ≡ checkOf (castLine H c (operandOf w))
-  unfolding castPast asObject check _>>=_ _>>_
-  cast-same n is same = rw (cast-past (Obj n) is, same) refl
-
-  cast-other : (n : ℕ) → slotAt (H .frame .slots) (w / 2) ≡ Obj n → sameCap (object H n .cap) c ≡ false → Stop No.cast ≡ checkOf (castLine H c (operandOf w))
-  unfolding castPast asObject check _>>=_ _>>_
-  cast-other n is other = rw (cast-past (Obj n) is, other) refl
+-- ---- cast: the operand's word w, its value v
 
 rank-cap-of : (m : ℕ) → m < 4 → rank (capOf m) ≡ m
 rank-cap-of zero few = refl
@@ -163,53 +114,46 @@ same-rank : (k : Cap) (m : ℕ) → sameCap k (capOf (m % 4)) ≡ eqb (rank k) (
 unfolding sameCap
 same-rank k m = ap (eqb (rank k)) (rank-cap-of (m % 4) (omega arith))
 
--- where the thread stands
-module _ {s : List ℕ} {h : Here} {k : Check} (w c : ℕ) (first : Checks s h (w / 2 ∷ []) (λ P H. operand (H .state .objects) (H .frame .slots) (operandOf w)) k) where
+module _ {s : List ℕ} {h : Here} {k : Check} (w c : ℕ) (first : OperandChecked s h w k) where
   abbrev CastGives : Check → Type 0
   CastGives j = Checks s h (w / 2 ∷ []) (λ P H. castLine H (capOf (c % 4)) (operandOf w)) j
 
-  pub operand-stays : isPass k ≡ false → CastGives k
-  operand-stays fails =
-      record {
-        checks = λ P n S f fs rest st named.
-            let H = hereAt S (h .thread) f fs in
-            rw (cast-first H (capOf (c % 4)) (operandOf w)) (stays _ (castPast H (capOf (c % 4))) fails (first .checks P n S f fs rest st named));
-      }
+  pub cast-no-operand : isPass k ≡ false → CastGives k
+  unfolding castLine
+  cast-no-operand fails = record { checks = λ P n S f fs rest st named. stays _ _ fails (first .checks P n S f fs rest st named) }
 
-  module _ {v : Value} (passes : isPass k ≡ true) (slot : SlotIs s h (w / 2) v) where
-    pub absent-not-cast : v ≡ Absent → CastGives (Stop No.absent)
-    absent-not-cast is =
-        record { checks = λ P n S f fs rest st named. cast-absent (hereAt S (h .thread) f fs) (capOf (c % 4)) w passes (first .checks P n S f fs rest st named) (slot .is st (named .0) ∙ is) }
+  module _ {r : ℕ} {v : Value} (passed : isPass k ≡ true) (place : r ≡ w / 2 % 16) (slot : SlotSeen s h r v) where
+    pub cast-of-absent : v ≡ Absent → CastGives (Stop No.absent)
+    unfolding castLine asObject _>>=_
+    cast-of-absent is = record { checks = λ P n S f fs rest st named. rw (operand-goes st w first passed (named .0), slot-read st (w / 2) _ place slot (named .0) ∙ is) refl }
 
-    pub channel-not-cast : (d : ℕ) → v ≡ Chan d → CastGives (Stop No.wrongThing)
-    channel-not-cast d is =
-        record { checks = λ P n S f fs rest st named. cast-channel (hereAt S (h .thread) f fs) (capOf (c % 4)) w passes (first .checks P n S f fs rest st named) d (slot .is st (named .0) ∙ is) }
+    pub cast-of-channel : {d : ℕ} → v ≡ Chan d → CastGives (Stop No.wrongThing)
+    unfolding castLine asObject _>>=_
+    cast-of-channel is = record { checks = λ P n S f fs rest st named. rw (operand-goes st w first passed (named .0), slot-read st (w / 2) _ place slot (named .0) ∙ is) refl }
 
-    module _ (n : ℕ) (is : v ≡ Obj n) {a : Cap} (cap : Sees s (λ S. n < length (S .objects)) (λ S. objectAt (S .objects) n .cap) a) where
-      same-is : {P : Program} {m : ℕ} {S : State} {f : Frame} {fs : List Frame} {rest : List ℕ} → Stand s h P m S f fs rest → w / 2 < length (f .slots)
-          → sameCap (objectAt (S .objects) n .cap) (capOf (c % 4)) ≡ eqb (rank a) (c % 4)
+    module _ {o : ℕ} {a : Cap} (is : v ≡ Obj o) (cap : Sees s (λ S. o < length (S .objects)) (λ S. objectAt (S .objects) o .cap) a) where
+      same-is : {P : Program} {n : ℕ} {S : State} {f : Frame} {fs : List Frame} {rest : List ℕ} → Stand s h P n S f fs rest → w / 2 < length (f .slots)
+          → sameCap (objectAt (S .objects) o .cap) (capOf (c % 4)) ≡ eqb (rank a) (c % 4)
       same-is {S = S} {rest = rest} st filled =
-          ap (λ (b : Cap). sameCap b (capOf (c % 4))) (sym (cap .sees S rest (st .held) (slot-object st (w / 2) n (slot .is st filled ∙ is)))) ∙ same-rank a c
+          ap (λ (b : Cap). sameCap b (capOf (c % 4))) (sym (cap .sees S rest (st .held) (slot-object st (w / 2) o (slot-read st (w / 2) _ place slot filled ∙ is)))) ∙ same-rank a c
 
-      pub same-cap-passes : rank a ≡ c % 4 → CastGives Pass
-      unfolding object
-      same-cap-passes same =
+      pub cast-same : rank a ≡ c % 4 → CastGives Pass
+      unfolding castLine asObject object check _>>=_ _>>_
+      cast-same same =
           record {
-            checks = λ P m S f fs rest st named.
-                cast-same (hereAt S (h .thread) f fs) (capOf (c % 4)) w passes (first .checks P m S f fs rest st named) n (slot .is st (named .0) ∙ is)
-                (same-is st (named .0) ∙ eq-eqb (rank a) (c % 4) same);
+            checks = λ P n S f fs rest st named.
+                rw (operand-goes st w first passed (named .0), slot-read st (w / 2) _ place slot (named .0) ∙ is, same-is st (named .0) ∙ eq-eqb (rank a) (c % 4) same) refl;
           }
 
-      pub other-cap-stops : (rank a ≡ c % 4 → ⊥) → CastGives (Stop No.cast)
-      unfolding object
-      other-cap-stops other =
+      pub cast-other : (rank a ≡ c % 4 → ⊥) → CastGives (Stop No.cast)
+      unfolding castLine asObject object check _>>=_ _>>_
+      cast-other other =
           record {
-            checks = λ P m S f fs rest st named.
-                cast-other (hereAt S (h .thread) f fs) (capOf (c % 4)) w passes (first .checks P m S f fs rest st named) n (slot .is st (named .0) ∙ is)
-                (same-is st (named .0) ∙ ne-eqb (rank a) (c % 4) other);
+            checks = λ P n S f fs rest st named.
+                rw (operand-goes st w first passed (named .0), slot-read st (w / 2) _ place slot (named .0) ∙ is, same-is st (named .0) ∙ ne-eqb (rank a) (c % 4) other) refl;
           }
 
--- ---- Values and capabilities as they are seen
+-- ---- Capabilities, as they are seen
 
 module _ {s : List ℕ} (t n : ℕ) {k : Cap} (cap : Sees s (λ S. n < length (S .objects)) (λ S. objectAt (S .objects) n .cap) k) where
   pub local-foreign : (c : ℕ) → Sees s (λ S. n < length (S .objects)) (λ S. objectAt (S .objects) n .creator) c → isLocal k ≡ true

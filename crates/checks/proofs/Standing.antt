@@ -1,9 +1,10 @@
--- What a state of a run says of the place where a thread stands: each index and each value in its range.
-use Prim.Native.Nat.{ℕ, _%_, _≤_, _<_}
+-- What a state of a run says of the place where a thread stands: each index and each value in its range, and what the code reads there is what the rule reads.
+use Prim.Native.Nat.{ℕ, _/_, _%_, _≤_, _<_}
 use native.Mathlib.Nat.{mod-eq-of-lt}
 use native.Mathlib.Omega.{arith}
-use mathlib.Core.Path.{_≡_, sym, _∙_, subst}
-use mathlib.Core.List.{List, []}
+use mathlib.Core.Path.{_≡_, refl, sym, ap, _∙_, subst}
+use mathlib.Core.Bool.{true}
+use mathlib.Core.List.{List, [], _∷_}
 use lib.ListN.{length}
 use lib.Seq.{getD-at}
 use Rattle.rules.specs.declared.Value.{Value}
@@ -12,15 +13,36 @@ use Rattle.rules.specs.Mosts as Most
 use Rattle.rules.specs.Mosts.{mosts}
 use Rattle.rules.specs.Script.{Program}
 use Rattle.rules.specs.State.{Frame, State, objectAt, channelAt, slotAt}
-use Rattle.rules.specs.Tables.{noFrame, outermostFirst}
-use Rattle.rules.specs.Turn.{object}
+use Rattle.rules.specs.Tables.{operandOf, noFrame, outermostFirst}
+use Rattle.rules.specs.Turn.{ok, isAbsent, operand, object}
 use Rattle.rules.specs.Fits.{InRange, IsObject, ObjectFits}
-use Rattle.rules.proofs.ListLaws.{every-map}
+use Rattle.rules.proofs.ListLaws.{every-map, every-get}
 use Rattle.rules.proofs.TableWords.{length-outermost}
 use Rattle.rules.proofs.Keeps.{HereFits, here-fits, slot-range, object-fits, channel-fits}
 use Rattle.table.specs.declared.state.Here.{Here}
-use Rattle.table.specs.State.{InTable, Sees, frameAt}
-use Rattle.checks.specs.Turns.{Fielded, InObjects, Stand, hereAt}
+use Rattle.table.specs.State.{InTable, Sees, FieldIn, frameAt}
+use Rattle.checks.specs.declared.lines.Check.{Check}
+use Rattle.checks.specs.Checked.{isPass, leftBy, Fielded, InObjects, hereAt, Stand, Checks}
+use Rattle.checks.proofs.CheckLaws.{operand-gives, left-was-there}
+
+-- ---- What is learned of the table
+
+-- slot i holds v; slot i, as the operand of word w leaves it, holds v; channel c's message is v
+abbrev pub SlotSeen : List ℕ → Here → ℕ → Value → Type 0
+SlotSeen s h i v = Sees s (λ S. InTable (slotAt (frameAt S (h .thread) (h .depth) .slots) i)) (λ S. slotAt (frameAt S (h .thread) (h .depth) .slots) i) v
+
+abbrev pub TargetSeen : List ℕ → Here → (i w : ℕ) → Value → Type 0
+TargetSeen s h i w v =
+    Sees s (λ S. (i < 16) × InTable (slotAt (frameAt S (h .thread) (h .depth) .slots) i)) (λ S. slotAt (leftBy (frameAt S (h .thread) (h .depth) .slots) (operandOf w)) i) v
+
+abbrev pub MessageSeen : List ℕ → ℕ → Value → Type 0
+MessageSeen s c v = Sees s (λ S. InTable (channelAt S c .message)) (λ S. channelAt S c .message) v
+
+-- the check of the operand of word w is k
+abbrev pub OperandChecked : List ℕ → Here → ℕ → Check → Type 0
+OperandChecked s h w k = Checks s h (w / 2 ∷ []) (λ P H. operand (H .state .objects) (H .frame .slots) (operandOf w)) k
+
+-- ---- Values in range
 
 -- a value in the range of a run has a place in the table
 in-table : (o c : ℕ) (v : Value) → o ≤ 256 → c ≤ 16 → InRange o c v → InTable v
@@ -37,6 +59,26 @@ is-object-of-more : (o o′ : ℕ) → o ≤ o′ → (v : Value) → IsObject o
 is-object-of-more o o′ more (Obj n) within = omega arith
 is-object-of-more o o′ more Absent none = none
 is-object-of-more o o′ more (Chan c) none = none
+
+object-has-place : (v : Value) → IsObject 256 v → InTable v
+object-has-place Absent none = absurd none
+object-has-place (Obj n) within = within
+object-has-place (Chan c) none = absurd none
+
+object-in-objects : (S : State) (v : Value) → IsObject (length (S .objects)) v → InObjects v S
+object-in-objects S Absent none = absurd none
+object-in-objects S (Obj n) within = within
+object-in-objects S (Chan c) none = absurd none
+
+-- a field has a place in the table, or there is none
+pub field-in : (o j : ℕ) {S : State} → Fielded o S → FieldIn o j S
+unfolding slotAt
+field-in o j {S} has = record {
+  few = has .few;
+  in-table = every-get InTable (objectAt (S .objects) o .fields) j Absent tt (every-map object-has-place (objectAt (S .objects) o .fields) (has .fields));
+}
+
+-- ---- Where a thread stands
 
 module _ {s : List ℕ} {h : Here} {P : Program} {n : ℕ} {S : State} {f : Frame} {fs : List Frame} {rest : List ℕ} (st : Stand s h P n S f fs rest) where
   here : HereFits mosts P n (hereAt S (h .thread) f fs)
@@ -63,11 +105,6 @@ module _ {s : List ℕ} {h : Here} {P : Program} {n : ℕ} {S : State} {f : Fram
   pub slot-object : (i o : ℕ) → slotAt (f .slots) i ≡ Obj o → o < length (S .objects)
   slot-object i o e = subst (InRange (length (S .objects)) (length (S .threads))) e (slot-in-range i)
 
-  pub slot-channel : (i c : ℕ) → slotAt (f .slots) i ≡ Chan c → c < length (S .channels)
-  slot-channel i c e =
-      let within : c < length (S .threads) = subst (InRange (length (S .objects)) (length (S .threads))) e (slot-in-range i) in
-      rw (st .fits .channel-each) within
-
   -- what an object holds
   object-is : (o : ℕ) → o < length (S .objects) → ObjectFits P (length (S .objects)) (length (S .threads)) (objectAt (S .objects) o)
   unfolding object
@@ -81,6 +118,12 @@ module _ {s : List ℕ} {h : Here} {P : Program} {n : ℕ} {S : State} {f : Fram
         fields = every-map (is-object-of-more (length (S .objects)) 256 (st .fits .few-objects)) (objectAt (S .objects) o .fields) (object-is o there .fields);
       }
 
+  pub field-in-objects : (o j : ℕ) → o < length (S .objects) → InObjects (slotAt (objectAt (S .objects) o .fields) j) S
+  unfolding slotAt
+  field-in-objects o j there =
+      let fields = objectAt (S .objects) o .fields in
+      every-get (λ v. InObjects v S) fields j Absent tt (every-map (object-in-objects S) fields (object-is o there .fields))
+
   pub kind-is-there : (o : ℕ) → o < length (S .objects) → objectAt (S .objects) o .kind < length (P .kinds)
   kind-is-there o there = object-is o there .kind
 
@@ -89,20 +132,27 @@ module _ {s : List ℕ} {h : Here} {P : Program} {n : ℕ} {S : State} {f : Fram
   message-in-table c =
       in-table _ _ (channelAt S c .message) (st .fits .few-objects) (st .fits .few-threads) (channel-fits mosts P n (hereAt S (h .thread) f fs) here c .message)
 
-  pub few-threads : length (S .threads) ≤ 16
-  few-threads = st .fits .few-threads
+  -- slot i, read at the place j: a filled slot is one of 16
+  pub slot-read : {v : Value} (i j : ℕ) → j ≡ i % 16 → SlotSeen s h j v → i < length (f .slots) → slotAt (f .slots) i ≡ v
+  slot-read i j place read filled =
+      let same : j ≡ i = place ∙ mod-eq-of-lt (omega (arith, slots-few, filled)) in
+      let seen = read .sees S rest (st .held) (rw frame-is (slot-in-table j)) in
+      sym (seen ∙ ap (λ g. slotAt (g .slots) j) frame-is ∙ ap (slotAt (f .slots)) same)
 
--- slot i of the frame where the thread stands holds v, if it is filled
-pub record SlotIs (s : List ℕ) (h : Here) (i : ℕ) (v : Value) : Type 0 where
-  pub is : {P : Program} {n : ℕ} {S : State} {f : Frame} {fs : List Frame} {rest : List ℕ} → Stand s h P n S f fs rest → i < length (f .slots) → slotAt (f .slots) i ≡ v
+  -- slot i as the operand of word w leaves it
+  pub target-read : {v : Value} (i w : ℕ) → TargetSeen s h i w v → i < length (f .slots) → slotAt (leftBy (f .slots) (operandOf w)) i ≡ v
+  target-read i w read filled =
+      let seen = read .sees S rest (st .held) (omega (arith, slots-few, filled), rw frame-is (slot-in-table i)) in
+      sym (seen ∙ ap (λ g. slotAt (leftBy (g .slots) (operandOf w)) i) frame-is)
 
--- as it is read: a filled slot is one of 16
-pub slot-is : (s : List ℕ) (h : Here) (i r : ℕ) (v : Value) → r ≡ i % 16
-    → Sees s (λ S. InTable (slotAt (frameAt S (h .thread) (h .depth) .slots) r)) (λ S. slotAt (frameAt S (h .thread) (h .depth) .slots) r) v → SlotIs s h i v
-slot-is s h i r v place seen = record { is = held }
-  where
-    held : {P : Program} {n : ℕ} {S : State} {f : Frame} {fs : List Frame} {rest : List ℕ} → Stand s h P n S f fs rest → i < length (f .slots) → slotAt (f .slots) i ≡ v
-    held {S = S} {f = f} {rest = rest} st filled =
-        let at : r ≡ i = place ∙ mod-eq-of-lt (omega (arith, slots-few st)) in
-        let slots : slotAt (frameAt S (h .thread) (h .depth) .slots) r ≡ slotAt (f .slots) i = rw (frame-is st, at) in
-        sym (seen .sees S rest (st .held) (subst InTable (sym slots) (slot-in-table st i)) ∙ slots)
+  pub target-object : (i w o : ℕ) → slotAt (leftBy (f .slots) (operandOf w)) i ≡ Obj o → o < length (S .objects)
+  unfolding isAbsent
+  target-object i w o is = slot-object i o (left-was-there (f .slots) (operandOf w) i refl is)
+
+  pub message-read : {v : Value} (c : ℕ) → MessageSeen s c v → channelAt S c .message ≡ v
+  message-read c read = sym (read .sees S rest (st .held) (message-in-table c))
+
+  -- the operand of word w, whose check k passes
+  pub operand-goes : (w : ℕ) {k : Check} → OperandChecked s h w k → isPass k ≡ true → w / 2 < length (f .slots)
+      → operand (S .objects) (f .slots) (operandOf w) ≡ ok (slotAt (f .slots) (w / 2), leftBy (f .slots) (operandOf w))
+  operand-goes w first passes filled = operand-gives (S .objects) (f .slots) w passes (first .checks P n S f fs rest st (filled, tt))

@@ -1,2 +1,2 @@
 -- What the checks of a line answer.
-pub mod Turns
+pub mod Checked

@@ -21,7 +21,7 @@ ghost use Rattle.rules.specs.State.{objectAt, channelAt, slotAt};
 ghost use Rattle.rules.specs.Tables.{operandOf, capOf};
 ghost use Rattle.rules.specs.Turn.{check, isImm, isIso, isLocal, isForeign, isAbsent, isIsoObject, operand, permitSwap, fieldLine, swapLine, castLine, putLine, sentLine, recvLine};
 ghost use Rattle.table.specs.State.{InTable, Sees, Placed, frameAt};
-ghost use Rattle.checks.specs.Turns.{isPass, checkOf, leftBy, numberOf, Made, Fielded, InObjects, Few, swapInto, putInto, MethodItem, Checks, ChecksCall};
+ghost use Rattle.checks.specs.Checked.{isPass, checkOf, leftBy, numberOf, Made, Fielded, InObjects, Few, swapInto, putInto, MethodItem, Checks, ChecksCall};
 
 // What the checks come to: the turn moves, it waits, or it stops with a number.
 pub enum Check {

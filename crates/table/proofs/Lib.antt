@@ -6,7 +6,7 @@ pub mod ProgramLines
 pub mod StateEdits
 -- the state table's words; what is read of it
 pub mod StateTable
-mod StateReads
+pub mod StateReads
 -- slots, records and frames written
 mod StateMoves
 mod StateRecords

@@ -1,7 +1,7 @@
 -- `checks::lines::call_check` meets its contract: each way out is one of the rule's, with what was read as its facts.
 use mathlib.Core.Path.{sym, _∙_}
 use borrow.Author.Tests.{not-true, not-false}
-use Rattle.checks.proofs.CheckLaws3.{object-in-table}
+use Rattle.table.proofs.StateReads.{object-in-table}
 use Rattle.checks.proofs.CallChecks.{call-no-operand, call-no-target, call-of-channel, call-no-method, call-foreign, call-used-up, call-passes}
 use borrow.Author.Needs.{needs}
 use Rattle.checks.proofs.lines.call_check.Statement.{statement}
@@ -29,7 +29,7 @@ enum-known-x : tie.Need-enum-known-x
 enum-known-x c = search needs
 
 method-item-requires : tie.Need-method-item-requires
-method-item-requires c κs = (search needs, search needs, object-in-table (c .before .before .before .seen .ensures .0) (c .before .x .given .1))
+method-item-requires c κs = (search needs, search needs, object-in-table _ _ (c .before .x .given .1) (c .before .before .before .seen .ensures .0))
 
 returns-2 : tie.Need-returns-2
 returns-2 c =
@@ -39,7 +39,7 @@ returns-2 c =
     (target .seen .ensures .1) (c .before .before .before .x .given .1) (c .before .method-item .ensures) (c .if2 .taken)
 
 is-foreign-requires : tie.Need-is-foreign-requires
-is-foreign-requires c κs = (search needs, object-in-table (c .before .before .before .before .before .seen .ensures .0) (c .before .before .before .x .given .1))
+is-foreign-requires c κs = (search needs, object-in-table _ _ (c .before .before .before .x .given .1) (c .before .before .before .before .before .seen .ensures .0))
 
 returns-3 : tie.Need-returns-3
 returns-3 c =

@@ -1,9 +1,8 @@
--- `checks::lines::cast_check` meets its contract: the operand answers first; past it, each way out is what the rule comes to for the slot's value.
-use mathlib.Core.Path.{sym, _∙_, subst}
-use Rattle.rules.proofs.ListLaws.{of-not}
-use Rattle.table.specs.State.{InTable}
-use Rattle.checks.proofs.Standing.{slot-is}
-use Rattle.checks.proofs.OperandChecks.{operand-stays, absent-not-cast, channel-not-cast, same-cap-passes, other-cap-stops}
+-- `checks::lines::cast_check` meets its contract: an operand that does not pass ends the rule; past it, each way out is one of the rule's, with the slot's value as read.
+use mathlib.Core.Path.{sym, _∙_}
+use borrow.Author.Tests.{not-true, not-false}
+use Rattle.table.proofs.StateReads.{object-in-table}
+use Rattle.checks.proofs.OperandChecks.{cast-no-operand, cast-of-absent, cast-of-channel, cast-same, cast-other}
 use borrow.Author.Needs.{needs}
 use Rattle.checks.proofs.lines.cast_check.Statement.{statement}
 use Rattle.checks.proofs.lines.cast_check.Tie as tie
@@ -15,7 +14,7 @@ passes-requires : tie.Need-passes-requires
 passes-requires c κs = search needs
 
 returns : tie.Need-returns
-returns c = operand-stays _ (c .before .before .before .before .args .c) (c .before .before .operand-check .ensures) (sym (c .before .passes .ensures) ∙ of-not _ (c .if1 .taken))
+returns c = cast-no-operand _ (c .before .before .before .before .args .c) (c .before .before .operand-check .ensures) (sym (c .before .passes .ensures) ∙ not-true _ (c .if1 .taken))
 
 slot-of-requires : tie.Need-slot-of-requires
 slot-of-requires c κs = search needs
@@ -33,7 +32,7 @@ enum-known-v : tie.Need-enum-known-v
 enum-known-v c = search needs
 
 cap-requires : tie.Need-cap-requires
-cap-requires c κs = (search needs, subst InTable (c .before .v .given .1) (c .before .before .before .slot .ensures .0 .1))
+cap-requires c κs = (search needs, object-in-table _ _ (c .before .v .given .1) (c .before .before .before .slot .ensures .0 .1))
 
 cap-rank-requires : tie.Need-cap-rank-requires
 cap-rank-requires c κs = search needs
@@ -42,29 +41,29 @@ returns-2 : tie.Need-returns-2
 returns-2 c =
     let read = c .before .before .before .before .before .before in
     let past = read .before .before in
-    same-cap-passes _ (past .before .before .before .before .args .c) (past .before .before .operand-check .ensures) (sym (past .before .passes .ensures) ∙ of-not _ (past .if1 .left))
-    (slot-is _ _ _ _ _ (read .before .slot-of .ensures .0) (read .slot .ensures .1)) _ (c .before .before .before .before .v .given .1) (c .before .before .cap .ensures .1) (sym (c .before .cap-rank .ensures .0) ∙ c .if2 .taken)
+    cast-same _ (past .before .before .before .before .args .c) (past .before .before .operand-check .ensures) (sym (past .before .passes .ensures) ∙ not-false _ (past .if1 .left))
+    (read .before .slot-of .ensures .0) (read .slot .ensures .1) (c .before .before .before .before .v .given .1) (c .before .before .cap .ensures .1) (sym (c .before .cap-rank .ensures .0) ∙ c .if2 .taken)
 
 returns-3 : tie.Need-returns-3
 returns-3 c =
     let read = c .before .before in
     let past = read .before .before in
-    absent-not-cast _ (past .before .before .before .before .args .c) (past .before .before .operand-check .ensures) (sym (past .before .passes .ensures) ∙ of-not _ (past .if1 .left))
-    (slot-is _ _ _ _ _ (read .before .slot-of .ensures .0) (read .slot .ensures .1)) (c .enum-told .given .1)
+    cast-of-absent _ (past .before .before .before .before .args .c) (past .before .before .operand-check .ensures) (sym (past .before .passes .ensures) ∙ not-false _ (past .if1 .left))
+    (read .before .slot-of .ensures .0) (read .slot .ensures .1) (c .enum-told .given .1)
 
 returns-4 : tie.Need-returns-4
 returns-4 c =
     let read = c .before .before in
     let past = read .before .before in
-    channel-not-cast _ (past .before .before .before .before .args .c) (past .before .before .operand-check .ensures) (sym (past .before .passes .ensures) ∙ of-not _ (past .if1 .left))
-    (slot-is _ _ _ _ _ (read .before .slot-of .ensures .0) (read .slot .ensures .1)) _ (c .enum-told2 .given .1)
+    cast-of-channel _ (past .before .before .before .before .args .c) (past .before .before .operand-check .ensures) (sym (past .before .passes .ensures) ∙ not-false _ (past .if1 .left))
+    (read .before .slot-of .ensures .0) (read .slot .ensures .1) (c .enum-told2 .given .1)
 
 returns-5 : tie.Need-returns-5
 returns-5 c =
     let read = c .before .before .before .before .before .before in
     let past = read .before .before in
-    other-cap-stops _ (past .before .before .before .before .args .c) (past .before .before .operand-check .ensures) (sym (past .before .passes .ensures) ∙ of-not _ (past .if1 .left))
-    (slot-is _ _ _ _ _ (read .before .slot-of .ensures .0) (read .slot .ensures .1)) _ (c .before .before .before .before .v .given .1) (c .before .before .cap .ensures .1) (λ e. c .if2 .left (c .before .cap-rank .ensures .0 ∙ e))
+    cast-other _ (past .before .before .before .before .args .c) (past .before .before .operand-check .ensures) (sym (past .before .passes .ensures) ∙ not-false _ (past .if1 .left))
+    (read .before .slot-of .ensures .0) (read .slot .ensures .1) (c .before .before .before .before .v .given .1) (c .before .before .cap .ensures .1) (λ e. c .if2 .left (c .before .cap-rank .ensures .0 ∙ e))
 
 pub cast-check-spec : {M : Type 1} → statement M
 cast-check-spec =

@@ -1,7 +1,6 @@
 -- `checks::lines::is_iso_object` meets its contract: only an object has a capability, and it is read of the table.
 use Rattle.checks.proofs.OperandChecks.{object-iso}
-use mathlib.Core.Path.{subst}
-use Rattle.table.specs.State.{InTable}
+use Rattle.table.proofs.StateReads.{object-in-table}
 use Rattle.rules.specs.Turn.{isIsoObject}
 use borrow.Author.Needs.{needs}
 use Rattle.checks.proofs.lines.is_iso_object.Statement.{statement}
@@ -17,7 +16,7 @@ enum-known-v : tie.Need-enum-known-v
 enum-known-v c = search needs
 
 cap-requires : tie.Need-cap-requires
-cap-requires c κs = (search needs, subst InTable (c .before .v .given .1) (c .before .before .before .before .pre .1))
+cap-requires c κs = (search needs, object-in-table _ _ (c .before .v .given .1) (c .before .before .before .before .pre .1))
 
 is-iso-requires : tie.Need-is-iso-requires
 is-iso-requires c κs = search needs

@@ -1,6 +1,6 @@
 -- `checks::lines::number_of` meets its contract: each arm is the definition's own; what has a place in the table is below 256.
-use mathlib.Core.Path.{refl, subst}
-use Rattle.table.specs.State.{InTable}
+use mathlib.Core.Path.{refl}
+use Rattle.table.proofs.StateReads.{object-in-table, channel-in-table}
 use native.Mathlib.Omega.{arith}
 use borrow.Author.Needs.{needs}
 use Rattle.checks.proofs.lines.number_of.Statement.{statement}
@@ -19,10 +19,10 @@ returns : tie.Need-returns
 returns c = search needs
 
 returns-2 : tie.Need-returns-2
-returns-2 c = rw (c .before .v .given .1) (refl, subst InTable (c .before .v .given .1) (c .before .before .before .pre))
+returns-2 c = rw (c .before .v .given .1) (refl, object-in-table _ _ (c .before .v .given .1) (c .before .before .before .pre))
 
 returns-3 : tie.Need-returns-3
-returns-3 c = rw (c .before .v2 .given .1) (refl, omega (arith, subst InTable (c .before .v2 .given .1) (c .before .before .before .pre)))
+returns-3 c = rw (c .before .v2 .given .1) (refl, omega (arith, channel-in-table _ _ (c .before .v2 .given .1) (c .before .before .before .pre)))
 
 pub number-of-spec : {M : Type 1} → statement M
 number-of-spec =

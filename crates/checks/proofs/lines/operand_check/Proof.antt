@@ -1,8 +1,7 @@
--- `checks::lines::operand_check` meets its contract: each way out is what the rule comes to where the slot holds that value.
-use mathlib.Core.Path.{sym, _∙_, subst}
-use Rattle.table.specs.State.{InTable}
-use Rattle.checks.proofs.Standing.{slot-is}
-use Rattle.checks.proofs.OperandChecks.{absent-stops, channel-passes, taken-passes, alias-stops, read-passes}
+-- `checks::lines::operand_check` meets its contract: each way out is one of the rule's, with the slot's value as read.
+use mathlib.Core.Path.{sym, _∙_}
+use Rattle.table.proofs.StateReads.{object-in-table}
+use Rattle.checks.proofs.OperandChecks.{operand-absent, operand-channel, operand-taken, operand-alias, operand-read}
 use borrow.Author.Needs.{needs}
 use Rattle.checks.proofs.lines.operand_check.Statement.{statement}
 use Rattle.checks.proofs.lines.operand_check.Tie as tie
@@ -25,10 +24,10 @@ enum-known-v c = search needs
 returns : tie.Need-returns
 returns c =
     let arm = c .before .before in
-    taken-passes _ (slot-is _ _ _ _ _ (arm .before .before .before .slot-of .ensures .0) (arm .before .before .slot .ensures .1)) _ (arm .v .given .1) (c .if1 .taken)
+    operand-taken _ (arm .before .before .before .slot-of .ensures .0) (arm .before .before .slot .ensures .1) (arm .v .given .1) (c .if1 .taken)
 
 cap-requires : tie.Need-cap-requires
-cap-requires c κs = (search needs, subst InTable (c .before .before .v .given .1) (c .before .before .before .before .slot .ensures .0 .1))
+cap-requires c κs = (search needs, object-in-table _ _ (c .before .before .v .given .1) (c .before .before .before .before .slot .ensures .0 .1))
 
 is-iso-requires : tie.Need-is-iso-requires
 is-iso-requires c κs = search needs
@@ -36,19 +35,19 @@ is-iso-requires c κs = search needs
 returns-2 : tie.Need-returns-2
 returns-2 c =
     let arm = c .before .before .before .before .before in
-    alias-stops _ (slot-is _ _ _ _ _ (arm .before .before .before .slot-of .ensures .0) (arm .before .before .slot .ensures .1)) _ (arm .v .given .1)
+    operand-alias _ (arm .before .before .before .slot-of .ensures .0) (arm .before .before .slot .ensures .1) (arm .v .given .1)
     (c .before .before .before .if1 .left) (c .before .before .cap .ensures .1) (sym (c .before .is-iso .ensures) ∙ c .if2 .taken)
 
 returns-3 : tie.Need-returns-3
-returns-3 c = absent-stops _ (slot-is _ _ _ _ _ (c .before .before .before .slot-of .ensures .0) (c .before .before .slot .ensures .1)) (c .enum-told .given .1)
+returns-3 c = operand-absent _ (c .before .before .before .slot-of .ensures .0) (c .before .before .slot .ensures .1) (c .enum-told .given .1)
 
 returns-4 : tie.Need-returns-4
-returns-4 c = channel-passes _ (slot-is _ _ _ _ _ (c .before .before .before .slot-of .ensures .0) (c .before .before .slot .ensures .1)) _ (c .enum-told2 .given .1)
+returns-4 c = operand-channel _ (c .before .before .before .slot-of .ensures .0) (c .before .before .slot .ensures .1) (c .enum-told2 .given .1)
 
 returns-5 : tie.Need-returns-5
 returns-5 c =
     let arm = c .before .before .before .before .before in
-    read-passes _ (slot-is _ _ _ _ _ (arm .before .before .before .slot-of .ensures .0) (arm .before .before .slot .ensures .1)) _ (arm .v .given .1)
+    operand-read _ (arm .before .before .before .slot-of .ensures .0) (arm .before .before .slot .ensures .1) (arm .v .given .1)
     (c .before .before .before .if1 .left) (c .before .before .cap .ensures .1) (sym (c .before .is-iso .ensures) ∙ c .if2 .left)
 
 pub operand-check-spec : {M : Type 1} → statement M

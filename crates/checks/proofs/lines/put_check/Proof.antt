@@ -1,7 +1,7 @@
 -- `checks::lines::put_check` meets its contract: an operand that does not pass ends the rule; past the target the answer is `put_into`'s.
 use mathlib.Core.Path.{sym, _∙_}
 use borrow.Author.Tests.{not-true, not-false}
-use Rattle.checks.proofs.CheckLaws3.{channel-in-table}
+use Rattle.table.proofs.StateReads.{channel-in-table}
 use Rattle.checks.proofs.ChannelChecks.{put-no-operand, put-no-target, put-of-object, put-to-channel}
 use borrow.Author.Needs.{needs}
 use Rattle.checks.proofs.lines.put_check.Statement.{statement}
@@ -35,7 +35,7 @@ enum-known-x : tie.Need-enum-known-x
 enum-known-x c = search needs
 
 put-into-requires : tie.Need-put-into-requires
-put-into-requires c κs = (search needs, channel-in-table (c .before .before .before .seen .ensures .0) (c .before .x .given .1), c .before .before .before .before .slot .ensures .0 .1)
+put-into-requires c κs = (search needs, channel-in-table _ _ (c .before .x .given .1) (c .before .before .before .seen .ensures .0), c .before .before .before .before .slot .ensures .0 .1)
 
 returns-2 : tie.Need-returns-2
 returns-2 c =

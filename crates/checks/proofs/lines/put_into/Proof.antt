@@ -1,6 +1,6 @@
 -- `checks::lines::put_into` meets its contract: each way out is one of the rule's past its target, with the value's capability and the message as read.
 use mathlib.Core.Path.{sym, _∙_}
-use Rattle.checks.proofs.CheckLaws3.{object-in-table}
+use Rattle.table.proofs.StateReads.{object-in-table}
 use Rattle.checks.proofs.ChannelChecks.{put-nothing, put-channel, put-local, put-empty, put-full}
 use borrow.Author.Needs.{needs}
 use Rattle.checks.proofs.lines.put_into.Statement.{statement}
@@ -16,7 +16,7 @@ enum-known-v : tie.Need-enum-known-v
 enum-known-v c = search needs
 
 cap-requires : tie.Need-cap-requires
-cap-requires c κs = (search needs, object-in-table (c .before .before .before .before .pre .2) (c .before .v .given .1))
+cap-requires c κs = (search needs, object-in-table _ _ (c .before .v .given .1) (c .before .before .before .before .pre .2))
 
 is-local-requires : tie.Need-is-local-requires
 is-local-requires c κs = search needs

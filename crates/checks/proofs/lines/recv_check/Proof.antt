@@ -1,6 +1,6 @@
 -- `checks::lines::recv_check` meets its contract: each way out is one of the rule's, with the target and its message as read.
 use mathlib.Core.Path.{sym, _∙_}
-use Rattle.checks.proofs.CheckLaws3.{channel-in-table}
+use Rattle.table.proofs.StateReads.{channel-in-table}
 use Rattle.checks.proofs.ChannelChecks.{recv-no-target, recv-of-object, recv-empty, recv-full}
 use borrow.Author.Needs.{needs}
 use Rattle.checks.proofs.lines.recv_check.Statement.{statement}
@@ -19,7 +19,7 @@ enum-known-x : tie.Need-enum-known-x
 enum-known-x c = search needs
 
 message-requires : tie.Need-message-requires
-message-requires c κs = (search needs, channel-in-table (c .before .before .before .slot .ensures .0 .1) (c .before .x .given .1))
+message-requires c κs = (search needs, channel-in-table _ _ (c .before .x .given .1) (c .before .before .before .slot .ensures .0 .1))
 
 is-absent-requires : tie.Need-is-absent-requires
 is-absent-requires c κs = search needs

@@ -1,6 +1,6 @@
 -- `checks::lines::sent_check` meets its contract: each way out is one of the rule's, with the target, its message and its number as read.
 use mathlib.Core.Path.{sym, _∙_}
-use Rattle.checks.proofs.CheckLaws3.{channel-in-table}
+use Rattle.table.proofs.StateReads.{channel-in-table}
 use Rattle.checks.proofs.ChannelChecks.{sent-no-target, sent-of-object, sent-empty, sent-still-there, sent-taken}
 use borrow.Author.Needs.{needs}
 use Rattle.checks.proofs.lines.sent_check.Statement.{statement}
@@ -19,7 +19,7 @@ enum-known-x : tie.Need-enum-known-x
 enum-known-x c = search needs
 
 message-requires : tie.Need-message-requires
-message-requires c κs = (search needs, channel-in-table (c .before .before .before .slot .ensures .0 .1) (c .before .x .given .1))
+message-requires c κs = (search needs, channel-in-table _ _ (c .before .x .given .1) (c .before .before .before .slot .ensures .0 .1))
 
 is-absent-requires : tie.Need-is-absent-requires
 is-absent-requires c κs = search needs
@@ -30,7 +30,7 @@ returns c =
     sent-empty _ (arm .before .before .slot .ensures .1) (arm .x .given .1) (c .before .before .message .ensures .1) _ (sym (c .before .is-absent .ensures) ∙ c .if1 .taken)
 
 message-number-requires : tie.Need-message-number-requires
-message-number-requires c κs = (search needs, channel-in-table (c .before .before .before .before .before .before .slot .ensures .0 .1) (c .before .before .before .before .x .given .1))
+message-number-requires c κs = (search needs, channel-in-table _ _ (c .before .before .before .before .x .given .1) (c .before .before .before .before .before .before .slot .ensures .0 .1))
 
 sub-if2 : tie.Need-sub-if2
 sub-if2 c = search needs

@@ -1,19 +1,8 @@
--- `checks::lines::swap_check` meets its contract: the operand's check comes first; past it the target is read of the slots that it leaves,
--- and the answer is that of the value into the target's field.
-use Prim.Native.Nat.{ℕ, _/_}
-use mathlib.Core.Path.{_≡_, sym, ap, _∙_, subst}
-use mathlib.Core.List.{List, [], _∷_}
-use denote.Ref.{now}
+-- `checks::lines::swap_check` meets its contract: an operand that does not pass ends the rule; past the target the answer is `swap_into`'s.
+use mathlib.Core.Path.{sym, _∙_}
 use borrow.Author.Tests.{not-true, not-false}
-use Rattle.rules.specs.declared.Value.{Value}
-use Rattle.rules.specs.Script.{Program}
-use Rattle.rules.specs.State.{Frame, State, slotAt}
-use Rattle.rules.specs.Tables.{operandOf}
-use Rattle.rules.specs.Turn.{ok, operand}
-use Rattle.checks.specs.Turns.{checkOf, leftBy, InObjects, swapInto, Stand, Named}
-use Rattle.checks.proofs.Standing.{slot-object, slot-in-objects, fielded}
-use Rattle.checks.proofs.CheckLaws2.{operand-passed, left-object, slot-is, left-is, object-in-range}
-use Rattle.checks.proofs.ObjectChecks.{swap-stopped, swap-of-absent, swap-of-channel, swap-of-object}
+use Rattle.table.proofs.StateReads.{object-in-table}
+use Rattle.checks.proofs.ObjectChecks.{swap-no-operand, swap-no-target, swap-of-channel, swap-of-object}
 use borrow.Author.Needs.{needs}
 use Rattle.checks.proofs.lines.swap_check.Statement.{statement}
 use Rattle.checks.proofs.lines.swap_check.Tie as tie
@@ -25,10 +14,7 @@ passes-requires : tie.Need-passes-requires
 passes-requires c κs = search needs
 
 returns : tie.Need-returns
-returns c = record {
-  checks = λ P k S f fs rest st named.
-      swap-stopped _ _ _ _ (c .before .before .operand-check .ensures .checks P k S f fs rest st (named .1)) (sym (c .before .passes .ensures) ∙ not-true _ (c .if1 .taken));
-}
+returns c = swap-no-operand _ _ _ (c .before .before .operand-check .ensures) (sym (c .before .passes .ensures) ∙ not-true _ (c .if1 .taken))
 
 slot-of-requires : tie.Need-slot-of-requires
 slot-of-requires c κs = search needs
@@ -49,44 +35,31 @@ enum-known-x : tie.Need-enum-known-x
 enum-known-x c = search needs
 
 swap-into-requires : tie.Need-swap-into-requires
-swap-into-requires c κs = (c .before .before .before .before .before .before .before .before .before .before .pre .0, object-in-range (c .before .x .given .1) (c .before .before .before .seen .ensures .0), c .before .before .before .before .slot .ensures .0 .1)
-
--- past the operand's check it gives its slot's value
-given : (c : tie.Else1) {P : Program} {k : ℕ} {S : State} {f : Frame} {fs : List Frame} {rest : List ℕ}
-    → (let a = c .before .before .before .before .args in Stand (now (a .s)) (a .h) P k S f fs rest → Named (a .w / 2 ∷ []) f
-    → operand (S .objects) (f .slots) (operandOf (a .w)) ≡ ok (slotAt (f .slots) (a .w / 2), leftBy (f .slots) (operandOf (a .w))))
-given c st named =
-    operand-passed _ _ (c .before .before .before .before .args .w) (c .before .before .operand-check .ensures .checks _ _ _ _ _ _ st named) (sym (c .before .passes .ensures) ∙ not-false _ (c .if1 .left))
+swap-into-requires c κs = (c .before .before .before .before .before .before .before .before .before .before .pre .0, object-in-table _ _ (c .before .x .given .1) (c .before .before .before .seen .ensures .0), c .before .before .before .before .slot .ensures .0 .1)
 
 returns-2 : tie.Need-returns-2
-returns-2 c = record {
-  checks = λ P k S f fs rest st named.
-      let a = c .before .before .before .before .before .before .before .before .before .args in
-      let target = left-is st (a .i) (operandOf (a .w)) (named .0) (c .before .before .seen .ensures .1) in
-      swap-of-absent _ _ _ _ _ _ (given (c .before .before .before .before .before) st (named .1)) (sym target ∙ c .enum-told .given .1);
-}
+returns-2 c =
+    let target = c .before .before in
+    swap-no-target _ _ _
+    (target .before .before .before .before .before .operand-check .ensures)
+    (sym (target .before .before .before .before .passes .ensures) ∙ not-false _ (target .before .before .before .if1 .left)) (target .seen .ensures .1)
+    (c .enum-told .given .1)
 
 returns-3 : tie.Need-returns-3
-returns-3 c = record {
-  checks = λ P k S f fs rest st named.
-      let a = c .before .before .before .before .before .before .before .before .before .args in
-      let target = left-is st (a .i) (operandOf (a .w)) (named .0) (c .before .before .seen .ensures .1) in
-      swap-of-channel _ _ _ _ _ _ (given (c .before .before .before .before .before) st (named .1)) (sym target ∙ c .enum-told2 .given .1);
-}
+returns-3 c =
+    let target = c .before .before in
+    swap-of-channel _ _ _
+    (target .before .before .before .before .before .operand-check .ensures)
+    (sym (target .before .before .before .before .passes .ensures) ∙ not-false _ (target .before .before .before .if1 .left)) (target .seen .ensures .1)
+    (c .enum-told2 .given .1)
 
 returns-4 : tie.Need-returns-4
-returns-4 c = record {
-  checks = λ P k S f fs rest st named.
-      let a = c .before .before .before .before .before .before .before .before .before .before .before .args in
-      let n = c .before .before .x .given .0 .0 in
-      let value = slot-is st (a .w / 2) _ (named .1 .0) (c .before .before .before .before .before .before .slot-of .ensures .0) (c .before .before .before .before .before .slot .ensures .1) in
-      let target = sym (left-is st (a .i) (operandOf (a .w)) (named .0) (c .before .before .before .before .seen .ensures .1)) ∙ c .before .before .x .given .1 in
-      let made = slot-object st (a .i) n (left-object (f .slots) (operandOf (a .w)) (a .i) target) in
-      let there = subst (λ (v : Value). InObjects v S) (sym value) (slot-in-objects st (a .w / 2)) in
-      c .swap-into .ensures .sees S rest (st .held) (fielded st n made, there)
-      ∙ ap (λ (v : Value). checkOf (swapInto (a .h .thread) (S .objects) n (a .j) v)) value
-      ∙ swap-of-object _ _ _ _ _ _ (given (c .before .before .before .before .before .before .before) st (named .1)) n target;
-}
+returns-4 c =
+    let target = c .before .before .before .before in
+    swap-of-object _ _ _
+    (target .before .before .before .before .before .operand-check .ensures)
+    (sym (target .before .before .before .before .passes .ensures) ∙ not-false _ (target .before .before .before .if1 .left)) (target .seen .ensures .1)
+    (c .before .before .x .given .1) (target .before .before .slot-of .ensures .0) (target .before .slot .ensures .1) (c .swap-into .ensures)
 
 pub swap-check-spec : {M : Type 1} → statement M
 swap-check-spec =

@@ -1,7 +1,8 @@
 -- `checks::lines::swap_into` meets its contract: the value is an object, the field is there, and then the answer is the permission's.
 use mathlib.Core.Path.{sym, ap, _∙_}
 use Rattle.rules.specs.Turn.{isAbsent}
-use Rattle.checks.proofs.CheckLaws2.{field-in, object-in-range}
+use Rattle.table.proofs.StateReads.{object-in-table}
+use Rattle.checks.proofs.Standing.{field-in}
 use Rattle.checks.proofs.ObjectChecks.{into-absent, into-channel, into-missing, into-field}
 use borrow.Author.Needs.{needs}
 use Rattle.checks.proofs.lines.swap_into.Statement.{statement}
@@ -30,7 +31,7 @@ returns c = record {
 }
 
 swap-permission-requires : tie.Need-swap-permission-requires
-swap-permission-requires c κs = (c .before .before .before .before .before .before .before .pre .0, c .before .before .before .before .before .before .before .pre .1, object-in-range (c .before .before .before .before .v .given .1) (c .before .before .before .before .before .before .before .pre .2))
+swap-permission-requires c κs = (c .before .before .before .before .before .before .before .pre .0, c .before .before .before .before .before .before .before .pre .1, object-in-table _ _ (c .before .before .before .before .v .given .1) (c .before .before .before .before .before .before .before .pre .2))
 
 returns-2 : tie.Need-returns-2
 returns-2 c = record { sees = λ S rest held asked. rw (c .enum-told .given .1) (into-absent _ _ _ _) }

@@ -8,7 +8,7 @@ use denote.Ref.{now}
 use Rattle.rules.specs.State.{State, objectAt}
 use Rattle.rules.specs.Turn.{isImm, isLocal, mayHold, areApart}
 use Rattle.table.specs.State.{Held}
-use Rattle.checks.specs.Turns.{Made}
+use Rattle.checks.specs.Checked.{Made}
 use Rattle.checks.proofs.ObjectChecks.{not-local, value-not-local, same-creator, apart, into-foreign, into-apart, into-imm, into-passes, into-above}
 use borrow.Author.Needs.{needs}
 use Rattle.checks.proofs.lines.swap_permission.Statement.{statement}

@@ -1,7 +1,7 @@
--- One turn on tables against the rules: what the checks answer, and what a line makes of the table.
-use Prim.Native.Nat.{ℕ, suc, _+_, _/_, _≤_, _<_}
+-- What the checks of a line answer: the rule's own result, read off the tables.
+use Prim.Native.Nat.{ℕ, suc, _/_, _≤_, _<_}
 use mathlib.Core.Path.{_≡_}
-use mathlib.Core.Bool.{Bool, true, false, not}
+use mathlib.Core.Bool.{Bool, true, false}
 use mathlib.Core.List.{List, [], _∷_, map}
 use lib.Dec.{ltb}
 use lib.ListN.{length, getD, set}
@@ -13,14 +13,14 @@ use Rattle.rules.specs.Numbers as No
 use Rattle.rules.specs.Lists.{Every}
 use Rattle.rules.specs.Script.{Operand, reads, takes, Program, linesOf, kindAt}
 use Rattle.rules.specs.Valid.{Valid}
-use Rattle.rules.specs.State.{Object, Frame, State, objectAt, threadAt, channelAt, slotAt}
+use Rattle.rules.specs.State.{Object, Frame, State, objectAt, threadAt, channelAt}
 use Rattle.rules.specs.Tables.{operandOf}
 use Rattle.rules.specs.Turn as R
 use Rattle.rules.specs.Turn.{Res, ok, wait, stop, _>>=_, _>>_, check, waitUnless, permit, isLocal, isAbsent, asObject, permitSwap}
 use Rattle.rules.specs.Fits.{IsObject, Fits}
 use Rattle.table.specs.declared.state.Here.{Here}
 use Rattle.table.specs.Program.{Filled}
-use Rattle.table.specs.State.{InTable, Held}
+use Rattle.table.specs.State.{Held}
 use Rattle.checks.specs.declared.lines.Check.{Check}
 use Rattle.checks.specs.declared.lines.Check.the-variants.{Pass, Wait, Stop}
 
