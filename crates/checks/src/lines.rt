@@ -17,6 +17,8 @@ ghost use mathlib.Core.List.{[], _∷_};
 ghost use Prim.Native.Nat.{_-_, _/_, _%_, _≤_, _<_};
 ghost use lib.Dec.{ltb};
 ghost use lib.ListN.{length};
+ghost use Rattle.rules.specs.Mosts.{mosts};
+ghost use Rattle.rules.specs.Numbers as No;
 ghost use Rattle.rules.specs.State.{objectAt, channelAt, slotAt};
 ghost use Rattle.rules.specs.Tables.{operandOf, capOf};
 ghost use Rattle.rules.specs.Turn.{check, isImm, isIso, isLocal, isForeign, isAbsent, isIsoObject, operand, permitSwap, fieldLine, swapLine, castLine, putLine, sentLine, recvLine};
@@ -314,7 +316,7 @@ pub fn call_check(p: &[u16], s: &[u16], h: Here, i: u16, j: u16, w: u16) -> Chec
 // "spawn: threads used up 16".
 pub fn spawn_check(s: &[u16]) -> Check
     requires { ⌜ 8192 ≤ length (now s) ⌝ }
-    ensures { λ r. ⌜ Sees (now (s .entry)) (λ S. Few S) (λ S. checkOf (check (ltb (length (S .threads)) 16) 16)) r ⌝ }
+    ensures { λ r. ⌜ Sees (now (s .entry)) (λ S. Few S) (λ S. checkOf (check (ltb (length (S .threads)) (mosts .threads)) No.usedUp)) r ⌝ }
 {
     if table::thread_count(s) < 16 {
         return Check::Pass;

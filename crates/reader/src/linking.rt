@@ -76,9 +76,18 @@ fn line_dangles(t: &[u16], kinds: usize, blocks: usize, b: usize, n: usize) -> b
     let form = table::line_word(t, n, 0);
     match form {
         1 => kind_dangles(t, blocks, n),
+        2 => false,
         3 => b == 0,
+        4 => false,
+        5 => false,
+        6 => false,
+        7 => false,
+        8 => false,
         9 => new_dangles(t, kinds, n),
+        10 => false,
         11 => !is_sort(t, blocks, table::line_word(t, n, 1) as usize, 2),
+        12 => false,
+        13 => false,
         _ => false,
     }
 }

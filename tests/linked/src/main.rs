@@ -1,10 +1,10 @@
 //! The program `linked`: `read SEED COUNT` holds the compiled reader against the second interpreter; `bench` measures both.
 
 use std::env;
-use std::io::{self, Write};
 use std::process;
 
 use linked::{agree, bench};
+use second::console::{complain, out};
 
 const CALLS: usize = 4001;
 
@@ -25,17 +25,6 @@ fn main() {
 fn usage() -> i32 {
     complain("linked read SEED COUNT | bench\n");
     2
-}
-
-fn out(bytes: &[u8]) -> i32 {
-    match io::stdout().write_all(bytes) {
-        Ok(()) => 0,
-        Err(_) => 1,
-    }
-}
-
-fn complain(text: &str) {
-    let _ = io::stderr().write_all(text.as_bytes());
 }
 
 fn agreed(seed: u64, count: u64) -> i32 {

@@ -17,6 +17,7 @@ pub mod lines;
 pub mod listing;
 pub mod reach;
 
+pub mod console;
 pub mod input;
 
 pub mod demand3;

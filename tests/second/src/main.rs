@@ -1,9 +1,10 @@
 //! The program `second`: boxrun's double on standard input, and the random inputs by their seed.
 
 use std::env;
-use std::io::{self, Read, Write};
+use std::io::{self, Read};
 use std::process;
 
+use second::console::{complain, out};
 use second::demand3::check_many;
 use second::generate;
 use second::histogram::Histogram;
@@ -40,18 +41,6 @@ fn numbered(command: &str, seed: u64, count: u64) -> i32 {
 fn usage() -> i32 {
     complain(USAGE);
     2
-}
-
-/// Writes to standard output; a closed one is no reason to panic.
-fn out(bytes: &[u8]) -> i32 {
-    match io::stdout().write_all(bytes) {
-        Ok(()) => 0,
-        Err(_) => 1,
-    }
-}
-
-fn complain(text: &str) {
-    let _ = io::stderr().write_all(text.as_bytes());
 }
 
 /// Reads one byte more than the most, so that long input shows.
