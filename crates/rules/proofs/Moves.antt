@@ -14,15 +14,10 @@ use Rattle.rules.specs.Lists.{Every}
 use Rattle.rules.specs.Script.{Program, Operand, reads, takes, Expr, value, field, swap, call, new, cast, spawn, send, recv, Line, bind, give, kindAt, lineAt}
 use Rattle.rules.specs.Reading.{slotOf}
 use Rattle.rules.specs.State.{Object, Frame, Sender, ready, waiting, State, threadAt, channelAt, slotAt}
-use Rattle.rules.specs.Turn.{Res, ok, wait, stop, _>>=_, _>>_, check, waitUnless, permit, isImm, isLocal, sameCap, mayHold, isForeign, isAbsent, isIsoObject, present, asObject, asChannel, operand, operands, allObjects, Here, objectsOf, object, putThread, putObjects, putChannel, filled, withSlots, gives, valueLine, fieldLine, areApart, permitSwap, setField, swapLine, callLine, newLine, castLine, started, spawnLine, putLine, sentLine, sendLine, recvLine, returned, giveLine, letLine, perform, turnOf, turn}
+use Rattle.rules.specs.Turn.{Res, ok, wait, stop, _>>=_, _>>_, check, waitUnless, permit, isImm, isLocal, sameCap, mayHold, isForeign, isAbsent, isIsoObject, present, asObject, asChannel, operand, leftBy, operands, allObjects, Here, objectsOf, object, putThread, putObjects, putChannel, filled, withSlots, gives, valueLine, fieldLine, areApart, permitSwap, setField, swapLine, callLine, newLine, castLine, started, spawnLine, putLine, sentLine, sendLine, recvLine, returned, giveLine, letLine, perform, turnOf, turn}
 use Rattle.rules.proofs.ListLaws.{impossible, below, of-not, or-false, any-false, every-map}
 
 -- ---- What operands give
-
--- the slots that an operand leaves
-abbrev pub leftBy : List Value → Operand → List Value
-leftBy vs (reads s) = vs
-leftBy vs (takes s) = set vs s Absent
 
 -- a read gives no iso object
 abbrev pub NoIsoRead : List Object → Operand → Value → Type 0
@@ -400,6 +395,10 @@ module _ (m : Mosts) (P : Program) (H : Here) where
   unfolding perform
   line-goes (bind e) = let-goes e
   line-goes (give w) = give-goes w
+
+-- a line that moves has shown the facts of its way to move
+pub stepped : (m : Mosts) (P : Program) (H : Here) (x : Line) (S : State) → perform m P H x ≡ ok S → Step m P H x S
+stepped m P H x S e = line-goes m P H x .holds S e
 
 -- ---- The turn
 

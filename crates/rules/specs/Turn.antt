@@ -123,6 +123,11 @@ operand os vs (takes s) = do
   v ← present (slotAt vs s)
   ok (v, set vs s Absent)
 
+-- what is left in either case
+abbrev pub leftBy : List Value → Operand → List Value
+leftBy vs (reads s) = vs
+leftBy vs (takes s) = set vs s Absent
+
 -- "All operands come first, left to right, each seeing what the earlier ones took."
 unfoldable pub operands : List Object → List Value → List Operand → Res (List Value × List Value)
 operands os vs [] = ok ([], vs)
