@@ -10,4 +10,4 @@ pub mod StateReads
 -- slots, records and frames written
 mod StateMoves
 mod StateRecords
-mod StateFrames
+pub mod StateFrames

@@ -116,15 +116,28 @@ module _ {l rest : List ℕ} {S : State} (held : Held l S rest) (t k : ℕ) (few
 
 -- ---- The line where a thread stands
 
--- the block b′, the line l′ and the number of the block's first line as they are read: the remainders change nothing
-pub on-its-line : (P : Program) {p counts rest : List ℕ} → Filled p counts (linesOf P) rest → {b l b′ l′ first : ℕ} {h : Here} → b′ ≡ b → l′ ≡ l
-    → first ≡ getD p (8 + b′ % 64) 0 → h .row ≡ (72 + (first + l′) * 8) % 8192 → b < length (P .blocks) → l ≤ length (blockAt P b .lets) → OnLine p P b l h
-on-its-line P {p} filled {b} {l} {b′} {l′} {first} {h} block line read at there few =
-    let small : b < 64 = omega (arith, filled .blocks, ap length (blocks-of-lines P)) in
-    let same : b′ % 64 ≡ b = omega arith in
-    let is-first : first ≡ getD p (8 + b) 0 = read ∙ ap (λ x. getD p (8 + x) 0) same in
-    record {
-      words = λ k c.
-          let place : h .row + k ≡ (72 + (first + l) * 8 + k) % 8192 = omega arith in
-          ap (λ i. getD p i 0) (place ∙ ap (λ x. (72 + (x + l) * 8 + k) % 8192) is-first) ∙ line-part-is P filled b l k small there few c;
-    }
+module _ (P : Program) {p counts rest : List ℕ} (filled : Filled p counts (linesOf P) rest) {b : ℕ} (there : b < length (P .blocks)) where
+  small : b < 64
+  small = omega (arith, filled .blocks, ap length (blocks-of-lines P))
+
+  -- the words of line l stand in its place
+  line-at : {l : ℕ} {h : Here} → l ≤ length (blockAt P b .lets) → h .row ≡ (72 + (getD p (8 + b) 0 + l) * 8) % 8192 → OnLine p P b l h
+  line-at {l} {h} few at =
+      record {
+        place = at;
+        words = λ k c.
+            let place : h .row + k ≡ (72 + (getD p (8 + b) 0 + l) * 8 + k) % 8192 = omega arith in
+            ap (λ i. getD p i 0) place ∙ line-part-is P filled b l k small there few c;
+      }
+
+  -- the block b′, the line l and the number of the block's first line as they are read: the remainder changes nothing
+  pub on-its-line : {l b′ l′ first : ℕ} {h : Here} → b′ ≡ b → l′ ≡ l → first ≡ getD p (8 + b′ % 64) 0 → h .row ≡ (72 + (first + l′) * 8) % 8192
+      → l ≤ length (blockAt P b .lets) → OnLine p P b l h
+  on-its-line {b′ = b′} {l′} block line read at few =
+      let same : b′ % 64 ≡ b = omega (arith, small) in
+      let is-first = read ∙ ap (λ x. getD p (8 + x) 0) same in
+      line-at few (at ∙ ap (λ x. (72 + (x + l′) * 8) % 8192) is-first ∙ ap (λ x. (72 + (getD p (8 + b) 0 + x) * 8) % 8192) line)
+
+  -- the next line's place is eight words on
+  pub next-on-line : {l : ℕ} {h r : Here} → OnLine p P b l h → r .row ≡ (h .row + 8) % 8192 → l < length (blockAt P b .lets) → OnLine p P b (l + 1) r
+  next-on-line {l} on at more = let place = on .place in line-at (omega arith) (omega (arith, at, place))

@@ -92,8 +92,9 @@ pub record HasSlot (t k i : ℕ) (S : State) : Type 0 where
   pub has : HasFrame t k S
   pub slot : i < length (frameAt S t k .slots)
 
--- the line's words, where the thread stands at line l of block b
+-- the place of line l of block b, where the thread stands, and the line's words in it
 pub record OnLine (p : List ℕ) (P : Program) (b l : ℕ) (h : Here) : Type 0 where
+  pub place : h .row ≡ (72 + (getD p (8 + b) 0 + l) * 8) % 8192
   pub words : (k : ℕ) → k < 8 → getD p (h .row + k) 0 ≡ getD (row (line (lineAt P b l))) k 0
 
 -- ---- Objects, channels, threads

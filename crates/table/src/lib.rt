@@ -15,6 +15,7 @@ pub use program::put_counts;
 pub use state::Here;
 pub use state::add_object;
 pub use state::cap;
+pub use state::cap_of;
 pub use state::clear_slot;
 pub use state::creator;
 pub use state::drop_frame;

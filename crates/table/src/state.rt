@@ -46,6 +46,18 @@ fn pack(v: Value) -> u16
     }
 }
 
+// A capability's word read back.
+pub fn cap_of(w: u16) -> Cap
+    ensures { λ r. ⌜ r ≡ capOf w ⌝ }
+{
+    match w {
+        0 => Cap::Imm,
+        1 => Cap::Iso,
+        2 => Cap::Local,
+        _ => Cap::Unsafe,
+    }
+}
+
 // ---- Reading
 
 pub fn object_count(s: &[u16]) -> u16
@@ -122,13 +134,7 @@ pub fn cap(s: &[u16], o: u16) -> Cap
     ensures { λ r. ⌜ r ≡ capOf (getD (now (s .entry)) (8 + o * 8) 0) ⌝ }
     ensures { λ r. ⌜ Sees (now (s .entry)) (λ S. o < length (S .objects)) (λ S. objectAt (S .objects) o .cap) r ⌝ }
 {
-    let w = s[8 + o as usize * 8];
-    match w {
-        0 => Cap::Imm,
-        1 => Cap::Iso,
-        2 => Cap::Local,
-        _ => Cap::Unsafe,
-    }
+    cap_of(s[8 + o as usize * 8])
 }
 
 pub fn kind(s: &[u16], o: u16) -> u16

@@ -56,7 +56,7 @@ returns c =
       record {
         depth = λ S rest held e few. omega arith;
         row = λ P S counts rest₁ rest₂ filled held there few.
-            on-its-line P filled (block .sees S rest₂ held tt) (line .sees S rest₂ held tt) (c .first-line .ensures .0 .0) refl there few;
+            on-its-line P filled there (block .sees S rest₂ held tt) (line .sees S rest₂ held tt) (c .first-line .ensures .0 .0) refl few;
       },
     )
 
