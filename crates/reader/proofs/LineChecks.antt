@@ -22,7 +22,7 @@ use Rattle.grammar.specs.declared.forms.Line.{Line}
 use Rattle.grammar.specs.Items.{past}
 use Rattle.grammar.specs.Decoded.{overLine, Tells}
 use Rattle.table.specs.Program.{sortNumber}
-use Rattle.reader.specs.declared.checks.Sofar.{Sofar}
+use Rattle.reader.specs.declared.faults.Sofar.{Sofar}
 use Rattle.reader.specs.Sofar.{placeOf, soFar, fullBefore, InPlace, Tidy, Full, faultOf, Faults}
 
 -- ---- The number of a form

@@ -14,7 +14,7 @@ use Rattle.rules.specs.Reading as R
 use Rattle.rules.specs.Reading.{outside, within, slotsFilled, Step, fault, next, inPlace, readOn, formStep}
 use Rattle.grammar.specs.declared.forms.Line.{Line}
 use Rattle.grammar.specs.Decoded.{Tells}
-use Rattle.reader.specs.declared.checks.Sofar.{Sofar}
+use Rattle.reader.specs.declared.faults.Sofar.{Sofar}
 
 abbrev pub placeOf : (opener filled : ℕ) → R.Place
 placeOf opener filled = cond (eqb opener 0) outside (cond (eqb opener 3) (within method filled) (within thread filled))

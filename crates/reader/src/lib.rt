@@ -1,5 +1,5 @@
 // Reading a script into a program table, and the line finder.
-mod checks;
+mod faults;
 mod finder;
 mod linking;
 mod scanning;

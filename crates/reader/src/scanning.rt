@@ -1,7 +1,7 @@
 // All lines of a text, one after the other, each written to the table once it has passed.
-use super::checks::Sofar;
-use super::checks::after_line;
-use super::checks::fault;
+use super::faults::Sofar;
+use super::faults::after_line;
+use super::faults::fault;
 use super::finder::find_lf;
 ghost use mathlib.Core.Path.{_≡_};
 ghost use mathlib.Core.Bool.{cond};

@@ -4,8 +4,8 @@ use mathlib.Core.Logic.{⊎-elim}
 use borrow.Author.Tests.{le-leb, lt-leb}
 use Rattle.reader.specs.Sofar.{fullBefore}
 use Rattle.reader.proofs.LineChecks.{told, is-kind, is-opener, is-give, is-let}
-use Rattle.reader.proofs.checks.is_full.Statement.{statement}
-use Rattle.reader.proofs.checks.is_full.Tie as tie
+use Rattle.reader.proofs.faults.is_full.Statement.{statement}
+use Rattle.reader.proofs.faults.is_full.Tie as tie
 
 returns : tie.Need-returns
 unfolding fullBefore

@@ -8,8 +8,8 @@ use borrow.Author.Tests.{not-true, not-false, lt-ltb, le-ltb, eq-eqb, ne-eqb}
 use Rattle.rules.specs.Numbers as No
 use Rattle.reader.specs.Sofar.{Faults}
 use Rattle.reader.proofs.LineChecks.{faults, faults-alone}
-use Rattle.reader.proofs.checks.fault.Statement.{statement}
-use Rattle.reader.proofs.checks.fault.Tie as tie
+use Rattle.reader.proofs.faults.fault.Statement.{statement}
+use Rattle.reader.proofs.faults.fault.Tie as tie
 
 in-place-requires : tie.Need-in-place-requires
 in-place-requires c κs = search needs

@@ -4,8 +4,8 @@ use mathlib.Core.Path.{refl}
 use borrow.Author.Needs.{needs}
 use Rattle.rules.specs.Reading.{slotsFilled, readOn}
 use Rattle.reader.proofs.LineChecks.{told, is-kind, is-thread, is-method, is-give, is-let, let-goes-on, tidy-let}
-use Rattle.reader.proofs.checks.after_line.Statement.{statement}
-use Rattle.reader.proofs.checks.after_line.Tie as tie
+use Rattle.reader.proofs.faults.after_line.Statement.{statement}
+use Rattle.reader.proofs.faults.after_line.Tie as tie
 
 add-next : tie.Need-add-next
 add-next c = search needs

@@ -3,8 +3,8 @@ use mathlib.Core.Logic.{⊎-elim}
 use native.Mathlib.Omega.{arith}
 use Rattle.rules.specs.Reading.{inPlace}
 use Rattle.reader.proofs.LineChecks.{told, is-kind, is-opener, is-line, place-outside}
-use Rattle.reader.proofs.checks.in_place.Statement.{statement}
-use Rattle.reader.proofs.checks.in_place.Tie as tie
+use Rattle.reader.proofs.faults.in_place.Statement.{statement}
+use Rattle.reader.proofs.faults.in_place.Tie as tie
 
 returns : tie.Need-returns
 unfolding inPlace
