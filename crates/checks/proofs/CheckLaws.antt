@@ -1,6 +1,6 @@
 -- A rule's result as a check: where its first part does not pass, the whole answers the same; an operand that passes gives its slot's value.
 use Prim.Native.Nat.{ℕ, zero, suc, _/_, _%_}
-use mathlib.Core.Path.{_≡_, refl, ap, _∙_}
+use mathlib.Core.Path.{_≡_, refl, sym, ap, _∙_}
 use mathlib.Core.Bool.{true, false}
 use mathlib.Core.List.{List, [], _∷_}
 use lib.Dec.{eqb}
@@ -11,16 +11,16 @@ use Rattle.rules.specs.Script.{Operand, reads, takes}
 use Rattle.rules.specs.Reading.{slotOf}
 use Rattle.rules.specs.State.{Object, slotAt}
 use Rattle.rules.specs.Tables.{operandOf}
-use Rattle.rules.specs.Turn.{Res, ok, wait, stop, _>>=_, _>>_, check, permit, isAbsent, isIsoObject, present, operand}
+use Rattle.rules.specs.Turn.{Res, ok, wait, stop, _>>=_, _>>_, check, permit, isAbsent, isIsoObject, present, operand, leftBy}
 use Rattle.rules.proofs.ListLaws.{impossible, by-bool}
 use Rattle.checks.specs.declared.lines.Check.{Check}
 use Rattle.checks.specs.declared.lines.Check.the-variants.{Pass, Wait, Stop}
-use Rattle.checks.specs.Checked.{checkOf, isPass, leftBy}
+use Rattle.checks.specs.Checked.{checkOf, isPass}
 
 -- ---- Any two parts
 
 -- a check that passes and does not
-no-both : {A : Type 0} (k : Check) → isPass k ≡ true → isPass k ≡ false → A
+pub no-both : {A : Type 0} (k : Check) → isPass k ≡ true → isPass k ≡ false → A
 no-both Pass passes fails = impossible cc
 no-both Wait passes fails = impossible cc
 no-both (Stop n) passes fails = impossible cc
@@ -32,12 +32,23 @@ stays (ok a) g {k = k} fails e = no-both k (ap isPass e) fails
 stays wait g fails e = e
 stays (stop n) g fails e = e
 
--- what cannot fail after a part changes no answer
-pub then-ok : {A B : Type 0} (x : Res A) (b : B) → checkOf x ≡ checkOf (x >> ok b)
+-- where it passes, the whole answers what the second part does
+pub goes-on : {B : Type 0} (x : Res (Unit {0})) (y : Res B) {k : Check} → isPass k ≡ true → k ≡ checkOf x → checkOf (x >> y) ≡ checkOf y
 unfolding _>>_ _>>=_
-then-ok (ok a) b = refl
-then-ok wait b = refl
-then-ok (stop n) b = refl
+goes-on (ok a) y passes e = refl
+goes-on wait y {k = k} passes e = no-both k passes (ap isPass e)
+goes-on (stop n) y {k = k} passes e = no-both k passes (ap isPass e)
+
+-- what cannot fail after a part changes no answer
+pub then-gives : {A B : Type 0} (x : Res A) (g : A → B) → checkOf (x >>= λ a. ok (g a)) ≡ checkOf x
+unfolding _>>=_
+then-gives (ok a) g = refl
+then-gives wait g = refl
+then-gives (stop n) g = refl
+
+pub then-ok : {A B : Type 0} (x : Res A) (b : B) → checkOf x ≡ checkOf (x >> ok b)
+unfolding _>>_
+then-ok x b = sym (then-gives x (λ _. b))
 
 -- where the rests answer the same, so do the wholes
 pub same-after : {A B C : Type 0} (x : Res A) (g : A → Res B) (g′ : A → Res C) → ((a : A) → checkOf (g a) ≡ checkOf (g′ a)) → checkOf (x >>= g) ≡ checkOf (x >>= g′)
@@ -69,12 +80,12 @@ module _ (os : List Object) (vs : List Value) where
   taking-gives (Chan c) passes e = refl
 
 -- an operand that passes gives its slot's value
-given : (os : List Object) (vs : List Value) (w : Operand) {k : Check} → isPass k ≡ true → k ≡ checkOf (operand os vs w) → operand os vs w ≡ ok (slotAt vs (slotOf w), leftBy vs w)
+pub given : (os : List Object) (vs : List Value) (w : Operand) {k : Check} → isPass k ≡ true → k ≡ checkOf (operand os vs w) → operand os vs w ≡ ok (slotAt vs (slotOf w), leftBy vs w)
 unfolding operand
 given os vs (reads s) passes e = reading-gives os vs (slotAt vs s) passes e
 given os vs (takes s) passes e = taking-gives os (set vs s Absent) (slotAt vs s) passes e
 
-slot-of-word : (w : ℕ) → slotOf (operandOf w) ≡ w / 2
+pub slot-of-word : (w : ℕ) → slotOf (operandOf w) ≡ w / 2
 slot-of-word w = by-bool (eqb (w % 2) 1) (λ t. rw t refl) (λ t. rw t refl)
 
 -- the operand of word w, where it passes, gives its slot's value and the slots that it leaves

@@ -7,3 +7,7 @@ mod OperandChecks
 mod ObjectChecks
 mod ChannelChecks
 mod CallChecks
+-- the items of a new; the values that it would hold; both
+pub mod ItemChecks
+mod HeldChecks
+pub mod NewChecks

@@ -15,14 +15,14 @@ use Rattle.rules.specs.declared.Value.the-variants.{Absent, Obj, Chan}
 use Rattle.rules.specs.Numbers as No
 use Rattle.rules.specs.Script.{Program, rank}
 use Rattle.rules.specs.State.{Frame, State, objectAt, slotAt}
-use Rattle.rules.specs.Tables.{operandOf, capOf}
-use Rattle.rules.specs.Turn.{_>>=_, _>>_, check, permit, isIso, isLocal, sameCap, isForeign, isIsoObject, present, asObject, operand, object, castLine}
+use Rattle.rules.specs.Tables.{operandOf}
+use Rattle.rules.specs.Turn.{_>>=_, _>>_, check, permit, isIso, isLocal, sameCap, isForeign, isIsoObject, present, asObject, operand, leftBy, object, castLine}
 use Rattle.rules.proofs.ListLaws.{by-bool}
 use Rattle.table.specs.declared.state.Here.{Here}
 use Rattle.table.specs.State.{InTable, Sees, frameAt}
 use Rattle.checks.specs.declared.lines.Check.{Check}
 use Rattle.checks.specs.declared.lines.Check.the-variants.{Pass, Stop}
-use Rattle.checks.specs.Checked.{isPass, leftBy, Made, InObjects, Stand, Checks}
+use Rattle.checks.specs.Checked.{isPass, Made, InObjects, Stand, Checks}
 use Rattle.checks.proofs.CheckLaws.{stays}
 use Rattle.checks.proofs.Standing.{SlotSeen, TargetSeen, OperandChecked, slot-object, slot-read, operand-goes}
 
@@ -76,13 +76,13 @@ absent-where-set [] i = refl
 absent-where-set (v ∷ vs) zero = refl
 absent-where-set (v ∷ vs) (suc i) = absent-where-set vs i
 
-slot-taken : (vs : List Value) (i w : ℕ) → w ≡ i * 2 + 1 → Absent ≡ slotAt (leftBy vs (operandOf w)) i
+pub slot-taken : (vs : List Value) (i w : ℕ) → w ≡ i * 2 + 1 → Absent ≡ slotAt (leftBy vs (operandOf w)) i
 slot-taken vs i w e =
     let odd : w % 2 ≡ 1 = omega arith in
     let half : w / 2 ≡ i = omega arith in
     rw (odd, half) (sym (absent-where-set vs i))
 
-slot-left : (vs : List Value) (i w : ℕ) → (w ≡ i * 2 + 1 → ⊥) → slotAt (leftBy vs (operandOf w)) i ≡ slotAt vs i
+pub slot-left : (vs : List Value) (i w : ℕ) → (w ≡ i * 2 + 1 → ⊥) → slotAt (leftBy vs (operandOf w)) i ≡ slotAt vs i
 unfolding slotAt
 slot-left vs i w other = by-bool (eqb (w % 2) 1)
     (λ t. let odd = eqb-true (w % 2) 1 t in rw t (getD-set-other vs (w / 2) i Absent Absent (λ e. other (omega arith))))
@@ -103,20 +103,9 @@ module _ (s : List ℕ) (h : Here) (i w : ℕ) where
 
 -- ---- cast: the operand's word w, its value v
 
-rank-cap-of : (m : ℕ) → m < 4 → rank (capOf m) ≡ m
-rank-cap-of zero few = refl
-rank-cap-of (suc zero) few = refl
-rank-cap-of (suc (suc zero)) few = refl
-rank-cap-of (suc (suc (suc zero))) few = refl
-rank-cap-of (suc (suc (suc (suc m)))) few = absurd (omega arith)
-
-same-rank : (k : Cap) (m : ℕ) → sameCap k (capOf (m % 4)) ≡ eqb (rank k) (m % 4)
-unfolding sameCap
-same-rank k m = ap (eqb (rank k)) (rank-cap-of (m % 4) (omega arith))
-
-module _ {s : List ℕ} {h : Here} {k : Check} (w c : ℕ) (first : OperandChecked s h w k) where
+module _ {s : List ℕ} {h : Here} {k : Check} (w : ℕ) (c : Cap) (first : OperandChecked s h w k) where
   abbrev CastGives : Check → Type 0
-  CastGives j = Checks s h (w / 2 ∷ []) (λ P H. castLine H (capOf (c % 4)) (operandOf w)) j
+  CastGives j = Checks s h (w / 2 ∷ []) (λ P H. castLine H c (operandOf w)) j
 
   pub cast-no-operand : isPass k ≡ false → CastGives k
   unfolding castLine
@@ -133,24 +122,25 @@ module _ {s : List ℕ} {h : Here} {k : Check} (w c : ℕ) (first : OperandCheck
 
     module _ {o : ℕ} {a : Cap} (is : v ≡ Obj o) (cap : Sees s (λ S. o < length (S .objects)) (λ S. objectAt (S .objects) o .cap) a) where
       same-is : {P : Program} {n : ℕ} {S : State} {f : Frame} {fs : List Frame} {rest : List ℕ} → Stand s h P n S f fs rest → w / 2 < length (f .slots)
-          → sameCap (objectAt (S .objects) o .cap) (capOf (c % 4)) ≡ eqb (rank a) (c % 4)
+          → sameCap (objectAt (S .objects) o .cap) c ≡ eqb (rank a) (rank c)
+      unfolding sameCap
       same-is {S = S} {rest = rest} st filled =
-          ap (λ (b : Cap). sameCap b (capOf (c % 4))) (sym (cap .sees S rest (st .held) (slot-object st (w / 2) o (slot-read st (w / 2) _ place slot filled ∙ is)))) ∙ same-rank a c
+          ap (λ (b : Cap). sameCap b c) (sym (cap .sees S rest (st .held) (slot-object st (w / 2) o (slot-read st (w / 2) _ place slot filled ∙ is))))
 
-      pub cast-same : rank a ≡ c % 4 → CastGives Pass
+      pub cast-same : rank a ≡ rank c → CastGives Pass
       unfolding castLine asObject object check _>>=_ _>>_
       cast-same same =
           record {
             checks = λ P n S f fs rest st named.
-                rw (operand-goes st w first passed (named .0), slot-read st (w / 2) _ place slot (named .0) ∙ is, same-is st (named .0) ∙ eq-eqb (rank a) (c % 4) same) refl;
+                rw (operand-goes st w first passed (named .0), slot-read st (w / 2) _ place slot (named .0) ∙ is, same-is st (named .0) ∙ eq-eqb (rank a) (rank c) same) refl;
           }
 
-      pub cast-other : (rank a ≡ c % 4 → ⊥) → CastGives (Stop No.cast)
+      pub cast-other : (rank a ≡ rank c → ⊥) → CastGives (Stop No.cast)
       unfolding castLine asObject object check _>>=_ _>>_
       cast-other other =
           record {
             checks = λ P n S f fs rest st named.
-                rw (operand-goes st w first passed (named .0), slot-read st (w / 2) _ place slot (named .0) ∙ is, same-is st (named .0) ∙ ne-eqb (rank a) (c % 4) other) refl;
+                rw (operand-goes st w first passed (named .0), slot-read st (w / 2) _ place slot (named .0) ∙ is, same-is st (named .0) ∙ ne-eqb (rank a) (rank c) other) refl;
           }
 
 -- ---- Capabilities, as they are seen

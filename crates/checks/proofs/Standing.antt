@@ -14,7 +14,7 @@ use Rattle.rules.specs.Mosts.{mosts}
 use Rattle.rules.specs.Script.{Program}
 use Rattle.rules.specs.State.{Frame, State, objectAt, channelAt, slotAt}
 use Rattle.rules.specs.Tables.{operandOf, noFrame, outermostFirst}
-use Rattle.rules.specs.Turn.{ok, isAbsent, operand, object}
+use Rattle.rules.specs.Turn.{ok, isAbsent, operand, leftBy, object}
 use Rattle.rules.specs.Fits.{InRange, IsObject, ObjectFits}
 use Rattle.rules.proofs.ListLaws.{every-map, every-get}
 use Rattle.rules.proofs.TableWords.{length-outermost}
@@ -22,7 +22,7 @@ use Rattle.rules.proofs.Keeps.{HereFits, here-fits, slot-range, object-fits, ch
 use Rattle.table.specs.declared.state.Here.{Here}
 use Rattle.table.specs.State.{InTable, Sees, FieldIn, frameAt}
 use Rattle.checks.specs.declared.lines.Check.{Check}
-use Rattle.checks.specs.Checked.{isPass, leftBy, Fielded, InObjects, hereAt, Stand, Checks}
+use Rattle.checks.specs.Checked.{isPass, Fielded, InObjects, hereAt, Stand, Checks}
 use Rattle.checks.proofs.CheckLaws.{operand-gives, left-was-there}
 
 -- ---- What is learned of the table

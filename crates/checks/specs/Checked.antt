@@ -4,14 +4,14 @@ use mathlib.Core.Path.{_≡_}
 use mathlib.Core.Bool.{Bool, true, false}
 use mathlib.Core.List.{List, [], _∷_, map}
 use lib.Dec.{ltb}
-use lib.ListN.{length, getD, set}
+use lib.ListN.{length, getD}
 use Rattle.rules.specs.declared.Value.{Value}
 use Rattle.rules.specs.declared.Value.the-variants.{Absent, Obj, Chan}
 use Rattle.rules.specs.Mosts as Most
 use Rattle.rules.specs.Mosts.{mosts}
 use Rattle.rules.specs.Numbers as No
 use Rattle.rules.specs.Lists.{Every}
-use Rattle.rules.specs.Script.{Operand, reads, takes, Program, linesOf, kindAt}
+use Rattle.rules.specs.Script.{Program, linesOf, kindAt}
 use Rattle.rules.specs.Valid.{Valid}
 use Rattle.rules.specs.State.{Object, Frame, State, objectAt, threadAt, channelAt}
 use Rattle.rules.specs.Tables.{operandOf}
@@ -35,15 +35,15 @@ isPass Pass = true
 isPass Wait = false
 isPass (Stop n) = false
 
+abbrev pub isWait : Check → Bool
+isWait Pass = false
+isWait Wait = true
+isWait (Stop n) = false
+
 abbrev pub numberOf : Value → ℕ
 numberOf Absent = 0
 numberOf (Obj n) = n
 numberOf (Chan c) = c
-
--- the slots that an operand leaves
-abbrev pub leftBy : List Value → Operand → List Value
-leftBy vs (reads s) = vs
-leftBy vs (takes s) = set vs s Absent
 
 -- ---- What is asked of the state
 
@@ -90,7 +90,6 @@ pub record Stand (s : List ℕ) (h : Here) (P : Program) (n : ℕ) (S : State) (
   pub held : Held s S rest
   pub valid : Valid mosts P
   pub fits : Fits mosts P n S
-  pub few-moves : n < Most.turns
   pub frames : threadAt S (h .thread) .frames ≡ f ∷ fs
   pub depth : length fs ≡ h .depth
 

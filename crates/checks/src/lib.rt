@@ -1,6 +1,8 @@
 // What the checks of a line answer, read off the tables. None of them writes.
+mod items;
 mod lines;
 
+pub use items::new_check;
 pub use lines::Check;
 pub use lines::call_check;
 pub use lines::cast_check;
@@ -16,3 +18,4 @@ pub use lines::sent_check;
 pub use lines::slot_of;
 pub use lines::spawn_check;
 pub use lines::swap_check;
+pub use lines::waits;

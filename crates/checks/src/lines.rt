@@ -20,10 +20,10 @@ ghost use lib.ListN.{length};
 ghost use Rattle.rules.specs.Mosts.{mosts};
 ghost use Rattle.rules.specs.Numbers as No;
 ghost use Rattle.rules.specs.State.{objectAt, channelAt, slotAt};
-ghost use Rattle.rules.specs.Tables.{operandOf, capOf};
-ghost use Rattle.rules.specs.Turn.{check, isImm, isIso, isLocal, isForeign, isAbsent, isIsoObject, operand, permitSwap, fieldLine, swapLine, castLine, putLine, sentLine, recvLine};
+ghost use Rattle.rules.specs.Tables.{operandOf};
+ghost use Rattle.rules.specs.Turn.{check, isImm, isIso, isLocal, isForeign, isAbsent, isIsoObject, operand, leftBy, permitSwap, fieldLine, swapLine, castLine, putLine, sentLine, recvLine};
 ghost use Rattle.table.specs.State.{InTable, Sees, Placed, frameAt};
-ghost use Rattle.checks.specs.Checked.{isPass, checkOf, leftBy, numberOf, Made, Fielded, InObjects, Few, swapInto, putInto, MethodItem, Checks, ChecksCall};
+ghost use Rattle.checks.specs.Checked.{isPass, isWait, checkOf, numberOf, Made, Fielded, InObjects, Few, swapInto, putInto, MethodItem, Checks, ChecksCall};
 
 // What the checks come to: the turn moves, it waits, or it stops with a number.
 pub enum Check {
@@ -38,6 +38,16 @@ pub fn passes(k: Check) -> bool
     match k {
         Check::Pass => true,
         Check::Wait => false,
+        Check::Stop(_) => false,
+    }
+}
+
+pub fn waits(k: Check) -> bool
+    ensures { λ r. ⌜ r ≡ isWait k ⌝ }
+{
+    match k {
+        Check::Pass => false,
+        Check::Wait => true,
         Check::Stop(_) => false,
     }
 }
@@ -107,7 +117,7 @@ fn is_local(c: Cap) -> bool
 }
 
 // Whether object n is local to another thread than t.
-fn is_foreign(s: &[u16], t: usize, n: u16) -> bool
+pub fn is_foreign(s: &[u16], t: usize, n: u16) -> bool
     requires { ⌜ (8192 ≤ length (now s)) × (n < 256) ⌝ }
     ensures { λ r. ⌜ Sees (now (s .entry)) (Made n) (λ S. isForeign t (objectAt (S .objects) n)) r ⌝ }
 {
@@ -167,20 +177,20 @@ pub fn seen(s: &[u16], h: Here, i: u16, w: u16) -> Value
 // ---- The forms
 
 // "cast: a channel 13; capability not K 15; else gives the value."
-pub fn cast_check(s: &[u16], h: Here, c: u16, w: u16) -> Check
+pub fn cast_check(s: &[u16], h: Here, k: Cap, w: u16) -> Check
     requires { ⌜ (8192 ≤ length (now s)) × Placed h ⌝ }
-    ensures { λ r. ⌜ Checks (now (s .entry)) h (w / 2 ∷ []) (λ P H. castLine H (capOf (c % 4)) (operandOf w)) r ⌝ }
+    ensures { λ r. ⌜ Checks (now (s .entry)) h (w / 2 ∷ []) (λ P H. castLine H k (operandOf w)) r ⌝ }
 {
-    let k = operand_check(s, h, w);
-    if !passes(k) {
-        return k;
+    let first = operand_check(s, h, w);
+    if !passes(first) {
+        return first;
     }
     let v = table::slot(s, h, slot_of(w));
     match v {
         Value::Absent => Check::Stop(ABSENT),
         Value::Chan(_) => Check::Stop(WRONG_THING),
         Value::Obj(n) => {
-            if rules::cap_rank(table::cap(s, n)) == c as usize % 4 {
+            if rules::cap_rank(table::cap(s, n)) == rules::cap_rank(k) {
                 return Check::Pass;
             }
             Check::Stop(CAST)

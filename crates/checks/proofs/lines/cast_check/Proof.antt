@@ -14,7 +14,7 @@ passes-requires : tie.Need-passes-requires
 passes-requires c κs = search needs
 
 returns : tie.Need-returns
-returns c = cast-no-operand _ (c .before .before .before .before .args .c) (c .before .before .operand-check .ensures) (sym (c .before .passes .ensures) ∙ not-true _ (c .if1 .taken))
+returns c = cast-no-operand _ (c .before .before .before .before .args .k) (c .before .before .operand-check .ensures) (sym (c .before .passes .ensures) ∙ not-true _ (c .if1 .taken))
 
 slot-of-requires : tie.Need-slot-of-requires
 slot-of-requires c κs = search needs
@@ -37,33 +37,38 @@ cap-requires c κs = (search needs, object-in-table _ _ (c .before .v .given .1)
 cap-rank-requires : tie.Need-cap-rank-requires
 cap-rank-requires c κs = search needs
 
+cap-rank-requires-2 : tie.Need-cap-rank-requires-2
+cap-rank-requires-2 c κs = search needs
+
 returns-2 : tie.Need-returns-2
 returns-2 c =
-    let read = c .before .before .before .before .before .before in
+    let read = c .before .before .before .before .before .before .before in
     let past = read .before .before in
-    cast-same _ (past .before .before .before .before .args .c) (past .before .before .operand-check .ensures) (sym (past .before .passes .ensures) ∙ not-false _ (past .if1 .left))
-    (read .before .slot-of .ensures .0) (read .slot .ensures .1) (c .before .before .before .before .v .given .1) (c .before .before .cap .ensures .1) (sym (c .before .cap-rank .ensures .0) ∙ c .if2 .taken)
+    cast-same _ (past .before .before .before .before .args .k) (past .before .before .operand-check .ensures) (sym (past .before .passes .ensures) ∙ not-false _ (past .if1 .left))
+    (read .before .slot-of .ensures .0) (read .slot .ensures .1) (c .before .before .before .before .before .v .given .1) (c .before .before .before .cap .ensures .1)
+    (sym (c .before .before .cap-rank .ensures .0) ∙ c .if2 .taken ∙ c .before .cap-rank2 .ensures .0)
 
 returns-3 : tie.Need-returns-3
 returns-3 c =
     let read = c .before .before in
     let past = read .before .before in
-    cast-of-absent _ (past .before .before .before .before .args .c) (past .before .before .operand-check .ensures) (sym (past .before .passes .ensures) ∙ not-false _ (past .if1 .left))
+    cast-of-absent _ (past .before .before .before .before .args .k) (past .before .before .operand-check .ensures) (sym (past .before .passes .ensures) ∙ not-false _ (past .if1 .left))
     (read .before .slot-of .ensures .0) (read .slot .ensures .1) (c .enum-told .given .1)
 
 returns-4 : tie.Need-returns-4
 returns-4 c =
     let read = c .before .before in
     let past = read .before .before in
-    cast-of-channel _ (past .before .before .before .before .args .c) (past .before .before .operand-check .ensures) (sym (past .before .passes .ensures) ∙ not-false _ (past .if1 .left))
+    cast-of-channel _ (past .before .before .before .before .args .k) (past .before .before .operand-check .ensures) (sym (past .before .passes .ensures) ∙ not-false _ (past .if1 .left))
     (read .before .slot-of .ensures .0) (read .slot .ensures .1) (c .enum-told2 .given .1)
 
 returns-5 : tie.Need-returns-5
 returns-5 c =
-    let read = c .before .before .before .before .before .before in
+    let read = c .before .before .before .before .before .before .before in
     let past = read .before .before in
-    cast-other _ (past .before .before .before .before .args .c) (past .before .before .operand-check .ensures) (sym (past .before .passes .ensures) ∙ not-false _ (past .if1 .left))
-    (read .before .slot-of .ensures .0) (read .slot .ensures .1) (c .before .before .before .before .v .given .1) (c .before .before .cap .ensures .1) (λ e. c .if2 .left (c .before .cap-rank .ensures .0 ∙ e))
+    cast-other _ (past .before .before .before .before .args .k) (past .before .before .operand-check .ensures) (sym (past .before .passes .ensures) ∙ not-false _ (past .if1 .left))
+    (read .before .slot-of .ensures .0) (read .slot .ensures .1) (c .before .before .before .before .before .v .given .1) (c .before .before .before .cap .ensures .1)
+    (λ e. c .if2 .left (c .before .before .cap-rank .ensures .0 ∙ e ∙ sym (c .before .cap-rank2 .ensures .0)))
 
 pub cast-check-spec : {M : Type 1} → statement M
 cast-check-spec =
@@ -79,6 +84,7 @@ cast-check-spec =
     enum-known-v
     cap-requires
     cap-rank-requires
+    cap-rank-requires-2
     returns-2
     returns-3
     returns-4

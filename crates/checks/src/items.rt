@@ -1,0 +1,205 @@
+// The checks of new. Its operands are items, each one more than an operand's word, 0 where there is none.
+use super::lines::Check;
+use super::lines::is_foreign;
+use super::lines::operand_check;
+use super::lines::passes;
+use super::lines::slot_of;
+use rules::Cap;
+use rules::Value;
+use rules::numbers::ABSENT;
+use rules::numbers::FOREIGN;
+use rules::numbers::OTHER;
+use rules::numbers::USED_UP;
+use rules::numbers::WRONG_THING;
+use table::Here;
+ghost use mathlib.Core.Path.{_≡_};
+ghost use mathlib.Core.Bool.{_||_};
+ghost use mathlib.Core.List.{[], _∷_};
+ghost use Prim.Native.Nat.{_≤_, _<_};
+ghost use lib.ListN.{length};
+ghost use Rattle.rules.specs.Lists.{any, Every};
+ghost use Rattle.rules.specs.State.{slotAt};
+ghost use Rattle.table.specs.State.{InTable, Sees, Placed, frameAt};
+ghost use Rattle.checks.specs.Checked.{InObjects, Checks};
+ghost use Rattle.checks.specs.Items.{leftByItem, itemSlots, itemOperand, itemValue, takesSlot, foreignTo, above, isChannel, AllInObjects, ChecksItems, ChecksHeld, ChecksNew};
+
+// Whether item a takes the slot of item e.
+fn takes_slot(a: u16, e: u16) -> bool
+    ensures { λ r. ⌜ r ≡ takesSlot a e ⌝ }
+{
+    if e == 0 {
+        return false;
+    }
+    a as usize == (e as usize - 1) / 2 * 2 + 2
+}
+
+// The operand of item e, which sees what the items a, b and c before it took.
+fn item_check(s: &[u16], h: Here, a: u16, b: u16, c: u16, e: u16) -> Check
+    requires { ⌜ (8192 ≤ length (now s)) × Placed h ⌝ }
+    ensures { λ r. ⌜ Checks (now (s .entry)) h (itemSlots e) (λ P H. itemOperand (H .state .objects) (leftByItem (leftByItem (leftByItem (H .frame .slots) a) b) c) e) r ⌝ }
+{
+    if e == 0 {
+        return Check::Pass;
+    }
+    if takes_slot(a, e) {
+        return Check::Stop(ABSENT);
+    }
+    if takes_slot(b, e) {
+        return Check::Stop(ABSENT);
+    }
+    if takes_slot(c, e) {
+        return Check::Stop(ABSENT);
+    }
+    operand_check(s, h, e - 1)
+}
+
+// "All operands come first, left to right, each seeing what the earlier ones took."
+fn items_check(s: &[u16], h: Here, a: u16, b: u16, c: u16, d: u16) -> Check
+    requires { ⌜ (8192 ≤ length (now s)) × Placed h ⌝ }
+    ensures { λ r. ⌜ ChecksItems (now (s .entry)) h (a ∷ b ∷ c ∷ d ∷ []) r ⌝ }
+{
+    let ka = item_check(s, h, 0, 0, 0, a);
+    if !passes(ka) {
+        return ka;
+    }
+    let kb = item_check(s, h, a, 0, 0, b);
+    if !passes(kb) {
+        return kb;
+    }
+    let kc = item_check(s, h, a, b, 0, c);
+    if !passes(kc) {
+        return kc;
+    }
+    item_check(s, h, a, b, c, d)
+}
+
+// The value of an item's slot; absent where there is no item.
+fn item_value(s: &[u16], h: Here, e: u16) -> Value
+    requires { ⌜ (8192 ≤ length (now s)) × Placed h ⌝ }
+    ensures { λ r. ⌜ InTable r ⌝ }
+    ensures { λ r. ⌜ Sees (now (s .entry)) (λ S. Every (λ i. (i < 16) × InTable (slotAt (frameAt S (h .thread) (h .depth) .slots) i)) (itemSlots e)) (λ S. itemValue (frameAt S (h .thread) (h .depth) .slots) e) r ⌝ }
+{
+    if e == 0 {
+        return Value::Absent;
+    }
+    table::slot(s, h, slot_of(e - 1))
+}
+
+fn is_channel(v: Value) -> bool
+    ensures { λ r. ⌜ r ≡ isChannel v ⌝ }
+{
+    match v {
+        Value::Absent => false,
+        Value::Obj(_) => false,
+        Value::Chan(_) => true,
+    }
+}
+
+// Whether a value is local to another thread than t.
+fn is_foreign_value(s: &[u16], t: usize, v: Value) -> bool
+    requires { ⌜ (8192 ≤ length (now s)) × InTable v ⌝ }
+    ensures { λ r. ⌜ Sees (now (s .entry)) (InObjects v) (λ S. foreignTo t S v) r ⌝ }
+{
+    match v {
+        Value::Absent => false,
+        Value::Chan(_) => false,
+        Value::Obj(n) => is_foreign(s, t, n),
+    }
+}
+
+// Whether a value is above capability c.
+fn is_above(s: &[u16], c: Cap, v: Value) -> bool
+    requires { ⌜ (8192 ≤ length (now s)) × InTable v ⌝ }
+    ensures { λ r. ⌜ Sees (now (s .entry)) (InObjects v) (λ S. above c S v) r ⌝ }
+{
+    match v {
+        Value::Absent => false,
+        Value::Chan(_) => false,
+        Value::Obj(n) => !rules::may_hold(c, table::cap(s, n)),
+    }
+}
+
+fn any_of(a: bool, b: bool, c: bool, d: bool) -> bool
+    ensures { λ r. ⌜ r ≡ (a || (b || (c || d))) ⌝ }
+{
+    if a {
+        return true;
+    }
+    if b {
+        return true;
+    }
+    if c {
+        return true;
+    }
+    d
+}
+
+fn any_channel(a: Value, b: Value, c: Value, d: Value) -> bool
+    ensures { λ r. ⌜ r ≡ any isChannel (a ∷ b ∷ c ∷ d ∷ []) ⌝ }
+{
+    any_of(is_channel(a), is_channel(b), is_channel(c), is_channel(d))
+}
+
+fn any_foreign(s: &[u16], t: usize, a: Value, b: Value, c: Value, d: Value) -> bool
+    requires { ⌜ (8192 ≤ length (now s)) × InTable a × InTable b × InTable c × InTable d ⌝ }
+    ensures { λ r. ⌜ Sees (now (s .entry)) (AllInObjects (a ∷ b ∷ c ∷ d ∷ [])) (λ S. any (foreignTo t S) (a ∷ b ∷ c ∷ d ∷ [])) r ⌝ }
+{
+    any_of(
+        is_foreign_value(s, t, a),
+        is_foreign_value(s, t, b),
+        is_foreign_value(s, t, c),
+        is_foreign_value(s, t, d),
+    )
+}
+
+fn any_above(s: &[u16], k: Cap, a: Value, b: Value, c: Value, d: Value) -> bool
+    requires { ⌜ (8192 ≤ length (now s)) × InTable a × InTable b × InTable c × InTable d ⌝ }
+    ensures { λ r. ⌜ Sees (now (s .entry)) (AllInObjects (a ∷ b ∷ c ∷ d ∷ [])) (λ S. any (above k S) (a ∷ b ∷ c ∷ d ∷ [])) r ⌝ }
+{
+    any_of(
+        is_above(s, k, a),
+        is_above(s, k, b),
+        is_above(s, k, c),
+        is_above(s, k, d),
+    )
+}
+
+// "any value a channel 13; any value above K, or local with another creator, 14; objects used up 16".
+fn hold_check(s: &[u16], t: usize, k: Cap, a: Value, b: Value, c: Value, d: Value) -> Check
+    requires { ⌜ (8192 ≤ length (now s)) × InTable a × InTable b × InTable c × InTable d ⌝ }
+    ensures { λ r. ⌜ ChecksHeld (now (s .entry)) t k (a ∷ b ∷ c ∷ d ∷ []) r ⌝ }
+{
+    if any_channel(a, b, c, d) {
+        return Check::Stop(WRONG_THING);
+    }
+    if any_foreign(s, t, a, b, c, d) {
+        return Check::Stop(FOREIGN);
+    }
+    if any_above(s, k, a, b, c, d) {
+        return Check::Stop(OTHER);
+    }
+    if table::object_count(s) < 256 {
+        return Check::Pass;
+    }
+    Check::Stop(USED_UP)
+}
+
+// "new: any value a channel 13; any value above K, or local with another creator, 14; objects used up 16."
+pub fn new_check(s: &[u16], h: Here, k: Cap, a: u16, b: u16, c: u16, d: u16) -> Check
+    requires { ⌜ (8192 ≤ length (now s)) × Placed h ⌝ }
+    ensures { λ r. ⌜ ChecksNew (now (s .entry)) h k (a ∷ b ∷ c ∷ d ∷ []) r ⌝ }
+{
+    let first = items_check(s, h, a, b, c, d);
+    if !passes(first) {
+        return first;
+    }
+    hold_check(
+        s,
+        h.thread,
+        k,
+        item_value(s, h, a),
+        item_value(s, h, b),
+        item_value(s, h, c),
+        item_value(s, h, d),
+    )
+}
