@@ -1,0 +1,248 @@
+-- The lines that enter and leave a frame, call and give. A call pushes the method's frame, then leaves the operand's slot in its caller; a give gives the
+-- slot's value to the caller, then ends the frame. In both the caller's frame is edited past the innermost one.
+use Prim.Native.Nat.{ℕ, suc, _-_, _/_, _%_, _≤_, _<_}
+use native.Mathlib.Nat.{mod-eq-of-lt}
+use native.Mathlib.Omega.{arith}
+use mathlib.Core.Path.{_≡_, refl, sym, ap, _∙_, subst}
+use mathlib.Core.List.{List, [], _∷_, map}
+use lib.ListN.{length, length-map, getD, List·getD-append, List·getD-map}
+use lib.Seq.{getD-at}
+use borrow.Author.Tests.{ne-eqb, eq-eqb}
+use Rattle.rules.specs.declared.Value.{Value}
+use Rattle.rules.specs.declared.Value.the-variants.{Obj}
+use Rattle.rules.specs.Mosts as Most
+use Rattle.rules.specs.Mosts.{mosts}
+use Rattle.rules.specs.Script.{Operand, Program, call, bind, give, kindAt}
+use Rattle.rules.specs.State.{Frame, Sender, ready, Thread, State, objectAt, threadAt, slotAt}
+use Rattle.rules.specs.Tables.{operandOf, outermostFirst, noFrame}
+use Rattle.rules.specs.Turn.{leftBy, object, putThread, filled, withSlots, isAbsent, giveLine, letLine, perform}
+use Rattle.rules.proofs.ListLaws.{impossible, get-there}
+use Rattle.rules.proofs.Moves.{MethodCalled, Step, by-call, by-return, by-finish}
+use Rattle.rules.proofs.Keeps.{here-fits, block-ok}
+use Rattle.rules.proofs.TableWords.{length-outermost}
+use Rattle.table.specs.declared.state.Here.{Here}
+use Rattle.table.specs.State.{Held, Becomes, frameAt, onFrame, editFrame, HasFrame, HasRoom, HasSlot, Innermost, given, callee, called, innerLess, left}
+use Rattle.table.proofs.StateEdits.{thread-put, put-put, length-put}
+use Rattle.checks.specs.declared.lines.Check.{Check}
+use Rattle.checks.specs.Checked.{numberOf, hereAt, Stand, MethodItem, ChecksCall}
+use Rattle.checks.proofs.CheckLaws.{left-was-there}
+use Rattle.checks.proofs.Standing.{SlotSeen, slots-few, OperandChecked, slot-read, slot-object, kind-is-there}
+use Rattle.turn.specs.declared.lines.Step as C
+use Rattle.turn.specs.declared.lines.Step.the-variants.{Turned}
+use Rattle.turn.specs.Performed.{emptied, Went, to-other, Always, Loaded}
+use Rattle.turn.proofs.Steps.{Answers, Writes, then-moves, word-names, slot-of-word, let-names, give-names}
+use Rattle.turn.proofs.Frames.{Inside, inside, inside-put, frame-inside}
+
+-- ---- The frame that called the innermost one
+
+-- thread t's innermost frame is g, called by c, which is inside of k others
+record CalledBy (t k : ℕ) (g c : Frame) (cs : List Frame) (S : State) : Type 0 where
+  thread : t < length (S .threads)
+  frames : threadAt S t .frames ≡ g ∷ c ∷ cs
+  depth : length cs ≡ k
+
+module _ {t k : ℕ} {g c : Frame} {cs : List Frame} {S : State} (in-call : CalledBy t k g c cs S) where
+  caller-frame : frameAt S t k ≡ c
+  unfolding frameAt outermostFirst
+  caller-frame =
+      let there : k < length (outermostFirst (c ∷ cs)) = omega (arith, length-outermost (c ∷ cs), in-call .depth) in
+      rw (in-call .frames) (List·getD-append (outermostFirst (c ∷ cs)) (g ∷ []) noFrame k there ∙ getD-at (outermostFirst cs) c [] noFrame k (length-outermost cs ∙ in-call .depth))
+
+  has-caller : HasFrame t k S
+  has-caller = record { thread = in-call .thread; frame = rw (in-call .frames) (omega (arith, in-call .depth)) }
+
+  edit-caller : (e : Frame → Frame) (d : Sender) → editFrame S t k e d ≡ putThread S t (g ∷ e c ∷ cs) d
+  unfolding editFrame onFrame
+  edit-caller e d =
+      let inner : k ≡ suc (length cs) → ⊥ = λ same. omega (arith, same, in-call .depth) in
+      rw (in-call .frames, ne-eqb k (suc (length cs)) inner, eq-eqb k (length cs) (sym (in-call .depth))) refl
+
+-- after a frame more was put
+called-by : {t k : ℕ} {f : Frame} {fs : List Frame} {S : State} → Inside t k f fs S → (g : Frame) → CalledBy t k g f fs (putThread S t (g ∷ f ∷ fs) ready)
+called-by {t} {k} {f} {fs} {S} in-frame g =
+    record {
+      thread = rw (length-put S t (g ∷ f ∷ fs) ready) (in-frame .thread);
+      frames = ap (λ (u : Thread). u .frames) (thread-put S t (g ∷ f ∷ fs) ready (in-frame .thread));
+      depth = in-frame .depth;
+    }
+
+-- ---- give: the operand's word w
+
+pub give-answers : {s : List ℕ} {h : Here} {k : Check} (w : ℕ) → OperandChecked s h w k → Answers Always s h (give (operandOf w)) k
+unfolding perform giveLine
+give-answers w first = record { answers = λ P n S f fs rest q st at-line. first .checks P n S f fs rest st (word-names st w (give-names st at-line), tt) ∙ then-moves _ _ }
+
+-- the innermost frame ends
+left-inside : {t k : ℕ} {f : Frame} {fs : List Frame} {S : State} → Inside t k f fs S → left t S ≡ putThread S t fs ready
+unfolding left innerLess
+left-inside in-frame = rw (in-frame .frames) refl
+
+innermost : {t k : ℕ} {f : Frame} {fs : List Frame} {S : State} → Inside t k f fs S → Innermost t k S
+innermost in-frame = record { thread = in-frame .thread; frames = rw (in-frame .frames) (ap suc (in-frame .depth)) }
+
+-- from the outermost frame: it ends
+module _ {s s₁ : List ℕ} {h : Here} {w : Operand} (outermost : h .depth ≡ 0) (drops : Becomes s (Innermost (h .thread) (h .depth)) (left (h .thread)) s₁) where
+  finish-moved : {P : Program} {n : ℕ} {S : State} {f : Frame} {fs : List Frame} {rest : List ℕ} → Stand s h P n S f fs rest → (S₁ : State)
+      → Step mosts P (hereAt S (h .thread) f fs) (give w) S₁ → Held s₁ S₁ rest × Went (h .thread) f fs S₁ Turned
+  finish-moved {S = S} {rest = rest} st S₁ (by-finish u v vs gave none) =
+      let here = inside st in
+      let ended = drops .becomes S rest (st .held) (innermost here) in
+      (subst (λ (R : State). Held s₁ R rest) (left-inside here ∙ ap (λ (gs : List Frame). putThread S (h .thread) gs ready) none) ended, to-other)
+  finish-moved {fs = fs} st S₁ (by-return u v vs c cs gave callers) =
+      let some : length fs ≡ suc (length cs) = ap length callers in
+      absurd (omega (arith, some, st .depth, outermost))
+
+  pub finish-writes : Writes Always s h (give w) Turned s₁
+  finish-writes = record { writes = λ P n S f fs rest q st few at-line S₁ step. finish-moved st S₁ step }
+
+-- a caller has room for what it is given
+caller-room : {s : List ℕ} {h : Here} {P : Program} {n : ℕ} {S : State} {f c : Frame} {cs : List Frame} {rest : List ℕ} → Stand s h P n S f (c ∷ cs) rest
+    → (length (c .slots) < Most.slots) × (c .line < Most.turns)
+caller-room {h = h} {P = P} {n = n} {S = S} {f = f} {c = c} {cs = cs} st =
+    let fits = here-fits mosts P n S (h .thread) f (c ∷ cs) (st .fits) (st .frames) .callers .0 in
+    let few = block-ok mosts P (st .valid) (c .block) (fits .frame .block) .few in
+    (omega (arith, few, fits .at-let, fits .frame .count), omega (arith, few, fits .at-let))
+
+-- the caller is given v, then the innermost frame ends
+given-then-left : {t k : ℕ} {f c : Frame} {cs : List Frame} {S : State} → CalledBy t k f c cs S → (v : Value)
+    → left t (given t k v S) ≡ putThread S t (filled c (c .slots) v ∷ cs) ready
+unfolding given
+given-then-left {t} {k} {f} {c} {cs} {S} in-call v =
+    let g = filled c (c .slots) v in
+    rw (edit-caller in-call (λ c. filled c (c .slots) v) ready)
+    (left-inside (inside-put S ready (in-call .thread) refl) ∙ put-put S t (f ∷ g ∷ cs) (g ∷ cs) ready ready)
+
+-- to a caller: the value of slot i is given to it, then the frame ends
+module _ {s s₁ s₂ : List ℕ} {h : Here} {i : ℕ} (w : ℕ) (inner : h .depth ≡ 0 → ⊥) (place : i ≡ w / 2 % 16)
+    (returns : Becomes s (HasRoom (h .thread) (h .depth - 1)) (λ S. given (h .thread) (h .depth - 1) (slotAt (frameAt S (h .thread) (h .depth) .slots) i) S) s₁)
+    (drops : Becomes s₁ (Innermost (h .thread) (h .depth)) (left (h .thread)) s₂) where
+  value-returned : {P : Program} {n : ℕ} {S : State} {f c : Frame} {cs : List Frame} {rest : List ℕ} → Stand s h P n S f (c ∷ cs) rest → w / 2 < length (f .slots)
+      → Held s₂ (putThread S (h .thread) (filled c (c .slots) (slotAt (f .slots) (w / 2)) ∷ cs) ready) rest
+  unfolding given
+  value-returned {S = S} {f = f} {c = c} {cs = cs} {rest = rest} st there =
+      let t = h .thread in
+      let k = h .depth - 1 in
+      let v = slotAt (f .slots) (w / 2) in
+      let here = inside st in
+      let in-call : CalledBy t k f c cs S = record { thread = here .thread; frames = here .frames; depth = omega (arith, st .depth) } in
+      let same : i ≡ w / 2 = place ∙ mod-eq-of-lt (omega (arith, there, slots-few st)) in
+      let is-value : slotAt (frameAt S t (h .depth) .slots) i ≡ v = ap (λ (g : Frame). slotAt (g .slots) i) (frame-inside here) ∙ ap (slotAt (f .slots)) same in
+      let room : HasRoom t k S = record { has = has-caller in-call; room = rw (caller-frame in-call) (caller-room st .0); line = rw (caller-frame in-call) (caller-room st .1) } in
+      let first : Held s₁ (given t k v S) rest = subst (λ (u : Value). Held s₁ (given t k u S) rest) is-value (returns .becomes S rest (st .held) room) in
+      let now-in : Inside t (h .depth) f (filled c (c .slots) v ∷ cs) (given t k v S) =
+      rw (edit-caller in-call (λ c. filled c (c .slots) v) ready) (inside-put S ready (here .thread) (st .depth)) in
+      subst (λ (R : State). Held s₂ R rest) (given-then-left in-call v) (drops .becomes (given t k v S) rest first (innermost now-in))
+
+  return-moved : {P : Program} {n : ℕ} {S : State} {f : Frame} {fs : List Frame} {rest : List ℕ} → Stand s h P n S f fs rest → w / 2 < length (f .slots) → (S₁ : State)
+      → Step mosts P (hereAt S (h .thread) f fs) (give (operandOf w)) S₁ → Held s₂ S₁ rest × Went (h .thread) f fs S₁ Turned
+  return-moved {fs = fs} st there S₁ (by-finish u v vs gave none) =
+      let empty : length fs ≡ 0 = ap length none in
+      absurd (inner (omega (arith, empty, st .depth)))
+  return-moved {P} {n} {S} {f} {fs} {rest} st there S₁ (by-return u v vs c cs gave callers) =
+      let is-value : slotAt (f .slots) (w / 2) ≡ v = ap (slotAt (f .slots)) (sym (slot-of-word w)) ∙ gave .value in
+      (rw (← is-value) (value-returned (subst (λ (gs : List Frame). Stand s h P n S f gs rest) callers st) there), to-other)
+
+  pub return-writes : Writes Always s h (give (operandOf w)) Turned s₂
+  return-writes = record { writes = λ P n S f fs rest q st few at-line S₁ step. return-moved st (word-names st w (give-names st at-line)) S₁ step }
+
+-- ---- call: the operand's word w, the target in slot i, method j
+
+pub call-answers : {p s : List ℕ} {h : Here} {k : Check} (i j w : ℕ) → ChecksCall p s h i j w k → Answers (λ P S. Loaded p P) s h (bind (call i j (operandOf w))) k
+unfolding perform letLine
+call-answers i j w all =
+    record {
+      answers = λ P n S f fs rest q st at-line.
+          let names = let-names st at-line in
+          all .checks P n S f fs (q .counts) (q .rest) rest (q .filled) st (names .0, (word-names st w (names .2), tt));
+    }
+
+-- a frame is called, then the operand's slot in its caller is left
+called-then-emptied : {t k : ℕ} {f : Frame} {fs : List Frame} {S : State} → Inside t k f fs S → (g : Frame) (w : Operand)
+    → emptied t k w (called t g S) ≡ putThread S t (g ∷ withSlots f (leftBy (f .slots) w) ∷ fs) ready
+unfolding called emptied
+called-then-emptied {t} {k} {f} {fs} {S} in-frame g w =
+    let R = putThread S t (g ∷ f ∷ fs) ready in
+    let frames : List Frame = g ∷ withSlots f (leftBy (f .slots) w) ∷ fs in
+    rw (in-frame .frames)
+    (edit-caller (called-by in-frame g) (λ f. withSlots f (leftBy (f .slots) w)) (threadAt R t .sender)
+    ∙ ap (putThread R t frames) (ap (λ (u : Thread). u .sender) (thread-put S t (g ∷ f ∷ fs) ready (in-frame .thread)))
+    ∙ put-put S t (g ∷ f ∷ fs) frames ready ready)
+
+-- the item of a method that is there
+item-there : (ms : List ℕ) (j : ℕ) → j < length ms → getD (map suc ms) j 0 ≡ suc (getD ms j 0)
+item-there ms j there = get-there (map suc ms) j 0 1 (rw (length-map ms suc) there) ∙ List·getD-map suc ms j 0
+
+-- the target a, its number o, the method's item m
+module _ {p s : List ℕ} {h : Here} {o m : ℕ} {a : Value} (i j : ℕ) (target : SlotSeen s h (i % 16) a) (number : o ≡ numberOf a) (method : MethodItem p s o j m) where
+  module _ {P : Program} {n : ℕ} {S : State} {f : Frame} {fs : List Frame} {rest : List ℕ} {w : Operand} {b : ℕ} {v : Value} {vs : List Value} (loaded : Loaded p P)
+      (st : Stand s h P n S f fs rest) (named : i < length (f .slots)) (passed : MethodCalled P (hereAt S (h .thread) f fs) i j w b v vs) where
+    target-was-there : slotAt (f .slots) i ≡ Obj b
+    unfolding isAbsent
+    target-was-there = left-was-there (f .slots) w i refl (ap (λ (us : List Value). slotAt us i) (sym (passed .gave .slots)) ∙ passed .target)
+
+    number-is : o ≡ b
+    number-is = number ∙ ap numberOf (sym (slot-read st i _ refl target named) ∙ target-was-there)
+
+    item-is : m ≡ suc (getD (kindAt P (objectAt (S .objects) b .kind) .methods) j 0)
+    unfolding object
+    item-is =
+        let made = slot-object st i b target-was-there in
+        let is = subst (λ (x : ℕ). MethodItem p s x j m) number-is method in
+        is .is P S (loaded .counts) (loaded .rest) rest (loaded .filled) (st .held) (st .valid) made (kind-is-there st b made)
+        ∙ item-there (kindAt P (objectAt (S .objects) b .kind) .methods) j (passed .has-method)
+
+  -- a call of no method does not move
+  module _ {s₁ : List ℕ} {w : Operand} {x : C.Step} (none : m ≡ 0) where
+    no-method : {P : Program} {n : ℕ} {S : State} {f : Frame} {fs : List Frame} {rest : List ℕ} → Loaded p P → Stand s h P n S f fs rest → i < length (f .slots) → (S₁ : State)
+        → Step mosts P (hereAt S (h .thread) f fs) (bind (call i j w)) S₁ → Held s₁ S₁ rest × Went (h .thread) f fs S₁ x
+    no-method loaded st named S₁ (by-call _ _ u b v vs passed) = impossible (omega (arith, item-is loaded st named passed, none))
+
+    pub call-needs-method : Writes (λ P S. Loaded p P) s h (bind (call i j w)) x s₁
+    call-needs-method = record { writes = λ P n S f fs rest q st few at-line S₁ step. no-method q st (let-names st at-line .0) S₁ step }
+
+  -- the frame is pushed with the target and the value of slot l, then the operand's slot is left
+  module _ {s₁ s₂ : List ℕ} {l : ℕ} (w : ℕ) (value-place : l ≡ w / 2 % 16)
+      (pushes : Becomes s (Innermost (h .thread) (h .depth))
+      (λ S. called (h .thread) (callee (m - 1) (slotAt (frameAt S (h .thread) (h .depth) .slots) (i % 16)) (slotAt (frameAt S (h .thread) (h .depth) .slots) l)) S) s₁)
+      (leaves : Becomes s₁ (λ S. (w / 2 < 16) × HasSlot (h .thread) (h .depth) (w / 2) S) (emptied (h .thread) (h .depth) (operandOf w)) s₂) where
+    frame-called : {P : Program} {n : ℕ} {S : State} {f : Frame} {fs : List Frame} {rest : List ℕ} → Stand s h P n S f fs rest → i < length (f .slots) → w / 2 < length (f .slots)
+        → Held s₂ (putThread S (h .thread) (callee (m - 1) (slotAt (f .slots) i) (slotAt (f .slots) (w / 2)) ∷ withSlots f (leftBy (f .slots) (operandOf w)) ∷ fs) ready) rest
+    unfolding called
+    frame-called {S = S} {f = f} {fs = fs} {rest = rest} st named there =
+        let t = h .thread in
+        let k = h .depth in
+        let here = inside st in
+        let is-target : slotAt (frameAt S t k .slots) (i % 16) ≡ slotAt (f .slots) i =
+        ap (λ (g : Frame). slotAt (g .slots) (i % 16)) (frame-inside here) ∙ ap (slotAt (f .slots)) (mod-eq-of-lt (omega (arith, named, slots-few st))) in
+        let is-value : slotAt (frameAt S t k .slots) l ≡ slotAt (f .slots) (w / 2) =
+        ap (λ (g : Frame). slotAt (g .slots) l) (frame-inside here) ∙ ap (slotAt (f .slots)) (value-place ∙ mod-eq-of-lt (omega (arith, there, slots-few st))) in
+        let g : Frame = callee (m - 1) (slotAt (f .slots) i) (slotAt (f .slots) (w / 2)) in
+        let first : Held s₁ (called t g S) rest = rw (is-target, is-value) at (pushes .becomes S rest (st .held) (innermost here)) in
+        let in-call : CalledBy t k g f fs (called t g S) = rw (here .frames) (called-by here g) in
+        let has : HasSlot t k (w / 2) (called t g S) = record { has = has-caller in-call; slot = rw (caller-frame in-call) there } in
+        subst (λ (R : State). Held s₂ R rest) (called-then-emptied here g (operandOf w)) (leaves .becomes (called t g S) rest first (omega (arith, there, slots-few st), has))
+
+    call-moved : {P : Program} {n : ℕ} {S : State} {f : Frame} {fs : List Frame} {rest : List ℕ} → Loaded p P → Stand s h P n S f fs rest → i < length (f .slots)
+        → w / 2 < length (f .slots) → (S₁ : State) → Step mosts P (hereAt S (h .thread) f fs) (bind (call i j (operandOf w))) S₁ → Held s₂ S₁ rest × Went (h .thread) f fs S₁ Turned
+    unfolding object
+    call-moved {P} {n} {S} {f} {fs} {rest} loaded st named there S₁ (by-call _ _ u b v vs passed) =
+        let block : m - 1 ≡ getD (kindAt P (objectAt (S .objects) b .kind) .methods) j 0 = omega (arith, item-is loaded st named passed) in
+        let is-value : slotAt (f .slots) (w / 2) ≡ v = ap (slotAt (f .slots)) (sym (slot-of-word w)) ∙ passed .gave .value in
+        (rw (← block, ← target-was-there loaded st named passed, ← is-value, passed .gave .slots) (frame-called st named there), to-other)
+
+    pub call-writes : Writes (λ P S. Loaded p P) s h (bind (call i j (operandOf w))) Turned s₂
+    call-writes =
+        record {
+          writes = λ P n S f fs rest q st few at-line S₁ step.
+              let names = let-names st at-line in
+              call-moved q st (names .0) (word-names st w (names .2)) S₁ step;
+        }
+
+-- nor does one with no room for its frame
+module _ {s s₁ : List ℕ} {h : Here} {i j : ℕ} {w : Operand} {x : C.Step} (deep : 15 ≤ h .depth) where
+  too-deep : {P : Program} {n : ℕ} {S : State} {f : Frame} {fs : List Frame} {rest : List ℕ} → Stand s h P n S f fs rest → (S₁ : State)
+      → Step mosts P (hereAt S (h .thread) f fs) (bind (call i j w)) S₁ → Held s₁ S₁ rest × Went (h .thread) f fs S₁ x
+  too-deep st S₁ (by-call _ _ u b v vs passed) = impossible (omega (arith, passed .room, st .depth, deep))
+
+  pub call-needs-room : {p : List ℕ} → Writes (λ P S. Loaded p P) s h (bind (call i j w)) x s₁
+  call-needs-room = record { writes = λ P n S f fs rest q st few at-line S₁ step. too-deep st S₁ step }

@@ -1,0 +1,17 @@
+-- Why a turn on the tables does what the rules say.
+-- a rule's result as the step taken; what a line says of the slots that are filled
+mod Steps
+-- the frame where a thread stands, edited
+mod Frames
+-- the lines, by what they read and write
+mod SlotLines
+mod ObjectLines
+mod NewLines
+mod CallLines
+mod ChannelLines
+mod SendLines
+-- the line that a row's words tell
+mod Dispatch
+-- where a turn stands; which turns wait
+mod Located
+mod Waiting

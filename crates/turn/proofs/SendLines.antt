@@ -1,0 +1,168 @@
+-- The line send: a thread that is ready puts the message and stays on the line as its sender; one that waits as a sender is given the channel.
+-- Which of both it is stands in the sender's word.
+use Prim.Native.Nat.{ℕ, _+_, _-_, _/_, _%_, _≤_, _<_}
+use native.Mathlib.Nat.{mod-eq-of-lt}
+use native.Mathlib.Omega.{arith}
+use mathlib.Core.Path.{_≡_, refl, sym, ap, _∙_, subst}
+use mathlib.Core.List.{List, [], _∷_}
+use Rattle.rules.specs.declared.Value.{Value}
+use Rattle.rules.specs.declared.Value.the-variants.{Obj, Chan}
+use Rattle.rules.specs.Mosts as Most
+use Rattle.rules.specs.Mosts.{mosts}
+use Rattle.rules.specs.Script.{Operand, Line, Program, send, bind, lineAt}
+use Rattle.rules.specs.State.{Frame, Sender, ready, waiting, Thread, State, threadAt, channelAt, slotAt}
+use Rattle.rules.specs.Tables.{operandOf, senderWord}
+use Rattle.rules.specs.Turn.{isAbsent, leftBy, putThread, putChannel, filled, withSlots, gives, putLine, sentLine, sendLine, letLine, perform}
+use Rattle.rules.proofs.ListLaws.{impossible}
+use Rattle.rules.proofs.Moves.{Step, by-put, by-sent}
+use Rattle.table.specs.declared.state.Here.{Here}
+use Rattle.table.specs.State.{Held, Sees, Becomes, Any, HasSlot, HasRoom, frameAt, given, channelled, sending, Puts}
+use Rattle.table.proofs.StateEdits.{thread-put, put-put}
+use Rattle.checks.specs.declared.lines.Check.{Check}
+use Rattle.checks.specs.Checked.{checkOf, numberOf, hereAt, Stand, Checks}
+use Rattle.checks.proofs.CheckLaws.{left-was-there}
+use Rattle.checks.proofs.Standing.{SlotSeen}
+use Rattle.turn.specs.declared.lines.Step as C
+use Rattle.turn.specs.declared.lines.Step.the-variants.{Next, Stay}
+use Rattle.turn.specs.Performed.{emptied, Went, to-next, to-same, Performs, Always}
+use Rattle.turn.proofs.Steps.{Answers, Writes, word-names, slot-of-word, let-names, let-room, line-few}
+use Rattle.turn.proofs.Frames.{Inside, inside, frame-inside, has-room, has-slot, stands-put, inside-put, given-inside, emptied-inside}
+use Rattle.turn.proofs.ChannelLines.{slot-channel, number-read, messages-few}
+
+-- ---- send by a thread that is ready
+
+-- message m is put into channel c, and thread t waits as its sender
+module _ {t k : ℕ} {f : Frame} {fs : List Frame} (S : State) (here : Inside t k f fs S) (c : ℕ) (v : Value) (m : ℕ) where
+  sending-inside : sending t m (channelled c v m S) ≡ putThread (channelled c v m S) t (f ∷ fs) (waiting m)
+  unfolding sending channelled putChannel threadAt
+  sending-inside = ap (λ (gs : List Frame). putThread (channelled c v m S) t gs (waiting m)) (here .frames)
+
+  inside-sending : Inside t k f fs (sending t m (channelled c v m S))
+  unfolding channelled putChannel
+  inside-sending = rw sending-inside (inside-put (channelled c v m S) (waiting m) (here .thread) (here .depth))
+
+  -- then the operand's slot is left
+  sending-then-emptied : (w : Operand)
+      → emptied t k w (sending t m (channelled c v m S)) ≡ putThread (channelled c v m S) t (withSlots f (leftBy (f .slots) w) ∷ fs) (waiting m)
+  unfolding channelled putChannel
+  sending-then-emptied w =
+      let T = channelled c v m S in
+      let put : Inside t k f fs (putThread T t (f ∷ fs) (waiting m)) = inside-put T (waiting m) (here .thread) (here .depth) in
+      let g = withSlots f (leftBy (f .slots) w) in
+      rw sending-inside
+      (emptied-inside put w
+      ∙ ap (putThread (putThread T t (f ∷ fs) (waiting m)) t (g ∷ fs)) (ap (λ (u : Thread). u .sender) (thread-put T t (f ∷ fs) (waiting m) (here .thread)))
+      ∙ put-put T t (f ∷ fs) (g ∷ fs) (waiting m) (waiting m))
+
+-- thread t is ready
+abbrev Ready : ℕ → Program → State → Type 0
+Ready t P S = threadAt S t .sender ≡ ready
+
+module _ {s : List ℕ} {h : Here} (i w : ℕ) where
+  pub put-answers : {k : Check} → Checks s h (i ∷ w / 2 ∷ []) (λ P H. putLine H i (operandOf w)) k → Answers (Ready (h .thread)) s h (bind (send i (operandOf w))) k
+  unfolding perform letLine sendLine
+  put-answers all =
+      record {
+        answers = λ P n S f fs rest q st at-line.
+            let names = let-names st at-line in
+            all .checks P n S f fs rest st (names .0, (word-names st w (names .1), tt))
+            ∙ ap (λ (x : Sender). checkOf (sendLine (hereAt S (h .thread) f fs) x i (operandOf w))) (sym q);
+      }
+
+  -- the value of slot j is put, then the operand's slot is left
+  module _ {s₁ s₂ : List ℕ} {v : Value} {m j : ℕ} (target : SlotSeen s h (i % 16) v) (number : m ≡ numberOf v) (place : j ≡ w / 2 % 16)
+      (puts : Becomes s (Puts (h .thread) (m % 16))
+      (λ S. sending (h .thread) (channelAt S (m % 16) .number + 1) (channelled (m % 16) (slotAt (frameAt S (h .thread) (h .depth) .slots) j) (channelAt S (m % 16) .number + 1) S)) s₁)
+      (leaves : Becomes s₁ (λ S. (w / 2 < 16) × HasSlot (h .thread) (h .depth) (w / 2) S) (emptied (h .thread) (h .depth) (operandOf w)) s₂) where
+    put-moved : {P : Program} {n : ℕ} {S : State} {f : Frame} {fs : List Frame} {rest : List ℕ} {S₁ : State} → Ready (h .thread) P S → Stand s h P n S f fs rest → n < Most.turns
+        → lineAt P (f .block) (f .line) ≡ bind (send i (operandOf w)) → Step mosts P (hereAt S (h .thread) f fs) (bind (send i (operandOf w))) S₁
+        → Held s₂ S₁ rest × Went (h .thread) f fs S₁ Stay
+    unfolding channelled putChannel withSlots isAbsent
+    put-moved {S = S} {f = f} {fs = fs} {rest = rest} q st few at-line (by-put _ _ c o vs put) =
+        let t = h .thread in
+        let k = h .depth in
+        let here = inside st in
+        let names = let-names st at-line in
+        let named = word-names st w (names .1) in
+        let room = let-room st at-line in
+        let is-channel = left-was-there (f .slots) (operandOf w) i refl (rw (put .gave .slots) at (put .target)) in
+        let same = number-read st i c target number (names .0) is-channel in
+        let here-slot : j ≡ w / 2 = place ∙ mod-eq-of-lt (omega (arith, named, room)) in
+        let is-value : slotAt (frameAt S t k .slots) j ≡ Obj o =
+        ap (λ (g : Frame). slotAt (g .slots) j) (frame-inside here) ∙ ap (slotAt (f .slots)) (here-slot ∙ sym (slot-of-word w)) ∙ put .gave .value in
+        let next = channelAt S c .number + 1 in
+        let few-messages : channelAt S c .number < Most.turns = omega (arith, messages-few st c, few) in
+        let put-there : Puts t (m % 16) S = record { thread = here .thread; channel = rw same (slot-channel st i c is-channel); number = rw same few-messages } in
+        let first : Held s₁ (sending t next (channelled c (slotAt (frameAt S t k .slots) j) next S)) rest =
+        subst (λ (d : ℕ). Held s₁ (sending t (channelAt S d .number + 1) (channelled d (slotAt (frameAt S t k .slots) j) (channelAt S d .number + 1) S)) rest) same
+        (puts .becomes S rest (st .held) put-there) in
+        let second : Held s₁ (sending t next (channelled c (Obj o) next S)) rest = subst (λ (x : Value). Held s₁ (sending t next (channelled c x next S)) rest) is-value first in
+        let third = leaves .becomes _ rest second (omega (arith, named, room), has-slot (inside-sending S here c (Obj o) next) (w / 2) named) in (
+          rw (put .gave .slots) (subst (λ (R : State). Held s₂ R rest) (sending-then-emptied S here c (Obj o) next (operandOf w)) third),
+          to-same (stands-put (putChannel S c (record { message = Obj o; number = next })) (withSlots f vs) fs (waiting next) (here .thread)),
+        )
+    put-moved q st few at-line (by-sent _ _ d c taken) = let clash : ready ≡ waiting d = sym q ∙ taken .sender in impossible cc
+
+    pub put-writes : Writes (Ready (h .thread)) s h (bind (send i (operandOf w))) Stay s₂
+    put-writes = record { writes = λ P n S f fs rest q st few at-line S₁ step. put-moved q st few at-line step }
+
+-- ---- send by a thread that waits as a sender, whose word is d
+
+sender-waits : (x : Sender) {d : ℕ} → 1 ≤ d → senderWord x ≡ d → x ≡ waiting (d - 1)
+sender-waits ready some is = absurd (omega arith)
+sender-waits (waiting i) {d} some is = let same : i ≡ d - 1 = omega arith in ap waiting same
+
+-- thread t's sender has the word d
+abbrev Waiting : ℕ → ℕ → Program → State → Type 0
+Waiting t d P S = senderWord (threadAt S t .sender) ≡ d
+
+module _ {s : List ℕ} {h : Here} (i : ℕ) {d : ℕ} (some : 1 ≤ d) (w : Operand) where
+  pub sent-answers : {k : Check} → Checks s h (i ∷ []) (λ P H. sentLine H i (d - 1)) k → Answers (Waiting (h .thread) d) s h (bind (send i w)) k
+  unfolding perform letLine sendLine
+  sent-answers all =
+      record {
+        answers = λ P n S f fs rest q st at-line.
+            all .checks P n S f fs rest st (let-names st at-line .0, tt)
+            ∙ ap (λ (x : Sender). checkOf (sendLine (hereAt S (h .thread) f fs) x i w)) (sym (sender-waits (threadAt S (h .thread) .sender) some q));
+      }
+
+  -- the channel's slot is given
+  module _ {s₁ : List ℕ}
+      (gives-slot : Becomes s (HasRoom (h .thread) (h .depth)) (λ S. given (h .thread) (h .depth) (slotAt (frameAt S (h .thread) (h .depth) .slots) (i % 16)) S) s₁) where
+    sent-moved : {P : Program} {n : ℕ} {S : State} {f : Frame} {fs : List Frame} {rest : List ℕ} {S₁ : State} → Waiting (h .thread) d P S → Stand s h P n S f fs rest
+        → lineAt P (f .block) (f .line) ≡ bind (send i w) → Step mosts P (hereAt S (h .thread) f fs) (bind (send i w)) S₁ → Held s₁ S₁ rest × Went (h .thread) f fs S₁ Next
+    unfolding gives filled
+    sent-moved q st at-line (by-put _ _ c o vs put) = let clash : 0 ≡ d = ap senderWord (sym (put .sender)) ∙ q in absurd (omega arith)
+    sent-moved {S = S} {f = f} {fs = fs} {rest = rest} q st at-line (by-sent _ _ e c taken) =
+        let t = h .thread in
+        let k = h .depth in
+        let here = inside st in
+        let room = let-room st at-line in
+        let named = let-names st at-line .0 in
+        let same : i % 16 ≡ i = mod-eq-of-lt (omega (arith, named, room)) in
+        let is-channel : slotAt (frameAt S t k .slots) (i % 16) ≡ Chan c =
+        ap (λ (g : Frame). slotAt (g .slots) (i % 16)) (frame-inside here) ∙ ap (slotAt (f .slots)) same ∙ taken .target in
+        let first : Held s₁ (given t k (Chan c) S) rest =
+        subst (λ (v : Value). Held s₁ (given t k v S) rest) is-channel (gives-slot .becomes S rest (st .held) (has-room here room (line-few st))) in
+        (subst (λ (R : State). Held s₁ R rest) (given-inside here (Chan c)) first, to-next (stands-put S _ fs ready (here .thread)))
+
+    pub sent-writes : Writes (Waiting (h .thread) d) s h (bind (send i w)) Next s₁
+    sent-writes = record { writes = λ P n S f fs rest q st few at-line S₁ step. sent-moved q st at-line step }
+
+-- ---- send, by the sender's word d
+
+sender-ready : (x : Sender) → senderWord x ≡ 0 → x ≡ ready
+sender-ready ready is = refl
+sender-ready (waiting i) is = absurd (omega arith)
+
+module _ {s s₁ : List ℕ} {h : Here} {x : Line} {d : ℕ} {r : C.Step} (sender : Sees s Any (λ S. senderWord (threadAt S (h .thread) .sender)) d) where
+  pub send-ready : d ≡ 0 → Performs (Ready (h .thread)) s h x r s₁ → Performs Always s h x r s₁
+  send-ready none puts =
+      record {
+        performs = λ P n S f fs rest q st few at-line.
+            puts .performs P n S f fs rest (sender-ready (threadAt S (h .thread) .sender) (sym (sender .sees S rest (st .held) tt) ∙ none)) st few at-line;
+      }
+
+  pub send-waiting : Performs (Waiting (h .thread) d) s h x r s₁ → Performs Always s h x r s₁
+  send-waiting gives-channel =
+      record { performs = λ P n S f fs rest q st few at-line. gives-channel .performs P n S f fs rest (sym (sender .sees S rest (st .held) tt)) st few at-line }

@@ -1,0 +1,217 @@
+-- `turn::turns::perform` meets its contract: the words at the thread's place tell its line, which is the one that is called; no line has another number.
+use native.Mathlib.Omega.{arith}
+use Rattle.turn.proofs.Dispatch.{tells-give, tells-value, tells-field, tells-swap, tells-call, tells-cast, tells-spawn, tells-send, tells-recv, performs-loaded, performs-here, performs-new, no-other-form, no-form-left}
+use borrow.Author.Needs.{needs}
+use Rattle.turn.proofs.turns.perform.Statement.{statement}
+use Rattle.turn.proofs.turns.perform.Tie as tie
+
+part-requires : tie.Need-part-requires
+part-requires c κs = search needs
+
+part-requires-2 : tie.Need-part-requires-2
+part-requires-2 c κs = search needs
+
+part-requires-3 : tie.Need-part-requires-3
+part-requires-3 c κs = search needs
+
+give-line-requires : tie.Need-give-line-requires
+give-line-requires c κs = search needs
+
+value-line-requires : tie.Need-value-line-requires
+value-line-requires c κs = search needs
+
+field-line-requires : tie.Need-field-line-requires
+field-line-requires c κs = search needs
+
+part-requires-4 : tie.Need-part-requires-4
+part-requires-4 c κs = search needs
+
+swap-line-requires : tie.Need-swap-line-requires
+swap-line-requires c κs = search needs
+
+part-requires-5 : tie.Need-part-requires-5
+part-requires-5 c κs = search needs
+
+call-line-requires : tie.Need-call-line-requires
+call-line-requires c κs = search needs
+
+cap-of-requires : tie.Need-cap-of-requires
+cap-of-requires c κs = search needs
+
+part-requires-6 : tie.Need-part-requires-6
+part-requires-6 c κs = search needs
+
+part-requires-7 : tie.Need-part-requires-7
+part-requires-7 c κs = search needs
+
+part-requires-8 : tie.Need-part-requires-8
+part-requires-8 c κs = search needs
+
+part-requires-9 : tie.Need-part-requires-9
+part-requires-9 c κs = search needs
+
+new-line-requires : tie.Need-new-line-requires
+new-line-requires c κs = search needs
+
+cap-of-requires-2 : tie.Need-cap-of-requires-2
+cap-of-requires-2 c κs = search needs
+
+cast-line-requires : tie.Need-cast-line-requires
+cast-line-requires c κs = search needs
+
+spawn-line-requires : tie.Need-spawn-line-requires
+spawn-line-requires c κs = search needs
+
+send-line-requires : tie.Need-send-line-requires
+send-line-requires c κs = search needs
+
+recv-line-requires : tie.Need-recv-line-requires
+recv-line-requires c κs = search needs
+
+returns : tie.Need-returns
+returns c = no-other-form (c .before .before .before .part .ensures) λ least most. omega (arith, c .match .keys1, least)
+
+returns-2 : tie.Need-returns-2
+returns-2 c = no-other-form (c .before .before .before .part .ensures) λ least most. omega (arith, c .match .keys2, least)
+
+returns-3 : tie.Need-returns-3
+returns-3 c = no-other-form (c .before .before .before .part .ensures) λ least most. omega (arith, c .match .keys3, least)
+
+same-length : tie.Need-same-length
+same-length c = search needs
+
+returns-4 : tie.Need-returns-4
+returns-4 c =
+    let at = c .before .before .before .before in
+    performs-here (tells-give (at .before .before .before .part .ensures) (at .before .before .part2 .ensures) (at .match .keys4)) (c .before .before .give-line .ensures)
+
+same-length-2 : tie.Need-same-length-2
+same-length-2 c = search needs
+
+returns-5 : tie.Need-returns-5
+returns-5 c =
+    let at = c .before .before .before .before in
+    performs-here (tells-value (at .before .before .before .part .ensures) (at .before .before .part2 .ensures) (at .match .keys5)) (c .before .before .value-line .ensures)
+
+same-length-3 : tie.Need-same-length-3
+same-length-3 c = search needs
+
+returns-6 : tie.Need-returns-6
+returns-6 c =
+    let at = c .before .before .before .before in
+    performs-here (tells-field (at .before .before .before .part .ensures) (at .before .before .part2 .ensures) (at .before .part3 .ensures) (at .match .keys6)) (c .before .before .field-line .ensures)
+
+same-length-4 : tie.Need-same-length-4
+same-length-4 c = search needs
+
+returns-7 : tie.Need-returns-7
+returns-7 c =
+    let at = c .before .before .before .before .before in
+    performs-here (tells-swap (at .before .before .before .part .ensures) (at .before .before .part2 .ensures) (at .before .part3 .ensures) (c .before .before .before .part4 .ensures) (at .match .keys7)) (c .before .before .swap-line .ensures)
+
+same-length-5 : tie.Need-same-length-5
+same-length-5 c = search needs
+
+returns-8 : tie.Need-returns-8
+returns-8 c =
+    let at = c .before .before .before .before .before in
+    performs-loaded (λ P S loaded. loaded) (tells-call (at .before .before .before .part .ensures) (at .before .before .part2 .ensures) (at .before .part3 .ensures) (c .before .before .before .part5 .ensures) (at .match .keys8)) (c .before .before .call-line .ensures)
+
+same-length-6 : tie.Need-same-length-6
+same-length-6 c = search needs
+
+returns-9 : tie.Need-returns-9
+returns-9 c =
+    let at = c .before .before .before .before .before .before .before .before .before in
+    performs-new (at .before .before .before .part .ensures) (at .before .before .part2 .ensures) (at .before .part3 .ensures) (c .before .before .before .before .before .before .before .cap-of .ensures)
+    (c .before .before .before .before .before .before .part6 .ensures) (c .before .before .before .before .before .part7 .ensures) (c .before .before .before .before .part8 .ensures) (c .before .before .before .part9 .ensures)
+    (at .match .keys9) (c .before .before .new-line .ensures)
+
+same-length-7 : tie.Need-same-length-7
+same-length-7 c = search needs
+
+returns-10 : tie.Need-returns-10
+returns-10 c =
+    let at = c .before .before .before .before .before in
+    performs-here (tells-cast (at .before .before .before .part .ensures) (at .before .before .part2 .ensures) (at .before .part3 .ensures) (c .before .before .before .cap-of2 .ensures) (at .match .keys10)) (c .before .before .cast-line .ensures)
+
+same-length-8 : tie.Need-same-length-8
+same-length-8 c = search needs
+
+returns-11 : tie.Need-returns-11
+returns-11 c =
+    let at = c .before .before .before .before in
+    performs-here (tells-spawn (at .before .before .before .part .ensures) (at .before .before .part2 .ensures) (at .match .keys11)) (c .before .before .spawn-line .ensures)
+
+same-length-9 : tie.Need-same-length-9
+same-length-9 c = search needs
+
+returns-12 : tie.Need-returns-12
+returns-12 c =
+    let at = c .before .before .before .before in
+    performs-here (tells-send (at .before .before .before .part .ensures) (at .before .before .part2 .ensures) (at .before .part3 .ensures) (at .match .keys12)) (c .before .before .send-line .ensures)
+
+same-length-10 : tie.Need-same-length-10
+same-length-10 c = search needs
+
+returns-13 : tie.Need-returns-13
+returns-13 c =
+    let at = c .before .before .before .before in
+    performs-here (tells-recv (at .before .before .before .part .ensures) (at .before .before .part2 .ensures) (at .match .keys13)) (c .before .before .recv-line .ensures)
+
+returns-14 : tie.Need-returns-14
+returns-14 c =
+    let left = c .match .rest in
+    no-form-left (c .before .before .before .part .ensures)
+    (left .0 .0 .0 .0 .0 .0 .0 .0 .0 .1) (left .0 .0 .0 .0 .0 .0 .0 .0 .1) (left .0 .0 .0 .0 .0 .0 .0 .1) (left .0 .0 .0 .0 .0 .0 .1) (left .0 .0 .0 .0 .0 .1)
+    (left .0 .0 .0 .0 .1) (left .0 .0 .0 .1) (left .0 .0 .1) (left .0 .1) (left .1)
+
+pub perform-spec : {M : Type 1} → statement M
+perform-spec =
+    tie.close
+    (tie.spec
+    part-requires
+    part-requires-2
+    part-requires-3
+    give-line-requires
+    value-line-requires
+    field-line-requires
+    part-requires-4
+    swap-line-requires
+    part-requires-5
+    call-line-requires
+    cap-of-requires
+    part-requires-6
+    part-requires-7
+    part-requires-8
+    part-requires-9
+    new-line-requires
+    cap-of-requires-2
+    cast-line-requires
+    spawn-line-requires
+    send-line-requires
+    recv-line-requires
+    returns
+    returns-2
+    returns-3
+    same-length
+    returns-4
+    same-length-2
+    returns-5
+    same-length-3
+    returns-6
+    same-length-4
+    returns-7
+    same-length-5
+    returns-8
+    same-length-6
+    returns-9
+    same-length-7
+    returns-10
+    same-length-8
+    returns-11
+    same-length-9
+    returns-12
+    same-length-10
+    returns-13
+    returns-14)

@@ -1,0 +1,2 @@
+-- What a turn on the tables does.
+pub mod Performed

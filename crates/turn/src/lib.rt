@@ -1,0 +1,8 @@
+// One turn of one thread on the tables.
+mod lines;
+mod turns;
+
+pub use lines::Step;
+pub use turns::perform;
+pub use turns::turn;
+pub use turns::would_wait;

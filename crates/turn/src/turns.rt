@@ -1,0 +1,106 @@
+// The line where a thread stands, by the number of its form; a turn; and whether a turn would wait.
+use super::lines::Step;
+use checks::Check;
+use table::Here;
+ghost use mathlib.Core.Path.{_≡_};
+ghost use Prim.Native.Nat.{_≤_, _<_};
+ghost use lib.ListN.{length};
+ghost use Rattle.rules.specs.Script.{send, recv, bind};
+ghost use Rattle.rules.specs.Tables.{operandOf};
+ghost use Rattle.table.specs.State.{Placed};
+ghost use Rattle.turn.specs.Performed.{PerformsHere, TakesTurn, WouldWait, WaitsHere};
+
+// Performs the line where the thread stands.
+pub fn perform(p: &[u16], s: &mut [u16], h: Here) -> Step
+    requires { ⌜ (8192 ≤ length (now p)) × (8192 ≤ length (now s)) × Placed h ⌝ }
+    ensures { λ r. ⌜ PerformsHere (now (p .entry)) (now (s .entry)) h r (now (s .exit)) ⌝ }
+{
+    let form = table::part(p, h, 0);
+    let a = table::part(p, h, 1);
+    let b = table::part(p, h, 2);
+    match form {
+        1 => Step::Waits,
+        2 => Step::Waits,
+        3 => Step::Waits,
+        4 => super::lines::give_line(s, h, a),
+        5 => super::lines::value_line(s, h, a),
+        6 => super::lines::field_line(s, h, a, b),
+        7 => super::lines::swap_line(s, h, a % 16, b, table::part(p, h, 3)),
+        8 => super::lines::call_line(p, s, h, a % 16, b, table::part(p, h, 3)),
+        9 => super::lines::new_line(
+            s,
+            h,
+            table::cap_of(a),
+            b,
+            table::part(p, h, 3),
+            table::part(p, h, 4),
+            table::part(p, h, 5),
+            table::part(p, h, 6),
+        ),
+        10 => super::lines::cast_line(s, h, table::cap_of(a), b),
+        11 => super::lines::spawn_line(s, h, a),
+        12 => super::lines::send_line(s, h, a % 16, b),
+        13 => super::lines::recv_line(s, h, a),
+        _ => Step::Waits,
+    }
+}
+
+// The turn of thread t. "A waiting turn, or one for a finished or unstarted thread, changes nothing."
+pub fn turn(p: &[u16], s: &mut [u16], t: usize) -> Step
+    requires { ⌜ (8192 ≤ length (now p)) × (8192 ≤ length (now s)) ⌝ }
+    ensures { λ r. ⌜ TakesTurn (now (p .entry)) (now (s .entry)) t r (now (s .exit)) ⌝ }
+{
+    if 16 <= t {
+        return Step::Waits;
+    }
+    let d = table::frame_count(s, t);
+    if d == 0 {
+        return Step::Waits;
+    }
+    let h = table::locate(p, s, t, d);
+    perform(p, s, h)
+}
+
+// ---- Whether a turn would wait: only a send and a recv can.
+
+fn send_waits(s: &[u16], h: Here, i: u16, w: u16) -> bool
+    requires { ⌜ (8192 ≤ length (now s)) × Placed h × (i < 256) ⌝ }
+    ensures { λ r. ⌜ WaitsHere (now (s .entry)) h (bind (send i (operandOf w))) r ⌝ }
+{
+    let d = table::sender(s, h.thread);
+    if d == 0 {
+        return checks::waits(checks::put_check(s, h, i, w));
+    }
+    checks::waits(checks::sent_check(s, h, i, d))
+}
+
+fn recv_waits(s: &[u16], h: Here, i: u16) -> bool
+    requires { ⌜ (8192 ≤ length (now s)) × Placed h ⌝ }
+    ensures { λ r. ⌜ WaitsHere (now (s .entry)) h (bind (recv i)) r ⌝ }
+{
+    checks::waits(checks::recv_check(s, h, i))
+}
+
+// Whether thread t's turn would wait, or idle.
+pub fn would_wait(p: &[u16], s: &[u16], t: usize) -> bool
+    requires { ⌜ (8192 ≤ length (now p)) × (8192 ≤ length (now s)) ⌝ }
+    ensures { λ r. ⌜ WouldWait (now (p .entry)) (now (s .entry)) t r ⌝ }
+{
+    if 16 <= t {
+        return true;
+    }
+    let d = table::frame_count(s, t);
+    if d == 0 {
+        return true;
+    }
+    let h = table::locate(p, s, t, d);
+    let form = table::part(p, h, 0);
+    let a = table::part(p, h, 1);
+    if form == 12 {
+        return send_waits(s, h, a % 16, table::part(p, h, 2));
+    }
+    if form == 13 {
+        return recv_waits(s, h, a);
+    }
+    false
+}
