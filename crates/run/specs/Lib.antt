@@ -1,0 +1,4 @@
+-- What a run answers and leaves.
+pub mod Answers
+-- and its parts: the turns played, the end
+pub mod Played
