@@ -1,4 +1,4 @@
-//! Links the static library of the reader, from where `rt staticlib` puts it.
+//! Links the static libraries of the box, from where `rt staticlib` puts them.
 
 use std::env;
 use std::path::PathBuf;
@@ -7,9 +7,11 @@ fn main() {
     let here = PathBuf::from(env::var("CARGO_MANIFEST_DIR").unwrap_or_default());
     let libraries = here.join("../../target/staticlib");
     println!("cargo:rustc-link-search=native={}", libraries.display());
-    println!("cargo:rustc-link-lib=static=reader");
-    println!(
-        "cargo:rerun-if-changed={}",
-        libraries.join("libreader.a").display()
-    );
+    for name in ["reader", "run"] {
+        println!("cargo:rustc-link-lib=static={}", name);
+        println!(
+            "cargo:rerun-if-changed={}",
+            libraries.join(format!("lib{}.a", name)).display()
+        );
+    }
 }

@@ -7,7 +7,7 @@ use second::numbers::*;
 use second::random::Random;
 use second::reading;
 
-use crate::{full, layout, reader};
+use crate::{full, layout, library};
 
 /// What a run of texts came to: how many were read, and how many had each refusal, at line 0 and at later lines.
 #[derive(Clone, Debug, Default, PartialEq, Eq)]
@@ -48,7 +48,7 @@ impl Counts {
     }
 }
 
-fn text(random: &mut Random, seed: u64, n: u64) -> Vec<u8> {
+pub fn text(random: &mut Random, seed: u64, n: u64) -> Vec<u8> {
     let input = generate::input(seed, n);
     let last = input[..input.len().saturating_sub(1)]
         .iter()
@@ -66,7 +66,8 @@ fn text(random: &mut Random, seed: u64, n: u64) -> Vec<u8> {
     text
 }
 
-fn table(random: &mut Random) -> Vec<u16> {
+/// A lent table: of the right length, longer or too short, and full of old words.
+pub fn table(random: &mut Random) -> Vec<u16> {
     let length = match random.weighted(&[80, 15, 4, 1]) {
         0 => TABLE_WORDS,
         1 => TABLE_WORDS + random.between(1, 40),
@@ -87,7 +88,7 @@ fn table(random: &mut Random) -> Vec<u16> {
 /// One text: the answer of both, or how they differ.
 pub fn one(text: &[u8], table: &[u16]) -> Result<Result<(), Refusal>, String> {
     let mut lent = table.to_vec();
-    let ours = reader::read(text, &mut lent);
+    let ours = library::read(text, &mut lent);
     let theirs = reading::lengths(text.len(), 0, &[(table.len(), TABLE_WORDS)])
         .and_then(|()| reading::read_lines(text));
     let expected = match &theirs {
@@ -101,12 +102,18 @@ pub fn one(text: &[u8], table: &[u16]) -> Result<Result<(), Refusal>, String> {
             ours, theirs
         ));
     }
-    match lent.iter().zip(&expected).position(|(a, b)| a != b) {
+    same_words("the program table", &lent, &expected)?;
+    Ok(ours)
+}
+
+/// The first word that differs, told in words.
+pub fn same_words(name: &str, lent: &[u16], expected: &[u16]) -> Result<(), String> {
+    match lent.iter().zip(expected).position(|(a, b)| a != b) {
         Some(place) => Err(format!(
-            "word {} is {} and not {} ({:?})",
-            place, lent[place], expected[place], ours
+            "word {} of {} is {} and not {}",
+            place, name, lent[place], expected[place]
         )),
-        None => Ok(ours),
+        None => Ok(()),
     }
 }
 

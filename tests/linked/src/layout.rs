@@ -1,11 +1,20 @@
-//! The words of a program table, once more, from docs/LAYOUT.md alone.
+//! The words of both tables, once more, from docs/LAYOUT.md alone.
 
 use second::numbers::TABLE_WORDS;
 use second::script::{Block, Cap, Expr, Kind, Mode, Operand, Program, Sort};
+use second::state::{Channel, Frame, Object, State, Thread, Value};
 
 const FIRST_LINES: usize = 8;
 const LINES: usize = 72;
 const LINE: usize = 8;
+
+const OBJECTS: usize = 8;
+const OBJECT: usize = 8;
+const THREADS: usize = 2056;
+const THREAD: usize = 306;
+const FRAME: usize = 19;
+const CHANNELS: usize = 6952;
+const CHANNEL: usize = 2;
 
 fn operand(value: &Operand) -> u16 {
     u16::from(value.slot) * 2 + u16::from(value.mode == Mode::Take)
@@ -81,6 +90,76 @@ pub fn program(value: &Program) -> Vec<u16> {
     for (number, line) in lines.iter().enumerate() {
         let place = LINES + number * LINE;
         words[place..place + line.len()].copy_from_slice(line);
+    }
+    words
+}
+
+fn value(value: &Value) -> u16 {
+    match value {
+        Value::Absent => 0,
+        Value::Obj(number) => 1 + number,
+        Value::Chan(number) => 257 + number,
+    }
+}
+
+fn object(value: &Object) -> Vec<u16> {
+    let mut words = vec![
+        cap(value.cap),
+        u16::from(value.kind),
+        u16::from(value.creator),
+        0,
+    ];
+    words.extend(value.fields.iter().map(self::value));
+    words
+}
+
+fn frame(value: &Frame) -> Vec<u16> {
+    let mut words = vec![
+        u16::from(value.block),
+        u16::from(value.line),
+        value.slots.len() as u16,
+    ];
+    words.extend(value.slots.iter().map(self::value));
+    words.resize(FRAME, 0);
+    words
+}
+
+fn thread(value: &Thread) -> Vec<u16> {
+    let sending = value.sending.map_or(0, |sending| sending.number as u16 + 1);
+    let mut words = vec![value.frames.len() as u16, sending];
+    words.extend(value.frames.iter().flat_map(frame));
+    words
+}
+
+fn channel(value: &Channel) -> Vec<u16> {
+    vec![self::value(&value.message), value.number as u16]
+}
+
+/// The 8,192 words of a state.
+pub fn state(value: &State) -> Vec<u16> {
+    let mut words = vec![0; TABLE_WORDS];
+    let mut place = |at: usize, record: Vec<u16>| {
+        words[at..at + record.len()].copy_from_slice(&record);
+    };
+    place(0, vec![value.objects.len() as u16]);
+    place(1, vec![value.threads.len() as u16]);
+    for (number, made) in value.objects.iter().enumerate() {
+        place(OBJECTS + number * OBJECT, object(made));
+    }
+    for (number, started) in value.threads.iter().enumerate() {
+        place(THREADS + number * THREAD, thread(started));
+    }
+    for (place_of, opened) in value.channels.iter().enumerate() {
+        place(CHANNELS + (place_of + 1) * CHANNEL, channel(opened));
+    }
+    words
+}
+
+/// The state's words with every object made unsafe.
+pub fn erased(words: &[u16]) -> Vec<u16> {
+    let mut words = words.to_vec();
+    for number in 0..usize::from(words[0]) {
+        words[OBJECTS + number * OBJECT] = cap(Cap::Unsafe);
     }
     words
 }

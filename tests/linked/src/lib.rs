@@ -4,4 +4,6 @@ pub mod agree;
 pub mod bench;
 pub mod full;
 pub mod layout;
-pub mod reader;
+pub mod library;
+pub mod loads;
+pub mod runs;

@@ -1,20 +1,34 @@
-//! The program `linked`: `read SEED COUNT` holds the compiled reader against the second interpreter; `bench` measures both.
+//! The program `linked`: `read SEED COUNT` and `run SEED COUNT` hold the compiled box against the second interpreter; `bench` measures both.
 
 use std::env;
 use std::process;
 
-use linked::{agree, bench};
+use linked::{agree, bench, runs};
 use second::console::{complain, out};
 
 const CALLS: usize = 4001;
+
+/// What many texts or runs came to: the rows to show, and what none of them had; or the first difference, with its input.
+type Held = Result<(Vec<(String, u64)>, Vec<String>), (Vec<u8>, String)>;
 
 fn main() {
     let arguments: Vec<String> = env::args().skip(1).collect();
     let words: Vec<&str> = arguments.iter().map(String::as_str).collect();
     let status = match words.as_slice() {
-        ["bench"] => out(bench::shown(CALLS).as_bytes()),
-        ["read", seed, count] => match (seed.parse(), count.parse()) {
-            (Ok(seed), Ok(count)) => agreed(seed, count),
+        ["bench"] => match bench::shown(CALLS) {
+            Ok(text) => out(text.as_bytes()),
+            Err(fault) => {
+                complain(&format!("{}\n", fault));
+                1
+            }
+        },
+        [what, seed, count] => match (*what, seed.parse(), count.parse()) {
+            ("read", Ok(seed), Ok(count)) => {
+                told(agree::many(seed, count).map(|counts| (counts.rows(), counts.missing())))
+            }
+            ("run", Ok(seed), Ok(count)) => {
+                told(runs::many(seed, count).map(|counts| (counts.rows(), counts.missing())))
+            }
             _ => usage(),
         },
         _ => usage(),
@@ -23,20 +37,18 @@ fn main() {
 }
 
 fn usage() -> i32 {
-    complain("linked read SEED COUNT | bench\n");
+    complain("linked read SEED COUNT | run SEED COUNT | bench\n");
     2
 }
 
-fn agreed(seed: u64, count: u64) -> i32 {
-    match agree::many(seed, count) {
-        Ok(counts) => {
-            let text: String = counts
-                .rows()
+fn told(held: Held) -> i32 {
+    match held {
+        Ok((rows, missing)) => {
+            let text: String = rows
                 .iter()
                 .map(|(name, number)| format!("{:<28}{:>10}\n", name, number))
                 .collect();
             let status = out(text.as_bytes());
-            let missing = counts.missing();
             if missing.is_empty() {
                 return status;
             }

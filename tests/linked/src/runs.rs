@@ -1,0 +1,223 @@
+//! Random scripts and turns, run by the compiled box and by the second interpreter, guarded and stripped: the same answer, both tables'
+//! words by docs/LAYOUT.md, and every other lent word as it was; and demand 3, on the box's own tables.
+
+use second::input;
+use second::machine::{self, End};
+use second::numbers::*;
+use second::random::Random;
+use second::reading;
+use second::script::{Cap, Program};
+use second::stripped::strip;
+use second::{generate, turns};
+
+use crate::agree::{self, same_words};
+use crate::{layout, library};
+
+const ENDS: usize = 3;
+
+/// What the runs came to: how many ended in each way, and how many had each refusal or stop; and the lists of each telling length.
+#[derive(Clone, Debug, Default, PartialEq, Eq)]
+pub struct Counts {
+    pub ended: [u64; ENDS],
+    pub numbers: [u64; USED_UP as usize + 1],
+    pub lists: [u64; LENGTHS.len()],
+    pub demand_3: u64,
+    pub guarded_alone: u64,
+}
+
+const END_NAMES: [&str; ENDS] = ["finished", "stuck", "open"];
+const LENGTHS: [usize; 4] = [0, 1, MOST_TURNS, MOST_TURNS + 1];
+
+impl Counts {
+    pub fn rows(&self) -> Vec<(String, u64)> {
+        let ends = END_NAMES.iter().map(|name| name.to_string());
+        let mut rows: Vec<(String, u64)> = ends.zip(self.ended).collect();
+        for number in OVERLONG..=USED_UP {
+            let word = if number < ABSENT {
+                "refused"
+            } else {
+                "stopped"
+            };
+            rows.push((
+                format!("{} {}", word, number),
+                self.numbers[usize::from(number)],
+            ));
+        }
+        for (length, count) in LENGTHS.iter().zip(self.lists) {
+            rows.push((format!("lists of {}", length), count));
+        }
+        rows.push(("demand 3, tables compared".to_string(), self.demand_3));
+        rows.push((
+            "stopped by a guard alone".to_string(),
+            self.guarded_alone,
+        ));
+        rows
+    }
+
+    pub fn missing(&self) -> Vec<String> {
+        let rows = self.rows().into_iter();
+        rows.filter(|(_, count)| *count == 0)
+            .map(|(name, _)| name)
+            .collect()
+    }
+
+    fn add(&mut self, answer: &Result<(End, usize), Refusal>) {
+        match answer {
+            Err(refusal) => self.numbers[usize::from(refusal.number)] += 1,
+            Ok((End::Stopped(stop), _)) => self.numbers[usize::from(stop.number)] += 1,
+            Ok((End::Finished, _)) => self.ended[0] += 1,
+            Ok((End::Stuck, _)) => self.ended[1] += 1,
+            Ok((End::Open, _)) => self.ended[2] += 1,
+        }
+    }
+}
+
+/// What is lent to a run.
+#[derive(Clone, Debug)]
+pub struct Lent {
+    pub text: Vec<u8>,
+    pub turns: Vec<u8>,
+    pub program: Vec<u16>,
+    pub state: Vec<u16>,
+}
+
+/// A list of one of the telling lengths, or one that a generator makes.
+fn turns_of(random: &mut Random, input: &[u8]) -> Vec<u8> {
+    let length = match random.weighted(&[940, 15, 15, 20, 10]) {
+        0 => match input::parts(input) {
+            Ok(parts) => return parts.turns,
+            Err(_) => return turns::list(random),
+        },
+        place => LENGTHS[place - 1],
+    };
+    let threads = random.between(1, 6);
+    (0..length).map(|_| random.below(threads) as u8).collect()
+}
+
+fn lent(seed: u64, n: u64) -> Lent {
+    let mut random = Random::of(seed ^ 0x6c65_6e74, n);
+    let input = generate::input(seed, n);
+    let turns = turns_of(&mut random, &input);
+    let text = match input::parts(&input) {
+        Ok(parts) if random.chance(90) => parts.script.to_vec(),
+        _ => agree::text(&mut random, seed, n),
+    };
+    Lent {
+        text,
+        turns,
+        program: agree::table(&mut random),
+        state: agree::table(&mut random),
+    }
+}
+
+/// The text with every K in it changed to `unsafe`: reading it is reading and then stripping.
+fn stripped_text(text: &[u8]) -> Vec<u8> {
+    let mut text = String::from_utf8_lossy(text).into_owned();
+    for cap in Cap::ALL {
+        for form in ["new", "cast"] {
+            let from = format!("({} {} ", form, cap.word());
+            text = text.replace(&from, &format!("({} unsafe ", form));
+        }
+    }
+    text.into_bytes()
+}
+
+/// The answer of both on one run, or how they differ; with the words that the box left in the state table.
+fn one(lent: &Lent, change: fn(&Program) -> Program) -> Result<Ran, String> {
+    let (mut program, mut state) = (lent.program.clone(), lent.state.clone());
+    let ours = library::run(&lent.text, &lent.turns, &mut program, &mut state);
+    let tables = [
+        (lent.program.len(), TABLE_WORDS),
+        (lent.state.len(), TABLE_WORDS),
+    ];
+    let read = reading::lengths(lent.text.len(), lent.turns.len(), &tables)
+        .and_then(|()| reading::read_lines(&lent.text));
+    let (theirs, program_words, state_words) = match read {
+        Err(refusal) => (Err(refusal), lent.program.clone(), lent.state.clone()),
+        Ok(read) => {
+            let read = change(&read);
+            let run = machine::run(&read, &lent.turns);
+            (
+                Ok((run.end, run.moves as usize)),
+                [&layout::program(&read), &lent.program[TABLE_WORDS..]].concat(),
+                [&layout::state(&run.state), &lent.state[TABLE_WORDS..]].concat(),
+            )
+        }
+    };
+    if ours != theirs {
+        return Err(format!(
+            "the box says {:?}, the second interpreter {:?}",
+            ours, theirs
+        ));
+    }
+    same_words("the program table", &program, &program_words)?;
+    same_words("the state table", &state, &state_words)?;
+    Ok(Ran {
+        answer: ours,
+        state,
+    })
+}
+
+struct Ran {
+    answer: Result<(End, usize), Refusal>,
+    state: Vec<u16>,
+}
+
+/// "Before the guarded run stops, tables are equal, capabilities aside, and so are the moves; both are finished or neither is .."
+fn matches(guarded: &Ran, stripped: &Ran) -> Result<(), String> {
+    let (guarded_end, stripped_end) = match (&guarded.answer, &stripped.answer) {
+        (Ok((end, moves)), Ok((other, others))) if moves == others => (end, other),
+        (left, right) => return Err(format!("guarded {:?}, stripped {:?}", left, right)),
+    };
+    let finished = |end: &End| *end == End::Finished;
+    let stuck = *guarded_end != End::Stuck || *stripped_end == End::Stuck;
+    if finished(guarded_end) != finished(stripped_end) || !stuck {
+        return Err(format!("guarded {:?}, stripped {:?}", guarded_end, stripped_end));
+    }
+    same_words(
+        "the guarded table, erased,",
+        &layout::erased(&guarded.state),
+        &stripped.state,
+    )
+}
+
+fn both(lent: &Lent, counts: &mut Counts) -> Result<(), String> {
+    let guarded = one(lent, Program::clone)?;
+    counts.add(&guarded.answer);
+    if let Some(place) = LENGTHS.iter().position(|length| *length == lent.turns.len()) {
+        counts.lists[place] += 1;
+    }
+    let other = Lent {
+        text: stripped_text(&lent.text),
+        ..lent.clone()
+    };
+    if guarded.answer.is_err() || other.text.len() > MOST_TEXT {
+        return Ok(());
+    }
+    let stripped = one(&other, strip)?;
+    counts.add(&stripped.answer);
+    match guarded.answer {
+        Ok((End::Stopped(stop), _)) if stop.number == PERMISSION || stop.number == CAST => {
+            counts.guarded_alone += 1;
+            Ok(())
+        }
+        Ok((End::Stopped(_), _)) if guarded.answer == stripped.answer => Ok(()),
+        _ => {
+            counts.demand_3 += 1;
+            matches(&guarded, &stripped)
+        }
+    }
+}
+
+/// Many runs of a seed; the first difference, with its script and its turns.
+pub fn many(seed: u64, count: u64) -> Result<Counts, (Vec<u8>, String)> {
+    let mut counts = Counts::default();
+    for n in 0..count {
+        let lent = lent(seed, n);
+        if let Err(fault) = both(&lent, &mut counts) {
+            let shown = [lent.text, generate::turns_text(&lent.turns)].concat();
+            return Err((shown, fault));
+        }
+    }
+    Ok(counts)
+}
