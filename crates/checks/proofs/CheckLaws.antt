@@ -1,9 +1,8 @@
 -- A rule's result as a check: where its first part does not pass, the whole answers the same; an operand that passes gives its slot's value.
-use Prim.Native.Nat.{ℕ, zero, suc, _/_, _%_}
+use Prim.Native.Nat.{ℕ, zero, suc, _/_}
 use mathlib.Core.Path.{_≡_, refl, sym, ap, _∙_}
 use mathlib.Core.Bool.{true, false}
 use mathlib.Core.List.{List, [], _∷_}
-use lib.Dec.{eqb}
 use lib.ListN.{set}
 use Rattle.rules.specs.declared.Value.{Value}
 use Rattle.rules.specs.declared.Value.the-variants.{Absent, Obj, Chan}
@@ -13,6 +12,7 @@ use Rattle.rules.specs.State.{Object, slotAt}
 use Rattle.rules.specs.Tables.{operandOf}
 use Rattle.rules.specs.Turn.{Res, ok, wait, stop, _>>=_, _>>_, check, permit, isAbsent, isIsoObject, present, operand, leftBy}
 use Rattle.rules.proofs.ListLaws.{impossible, by-bool}
+use Rattle.rules.proofs.TableWords.{slot-of-word}
 use Rattle.checks.specs.declared.lines.Check.{Check}
 use Rattle.checks.specs.declared.lines.Check.the-variants.{Pass, Wait, Stop}
 use Rattle.checks.specs.Checked.{checkOf, isPass}
@@ -84,9 +84,6 @@ pub given : (os : List Object) (vs : List Value) (w : Operand) {k : Check} → i
 unfolding operand
 given os vs (reads s) passes e = reading-gives os vs (slotAt vs s) passes e
 given os vs (takes s) passes e = taking-gives os (set vs s Absent) (slotAt vs s) passes e
-
-pub slot-of-word : (w : ℕ) → slotOf (operandOf w) ≡ w / 2
-slot-of-word w = by-bool (eqb (w % 2) 1) (λ t. rw t refl) (λ t. rw t refl)
 
 -- the operand of word w, where it passes, gives its slot's value and the slots that it leaves
 pub operand-gives : (os : List Object) (vs : List Value) (w : ℕ) {k : Check} → isPass k ≡ true → k ≡ checkOf (operand os vs (operandOf w))

@@ -14,33 +14,18 @@ use Rattle.rules.specs.Lists.{pad, Every}
 use Rattle.rules.specs.Script.{Operand, reads, takes, Program}
 use Rattle.rules.specs.Reading.{slotOf}
 use Rattle.rules.specs.State.{Object, Frame, State, slotAt}
-use Rattle.rules.specs.Tables.{operandWord, operandItem, operandOf}
+use Rattle.rules.specs.Tables.{operandItem, operandOf}
 use Rattle.rules.specs.Turn.{Res, ok, _>>=_, _>>_, permit, isIsoObject, present, operand, operands, leftBy}
 use Rattle.rules.proofs.ListLaws.{impossible, by-bool, every-pad, every-image, every-mapped, every-map}
+use Rattle.rules.proofs.TableWords.{operand-of-word, half-of-word, slot-of-word}
 use Rattle.table.specs.declared.state.Here.{Here}
 use Rattle.checks.specs.declared.lines.Check.{Check}
 use Rattle.checks.specs.declared.lines.Check.the-variants.{Pass, Stop}
 use Rattle.checks.specs.Checked.{checkOf, isPass, Stand, Named, Checks}
 use Rattle.checks.specs.Items.{leftByItem, itemSlots, itemOperand, takesSlot, ChecksItems}
-use Rattle.checks.proofs.CheckLaws.{stays, goes-on, then-ok, then-gives, same-after, given, slot-of-word}
+use Rattle.checks.proofs.CheckLaws.{stays, goes-on, then-ok, then-gives, same-after, given}
 use Rattle.checks.proofs.OperandChecks.{slot-taken, slot-left}
 use Rattle.checks.proofs.Standing.{OperandChecked}
-
--- ---- An item and its operand
-
-pub operand-of-word : (w : Operand) → operandOf (operandWord w) ≡ w
-operand-of-word (reads s) =
-    let even : s * 2 % 2 ≡ 0 = omega arith in
-    let half : s * 2 / 2 ≡ s = omega arith in
-    rw (even, half) refl
-operand-of-word (takes s) =
-    let odd : (s * 2 + 1) % 2 ≡ 1 = omega arith in
-    let half : (s * 2 + 1) / 2 ≡ s = omega arith in
-    rw (odd, half) refl
-
-pub half-of-word : (w : Operand) → operandWord w / 2 ≡ slotOf w
-half-of-word (reads s) = omega arith
-half-of-word (takes s) = omega arith
 
 -- whether item a takes the slot of item e, as the code asks
 pub takes-its-slot : (a e : ℕ) → (e ≡ 0 → ⊥) → eqb a ((e - 1) / 2 * 2 + 2) ≡ takesSlot a e

@@ -17,6 +17,7 @@ use Rattle.rules.specs.Tables.{operandItem}
 use Rattle.rules.specs.Turn as R
 use Rattle.rules.specs.Turn.{Res, ok, _>>=_, _>>_, check, permit, isAbsent, present, operand, operands, allObjects, objectsOf, object, newLine, leftBy}
 use Rattle.rules.proofs.ListLaws.{by-bool, every-map, every-image, every-mapped, map-pad}
+use Rattle.rules.proofs.TableWords.{half-of-word}
 use Rattle.table.specs.declared.state.Here.{Here}
 use Rattle.table.specs.State.{InTable, Sees, frameAt}
 use Rattle.checks.specs.declared.lines.Check.{Check}
@@ -24,7 +25,7 @@ use Rattle.checks.specs.Checked.{checkOf, isPass, InObjects, hereAt, Sta
 use Rattle.checks.specs.Items.{holdAll, itemSlots, itemValue, AllInObjects, ChecksItems, ChecksHeld, ChecksNew}
 use Rattle.checks.proofs.CheckLaws.{stays, then-ok, then-gives, same-after, given, left-was-there, no-both}
 use Rattle.checks.proofs.Standing.{SlotSeen, frame-is, slots-few, slot-in-table, slot-in-objects}
-use Rattle.checks.proofs.ItemChecks.{half-of-word, items-named}
+use Rattle.checks.proofs.ItemChecks.{items-named}
 use Rattle.checks.proofs.HeldChecks.{AllThere}
 
 -- ---- What the operands give

@@ -6,21 +6,20 @@ use mathlib.Core.Path.{_≡_, refl, sym, ap, _∙_, subst}
 use mathlib.Core.Bool.{true}
 use mathlib.Core.List.{List, [], _∷_}
 use lib.ListN.{length}
-use lib.Seq.{getD-at}
 use Rattle.rules.specs.declared.Value.{Value}
 use Rattle.rules.specs.declared.Value.the-variants.{Absent, Obj, Chan}
 use Rattle.rules.specs.Mosts as Most
 use Rattle.rules.specs.Mosts.{mosts}
 use Rattle.rules.specs.Script.{Program}
 use Rattle.rules.specs.State.{Frame, State, objectAt, channelAt, slotAt}
-use Rattle.rules.specs.Tables.{operandOf, noFrame, outermostFirst}
+use Rattle.rules.specs.Tables.{operandOf}
 use Rattle.rules.specs.Turn.{ok, isAbsent, operand, leftBy, object}
-use Rattle.rules.specs.Fits.{InRange, IsObject, ObjectFits}
+use Rattle.rules.specs.Fits.{InRange, IsObject, ObjectFits, ChannelFits}
 use Rattle.rules.proofs.ListLaws.{every-map, every-get}
-use Rattle.rules.proofs.TableWords.{length-outermost}
-use Rattle.rules.proofs.Keeps.{HereFits, here-fits, slot-range, object-fits, channel-fits}
+use Rattle.rules.proofs.Keeps.{HereFits, here-fits, is-object-more, object-in-range, slot-range, object-fits, channel-fits}
 use Rattle.table.specs.declared.state.Here.{Here}
 use Rattle.table.specs.State.{InTable, Sees, FieldIn, frameAt}
+use Rattle.table.proofs.StateEdits.{innermost-frame}
 use Rattle.checks.specs.declared.lines.Check.{Check}
 use Rattle.checks.specs.Checked.{isPass, Fielded, InObjects, hereAt, Stand, Checks}
 use Rattle.checks.proofs.CheckLaws.{operand-gives, left-was-there}
@@ -45,7 +44,7 @@ OperandChecked s h w k = Checks s h (w / 2 ∷ []) (λ P H. operand (H .state .o
 -- ---- Values in range
 
 -- a value in the range of a run has a place in the table
-in-table : (o c : ℕ) (v : Value) → o ≤ 256 → c ≤ 16 → InRange o c v → InTable v
+pub in-table : (o c : ℕ) (v : Value) → o ≤ 256 → c ≤ 16 → InRange o c v → InTable v
 in-table o c Absent few-objects few-channels within = tt
 in-table o c (Obj n) few-objects few-channels within = omega arith
 in-table o c (Chan k) few-objects few-channels within = omega arith
@@ -55,46 +54,37 @@ in-objects S c Absent within = tt
 in-objects S c (Obj n) within = within
 in-objects S c (Chan k) within = tt
 
-is-object-of-more : (o o′ : ℕ) → o ≤ o′ → (v : Value) → IsObject o v → IsObject o′ v
-is-object-of-more o o′ more (Obj n) within = omega arith
-is-object-of-more o o′ more Absent none = none
-is-object-of-more o o′ more (Chan c) none = none
-
-object-has-place : (v : Value) → IsObject 256 v → InTable v
-object-has-place Absent none = absurd none
-object-has-place (Obj n) within = within
-object-has-place (Chan c) none = absurd none
+-- an object has one too
+object-in-table : (v : Value) → IsObject 256 v → InTable v
+object-in-table v is = in-table 256 0 v (omega arith) (omega arith) (object-in-range 256 0 v is)
 
 object-in-objects : (S : State) (v : Value) → IsObject (length (S .objects)) v → InObjects v S
-object-in-objects S Absent none = absurd none
-object-in-objects S (Obj n) within = within
-object-in-objects S (Chan c) none = absurd none
+object-in-objects S v is = in-objects S 0 v (object-in-range (length (S .objects)) 0 v is)
 
 -- a field has a place in the table, or there is none
 pub field-in : (o j : ℕ) {S : State} → Fielded o S → FieldIn o j S
 unfolding slotAt
 field-in o j {S} has = record {
   few = has .few;
-  in-table = every-get InTable (objectAt (S .objects) o .fields) j Absent tt (every-map object-has-place (objectAt (S .objects) o .fields) (has .fields));
+  in-table = every-get InTable (objectAt (S .objects) o .fields) j Absent tt (every-map object-in-table (objectAt (S .objects) o .fields) (has .fields));
 }
 
 -- ---- Where a thread stands
 
 module _ {s : List ℕ} {h : Here} {P : Program} {n : ℕ} {S : State} {f : Frame} {fs : List Frame} {rest : List ℕ} (st : Stand s h P n S f fs rest) where
-  here : HereFits mosts P n (hereAt S (h .thread) f fs)
-  here = here-fits mosts P n S (h .thread) f fs (st .fits) (st .frames)
+  pub fits-here : HereFits mosts P n (hereAt S (h .thread) f fs)
+  fits-here = here-fits mosts P n S (h .thread) f fs (st .fits) (st .frames)
 
   -- the frame at the code's place is the thread's innermost
   pub frame-is : frameAt S (h .thread) (h .depth) ≡ f
-  unfolding frameAt outermostFirst
-  frame-is = rw (st .frames) (getD-at (outermostFirst fs) f [] noFrame (h .depth) (length-outermost fs ∙ st .depth))
+  frame-is = innermost-frame S (h .thread) (st .frames) (st .depth)
 
   pub slots-few : length (f .slots) ≤ Most.slots
-  slots-few = here .frame .few
+  slots-few = fits-here .frame .few
 
   -- what a slot holds
   slot-in-range : (i : ℕ) → InRange (length (S .objects)) (length (S .threads)) (slotAt (f .slots) i)
-  slot-in-range i = slot-range _ _ (f .slots) i (here .frame .slots)
+  slot-in-range i = slot-range _ _ (f .slots) i (fits-here .frame .slots)
 
   pub slot-in-table : (i : ℕ) → InTable (slotAt (f .slots) i)
   slot-in-table i = in-table _ _ (slotAt (f .slots) i) (st .fits .few-objects) (st .fits .few-threads) (slot-in-range i)
@@ -105,17 +95,23 @@ module _ {s : List ℕ} {h : Here} {P : Program} {n : ℕ} {S : State} {f : Fram
   pub slot-object : (i o : ℕ) → slotAt (f .slots) i ≡ Obj o → o < length (S .objects)
   slot-object i o e = subst (InRange (length (S .objects)) (length (S .threads))) e (slot-in-range i)
 
+  -- there are as many channels as threads
+  pub slot-channel : (i c : ℕ) → slotAt (f .slots) i ≡ Chan c → c < length (S .channels)
+  slot-channel i c e =
+      let below : c < length (S .threads) = subst (InRange (length (S .objects)) (length (S .threads))) e (slot-in-range i) in
+      rw (st .fits .channel-each) below
+
   -- what an object holds
   object-is : (o : ℕ) → o < length (S .objects) → ObjectFits P (length (S .objects)) (length (S .threads)) (objectAt (S .objects) o)
   unfolding object
-  object-is o there = object-fits mosts P n (hereAt S (h .thread) f fs) here o there
+  object-is o there = object-fits mosts P n (hereAt S (h .thread) f fs) fits-here o there
 
   pub fielded : (o : ℕ) → o < length (S .objects) → Fielded o S
   fielded o there =
       record {
         made = there;
         few = object-is o there .few;
-        fields = every-map (is-object-of-more (length (S .objects)) 256 (st .fits .few-objects)) (objectAt (S .objects) o .fields) (object-is o there .fields);
+        fields = every-map (is-object-more (st .fits .few-objects)) (objectAt (S .objects) o .fields) (object-is o there .fields);
       }
 
   pub field-in-objects : (o j : ℕ) → o < length (S .objects) → InObjects (slotAt (objectAt (S .objects) o .fields) j) S
@@ -127,17 +123,25 @@ module _ {s : List ℕ} {h : Here} {P : Program} {n : ℕ} {S : State} {f : Fram
   pub kind-is-there : (o : ℕ) → o < length (S .objects) → objectAt (S .objects) o .kind < length (P .kinds)
   kind-is-there o there = object-is o there .kind
 
-  -- what a channel holds
-  pub message-in-table : (c : ℕ) → InTable (channelAt S c .message)
-  message-in-table c =
-      in-table _ _ (channelAt S c .message) (st .fits .few-objects) (st .fits .few-threads) (channel-fits mosts P n (hereAt S (h .thread) f fs) here c .message)
+  -- what a channel holds; its message's number is at most that of the moves
+  channel-is : (c : ℕ) → ChannelFits n (length (S .objects)) (length (S .threads)) (channelAt S c)
+  channel-is c = channel-fits mosts P n (hereAt S (h .thread) f fs) fits-here c
 
-  -- slot i, read at the place j: a filled slot is one of 16
+  pub message-in-table : (c : ℕ) → InTable (channelAt S c .message)
+  message-in-table c = in-table _ _ (channelAt S c .message) (st .fits .few-objects) (st .fits .few-threads) (channel-is c .message)
+
+  pub messages-few : (c : ℕ) → channelAt S c .number ≤ n
+  messages-few c = channel-is c .number
+
+  -- slot i, at the place j: a filled slot is one of 16
+  pub slot-place : (i : ℕ) → i < length (f .slots) → i % 16 ≡ i
+  slot-place i filled = mod-eq-of-lt (omega (arith, slots-few, filled))
+
+  pub slot-found : (i j : ℕ) → j ≡ i % 16 → i < length (f .slots) → slotAt (frameAt S (h .thread) (h .depth) .slots) j ≡ slotAt (f .slots) i
+  slot-found i j place filled = ap (λ (g : Frame). slotAt (g .slots) j) frame-is ∙ ap (slotAt (f .slots)) (place ∙ slot-place i filled)
+
   pub slot-read : {v : Value} (i j : ℕ) → j ≡ i % 16 → SlotSeen s h j v → i < length (f .slots) → slotAt (f .slots) i ≡ v
-  slot-read i j place read filled =
-      let same : j ≡ i = place ∙ mod-eq-of-lt (omega (arith, slots-few, filled)) in
-      let seen = read .sees S rest (st .held) (rw frame-is (slot-in-table j)) in
-      sym (seen ∙ ap (λ g. slotAt (g .slots) j) frame-is ∙ ap (slotAt (f .slots)) same)
+  slot-read i j place read filled = sym (read .sees S rest (st .held) (rw frame-is (slot-in-table j)) ∙ slot-found i j place filled)
 
   -- slot i as the operand of word w leaves it
   pub target-read : {v : Value} (i w : ℕ) → TargetSeen s h i w v → i < length (f .slots) → slotAt (leftBy (f .slots) (operandOf w)) i ≡ v

@@ -78,7 +78,7 @@ range-more ho hc Absent h = tt
 range-more ho hc (Obj n) h = omega arith
 range-more ho hc (Chan k) h = omega arith
 
-is-object-more : {o o′ : ℕ} → o ≤ o′ → (v : Value) → IsObject o v → IsObject o′ v
+pub is-object-more : {o o′ : ℕ} → o ≤ o′ → (v : Value) → IsObject o v → IsObject o′ v
 is-object-more ho Absent h = h
 is-object-more ho (Obj n) h = omega arith
 is-object-more ho (Chan k) h = h

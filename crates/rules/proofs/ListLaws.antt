@@ -132,6 +132,19 @@ unfolding any
 any-snoc f [] x = by-bool (f x) (λ t. rw t) (λ t. rw t)
 any-snoc f (y ∷ xs) x = by-bool (f y) (λ t. rw t) (λ t. rw t (any-snoc f xs x))
 
+pub all-snoc : {A : Type 0} (f : A → Bool) (xs : List A) (x : A) → all f (xs ++ (x ∷ [])) ≡ (all f xs && f x)
+unfolding all
+all-snoc f [] x = by-bool (f x) (λ t. rw t) (λ t. rw t)
+all-snoc f (y ∷ xs) x = by-bool (f y) (λ t. rw t (all-snoc f xs x)) (λ t. rw t)
+
+-- from a place on, where the default passes the test
+pub all-from : {A : Type 0} (f : A → Bool) (d : A) → f d ≡ true → (l : List A) (i : ℕ) → all f (drop i l) ≡ (f (getD l i d) && all f (drop (suc i) l))
+unfolding all
+all-from f d e [] zero = rw e
+all-from f d e [] (suc i) = rw e
+all-from f d e (x ∷ l) zero = refl
+all-from f d e (x ∷ l) (suc i) = all-from f d e l i
+
 -- where no element can pass the test, and where what passes one test passes another
 pub any-none : {A : Type 0} (f : A → Bool) → ((x : A) → f x ≡ false) → (l : List A) → any f l ≡ false
 unfolding any

@@ -1,9 +1,10 @@
 -- Both tables are 8,192 words of 16 bits, and a state's words tell the state: each part is made up to its length, each number is within its most.
-use Prim.Native.Nat.{ℕ, zero, suc, _+_, _-_, _*_, _≤_, _<_}
+use Prim.Native.Nat.{ℕ, zero, suc, _+_, _-_, _*_, _/_, _%_, _≤_, _<_}
 use native.Mathlib.Omega.{arith}
 use native.Mathlib.Numerals.{add-one}
 use mathlib.Core.Path.{_≡_, refl, sym, ap, ap₂, _∙_}
 use mathlib.Core.List.{List, [], _∷_, _++_, map, reverse, reverse-cons, reverse-reverse, head-eq-of-cons-eq}
+use lib.Dec.{eqb}
 use lib.ListN.{length, getD, take, drop, replicate, length-append, length-map, length-reverse}
 use Rattle.rules.specs.declared.Cap.{Cap}
 use Rattle.rules.specs.declared.Cap.the-variants.{Imm, Iso, Local, Unsafe}
@@ -13,11 +14,12 @@ use Rattle.rules.specs.declared.Mosts.{Mosts}
 use Rattle.rules.specs.Mosts as Most
 use Rattle.rules.specs.Lists.{Every, pad, cells}
 use Rattle.rules.specs.Script.{Operand, reads, takes, Expr, value, field, swap, call, new, cast, spawn, send, recv, bind, Sort, thread, method, Kind, Form, kind, opens, line, Block, Program, rank, letLines, blockLines, kindLines, linesOf}
+use Rattle.rules.specs.Reading.{slotOf}
 use Rattle.rules.specs.State.{Object, Frame, Sender, ready, waiting, Thread, noThread, Channel, emptyChannel, State}
 use Rattle.rules.specs.Valid.{OperandOk, ExprOk, LetsOk, BlockOk, KindOk, Valid}
 use Rattle.rules.specs.Fits.{InRange, IsObject, ObjectFits, FrameFits, SenderFits, ThreadFits, ChannelFits, Fits}
-use Rattle.rules.specs.Tables.{operandWord, operandItem, capOf, lineWords, row, firstLines, usedProgramWords, programWords, word, unmade, noFrame, objectWords, frameWords, senderWord, outermostFirst, threadWords, channelWords, usedStateWords, stateWords}
-use Rattle.rules.proofs.ListLaws.{every-map, every-append, every-snoc, every-image, every-pad, every-cells, append-cut, length-pad, length-cells, pad-front, pad-tells, length-records}
+use Rattle.rules.specs.Tables.{operandWord, operandItem, operandOf, capOf, lineWords, row, firstLines, usedProgramWords, programWords, word, unmade, noFrame, objectWords, frameWords, senderWord, outermostFirst, threadWords, channelWords, usedStateWords, stateWords}
+use Rattle.rules.proofs.ListLaws.{by-bool, every-map, every-append, every-snoc, every-image, every-pad, every-cells, append-cut, length-pad, length-cells, pad-front, pad-tells, length-records}
 use Rattle.rules.proofs.Accepted.{line-count, table-lines}
 use Rattle.rules.proofs.Keeps.{object-in-range, each-frame}
 
@@ -274,7 +276,25 @@ cap-of-rank Iso = refl
 cap-of-rank Local = refl
 cap-of-rank Unsafe = refl
 
-sender-tells : (d d′ : Sender) → senderWord d ≡ senderWord d′ → d ≡ d′
+-- an operand's word is odd where it takes, and half of it is the slot
+pub operand-of-word : (w : Operand) → operandOf (operandWord w) ≡ w
+operand-of-word (reads s) =
+    let even : s * 2 % 2 ≡ 0 = omega arith in
+    let half : s * 2 / 2 ≡ s = omega arith in
+    rw (even, half) refl
+operand-of-word (takes s) =
+    let odd : (s * 2 + 1) % 2 ≡ 1 = omega arith in
+    let half : (s * 2 + 1) / 2 ≡ s = omega arith in
+    rw (odd, half) refl
+
+pub half-of-word : (w : Operand) → operandWord w / 2 ≡ slotOf w
+half-of-word (reads s) = omega arith
+half-of-word (takes s) = omega arith
+
+pub slot-of-word : (w : ℕ) → slotOf (operandOf w) ≡ w / 2
+slot-of-word w = by-bool (eqb (w % 2) 1) (λ t. rw t refl) (λ t. rw t refl)
+
+pub sender-tells : (d d′ : Sender) → senderWord d ≡ senderWord d′ → d ≡ d′
 sender-tells ready ready e = refl
 sender-tells ready (waiting i) e = absurd (omega arith)
 sender-tells (waiting i) ready e = absurd (omega arith)

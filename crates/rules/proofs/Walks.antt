@@ -15,7 +15,7 @@ use Rattle.rules.specs.Script.{Program}
 use Rattle.rules.specs.State.{Object, noObject, Frame, Thread, noThread, State, objectAt, threadAt}
 use Rattle.rules.specs.Stripped.{eraseObject, erase}
 use Rattle.rules.specs.Fits.{InRange, ObjectFits, ThreadFits, Fits}
-use Rattle.rules.specs.Reach.{countOne, count, times, Reaches, here, more, ReachedFrom, slotsOf, roots, Lists, walk, visit, visits, reachList}
+use Rattle.rules.specs.Reach.{countOne, count, times, Reaches, here, more, ReachedFrom, slotsOf, roots, Lists, Walked, done, skip, meet, walk, visit, visits, reachList}
 use Rattle.rules.proofs.ListLaws.{by-bool, every-map, every-get, every-append}
 use Rattle.rules.proofs.Keeps.{object-in-range, each-frame}
 use Rattle.rules.proofs.Simulation.{object-erased}
@@ -24,15 +24,6 @@ use Rattle.rules.proofs.Counts.{sum-cases, object-self, object-equal, o
 pub reaches-trans : (os : List Object) (a b x : ℕ) → Reaches os a b → Reaches os b x → Reaches os a x
 reaches-trans os a b x p (here e) = rw (← e) p
 reaches-trans os a b x p (more {y = y} q h) = more (reaches-trans os a b y p q) h
-
--- ---- the walk as a relation: from the numbers met, over the values to come, to all numbers met
-
-pub data Walked (os : List Object) : List ℕ → List Value → List ℕ → Type 0 where
-  done : {met : List ℕ} → Walked os met [] met
-  -- no object, or one that is met
-  skip : {met out : List ℕ} {v : Value} {vs : List Value} → ((x : ℕ) → countOne x v ≤ times x met) → Walked os met vs out → Walked os met (v ∷ vs) out
-  meet : {met out : List ℕ} {n : ℕ} {vs : List Value}
-      → times n met ≡ 0 → Walked os (met ++ (n ∷ [])) (objectAt os n .fields ++ vs) out → Walked os met (Obj n ∷ vs) out
 
 module _ (os : List Object) where
   -- x is met, or among the values to come

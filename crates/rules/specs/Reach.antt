@@ -49,6 +49,14 @@ pub record Lists (os : List Object) (vs : List Value) (out : List ℕ) : Type 0 
   pub reached : (x : ℕ) → (1 ≤ times x out) ↔ ReachedFrom os vs x
   pub once : (x : ℕ) → times x out ≤ 1
 
+-- A walk that meets each object once: from the numbers met, over the values to come, to all numbers met.
+pub data Walked (os : List Object) : List ℕ → List Value → List ℕ → Type 0 where
+  done : {met : List ℕ} → Walked os met [] met
+  -- no object, or one that is met
+  skip : {met out : List ℕ} {v : Value} {vs : List Value} → ((x : ℕ) → countOne x v ≤ times x met) → Walked os met vs out → Walked os met (v ∷ vs) out
+  meet : {met out : List ℕ} {n : ℕ} {vs : List Value}
+      → times n met ≡ 0 → Walked os (met ++ (n ∷ [])) (objectAt os n .fields ++ vs) out → Walked os met (Obj n ∷ vs) out
+
 -- One such list: depth first, fields in order, each object as it is first met. `k` bounds the visits.
 unfoldable mutual
   pub walk : (k : ℕ) → List Object → (met : List ℕ) → List Value → List ℕ

@@ -36,3 +36,5 @@ pub const OTHER: u16 = 14;
 pub const CAST: u16 = 15;
 // objects, threads or frames used up
 pub const USED_UP: u16 = 16;
+// report on a thread never started
+pub const NO_THREAD: u16 = 17;

@@ -2,7 +2,6 @@
 use Prim.Native.Nat.{ℕ, _≤_, _<_}
 use native.Mathlib.Omega.{arith}
 use mathlib.Core.Path.{_≡_, refl, sym, ap, _∙_}
-use mathlib.Core.Bool.{true, false}
 use mathlib.Core.List.{List, _++_}
 use lib.Dec.{ltb}
 use lib.ListN.{length, take, drop, length-append}
@@ -11,7 +10,7 @@ use borrow.Author.Tests.{lt-ltb, le-ltb}
 use Rattle.rules.specs.Mosts as Most
 use Rattle.rules.specs.Mosts.{mosts}
 use Rattle.rules.specs.Numbers as No
-use Rattle.rules.specs.Script.{Program, linesOf}
+use Rattle.rules.specs.Script.{Program}
 use Rattle.rules.specs.Reading.{Reading, turnedAway, accepted, script, reading}
 use Rattle.rules.specs.Valid.{Valid}
 use Rattle.rules.specs.State.{start}
@@ -24,7 +23,6 @@ use Rattle.rules.proofs.Accepted.{accepted-valid, table-lines}
 use Rattle.rules.proofs.Keeps.{fits-run}
 use Rattle.rules.proofs.Demand3.{stripped-matches}
 use Rattle.rules.proofs.TableWords.{program-words-length, state-words-length}
-use Rattle.table.specs.Program.{Filled}
 use Rattle.table.specs.State.{Held}
 use Rattle.table.proofs.ProgramTable.{program-words-by-lines}
 use Rattle.table.proofs.ProgramLines.{blocks-of-lines}

@@ -5,9 +5,9 @@ use native.Mathlib.Numerals.{add-one}
 use native.Mathlib.Omega.{arith}
 use mathlib.Core.Path.{_≡_, refl, sym, ap, _∙_}
 use mathlib.Core.Bool.{Bool, true, false, not, _&&_, and-false}
-use mathlib.Core.List.{List, [], _∷_, _++_}
+use mathlib.Core.List.{List, [], _∷_}
 use lib.Dec.{eqb}
-use lib.ListN.{length, getD, drop, drop-of-length-le}
+use lib.ListN.{length, drop, drop-of-length-le}
 use borrow.Author.Tests.{eq-eqb, ne-eqb, eqb-true, eqb-false}
 use Rattle.rules.specs.Mosts.{mosts}
 use Rattle.rules.specs.Lists.{all}
@@ -17,21 +17,13 @@ use Rattle.rules.specs.State.{Frame, Sender, noThread, State, threadAt}
 use Rattle.rules.specs.Turn.{turn}
 use Rattle.rules.specs.Run.{isFinished, allFinished, waits, upTo, allWait, endOf}
 use Rattle.rules.specs.Fits.{Fits}
-use Rattle.rules.proofs.ListLaws.{by-bool, of-not}
+use Rattle.rules.proofs.ListLaws.{by-bool, of-not, all-snoc, all-from}
 use Rattle.table.specs.State.{Held, Sees, Any}
 use Rattle.turn.specs.Performed.{Loaded, WouldWait}
 use Rattle.run.specs.Played.{AllWait, Ends}
 use Rattle.run.specs.declared.Answer.the-variants.{Finished, Stuck, Open}
 
 -- ---- All finished
-
--- the next thread, and those after it
-all-from : {A : Type 0} (f : A → Bool) (d : A) → f d ≡ true → (l : List A) (t : ℕ) → all f (drop t l) ≡ (f (getD l t d) && all f (drop (suc t) l))
-unfolding all
-all-from f d e [] zero = rw e
-all-from f d e [] (suc t) = rw e
-all-from f d e (x ∷ l) zero = refl
-all-from f d e (x ∷ l) (suc t) = all-from f d e l t
 
 -- the threads before t are finished: the others decide
 pub record FinishedTo (s : List ℕ) (t : ℕ) : Type 0 where
@@ -65,11 +57,6 @@ unfolding all
 no-thread-left {s} {t} so-far l = record { sees = λ S rest h few. sym (so-far .is S rest h ∙ ap (all isFinished) (drop-of-length-le (S .threads) {i = t} (omega arith))) }
 
 -- ---- All would wait
-
-all-snoc : {A : Type 0} (f : A → Bool) (xs : List A) (x : A) → all f (xs ++ (x ∷ [])) ≡ (all f xs && f x)
-unfolding all
-all-snoc f [] x = by-bool (f x) (λ t. rw t) (λ t. rw t)
-all-snoc f (y ∷ xs) x = by-bool (f y) (λ t. rw t (all-snoc f xs x)) (λ t. rw t)
 
 module _ (f : ℕ → Bool) where
   all-next : (n : ℕ) → all f (upTo (suc n)) ≡ (all f (upTo n) && f n)

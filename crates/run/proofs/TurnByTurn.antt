@@ -2,32 +2,36 @@
 use Prim.Native.Nat.{ℕ, suc, _+_, _%_, _≤_, _<_}
 use native.Mathlib.Omega.{arith}
 use native.Mathlib.Numerals.{add-one}
-use native.Mathlib.Nat.{mod-eq-of-lt}
 use mathlib.Core.Path.{_≡_, refl, sym, ap, _∙_, subst}
 use mathlib.Core.List.{List, [], _∷_}
-use lib.ListN.{length, getD, drop, drop-of-length-le, List·getD-eq-default}
-use lib.Seq.{drop-cons}
+use lib.Dec.{eqb}
+use lib.ListN.{length, getD, set, drop, replicate, length-set, drop-of-length-le}
+use lib.Seq.{drop-cons, getD-set-same, getD-set-other}
+use borrow.Author.Tests.{eqb-true, eqb-false}
 use Rattle.rules.specs.Mosts as Most
 use Rattle.rules.specs.Mosts.{mosts}
 use Rattle.rules.specs.Script.{Program, blockAt}
 use Rattle.rules.specs.Valid.{Valid}
-use Rattle.rules.specs.State.{Frame, Thread, State, threadAt, noThread, start}
-use Rattle.rules.specs.Turn.{Res, ok, wait, stop, turn, turnOf}
+use Rattle.rules.specs.State.{Frame, State, threadAt, start}
+use Rattle.rules.specs.Turn.{Res, ok, wait, stop, turn}
 use Rattle.rules.specs.Run as R
 use Rattle.rules.specs.Run.{none, Run, blockOf, lineNow, after, advance, runFrom, run}
 use Rattle.rules.specs.Fits.{Fits}
-use Rattle.rules.proofs.ListLaws.{impossible}
+use Rattle.rules.proofs.ListLaws.{impossible, by-bool, every-get, every-replicate}
 use Rattle.rules.proofs.Keeps.{here-fits, keeps-turn, keeps-run}
 use Rattle.table.specs.declared.state.Here.{Here}
 use Rattle.table.specs.State.{Held, Sees, Any, Placed, OnLine, Stands, frameAt}
-use Rattle.table.proofs.StateFrames.{next-on-line}
+use Rattle.table.proofs.StateFrames.{next-on-line, row-past-counts}
 use Rattle.checks.specs.Checked.{Stand}
 use Rattle.checks.proofs.Standing.{frame-is}
+use Rattle.turn.proofs.Located as Place
+use Rattle.turn.proofs.Located.{no-frames, no-frame-waits, turn-performs}
 use Rattle.turn.specs.declared.lines.Step.{Step}
 use Rattle.turn.specs.declared.lines.Step.the-variants.{Next, Stay, Turned, Waits, Stops}
 use Rattle.run.specs.declared.playing.Played.the-variants.{Through, Stopped}
 use Rattle.turn.specs.Performed.{StandsAt, Went, to-next, to-same, Performed, moved, waited, stopped, IsMove, Loaded, PerformsHere}
 use Rattle.run.specs.Played.{Plays}
+use Rattle.run.proofs.OtherThreads.{turn-keeps}
 
 -- ---- The run, turn by turn
 
@@ -93,14 +97,8 @@ reached-end {turns} {P} {S = S} {n = n} at all = at .goes-on ∙ ap (runFrom mos
 
 -- ---- Where a thread stands
 
--- there are at most 16 threads
-pub no-frames : (S : State) (t : ℕ) → length (S .threads) ≤ 16 → 16 ≤ t → 0 ≡ length (threadAt S t .frames)
-unfolding threadAt
-no-frames S t few past = sym (ap (λ (u : Thread). length (u .frames)) (List·getD-eq-default (S .threads) noThread (omega arith)))
-
--- h is the place where thread t stands
-pub record Knows (p : List ℕ) (P : Program) (S : State) (t : ℕ) (h : Here) : Type 0 where
-  pub thread : h .thread ≡ t
+-- h is the place where its thread stands
+pub record Knows (p : List ℕ) (P : Program) (S : State) (h : Here) : Type 0 where
   pub frame : Frame
   pub callers : List Frame
   pub frames : threadAt S (h .thread) .frames ≡ frame ∷ callers
@@ -108,57 +106,57 @@ pub record Knows (p : List ℕ) (P : Program) (S : State) (t : ℕ) (h : Here) :
   pub line : OnLine p P (frame .block) (frame .line) h
 
 -- found by its frames
-located : {p : List ℕ} {P : Program} {s rest : List ℕ} {S : State} {n t d : ℕ} {h : Here} → Loaded p P → Valid mosts P → Fits mosts P n S → Held s S rest
-    → (frs : List Frame) → threadAt S t .frames ≡ frs → d ≡ length (threadAt S t .frames) → (d ≡ 0 → ⊥) → h .thread ≡ t % 16 → Stands p s d h → Knows p P S t h
-located loaded valid fits held [] e count some place stands = absurd (some (count ∙ ap length e))
-located {p} {P} {s} {rest} {S} {n} {t} {d} {h} loaded valid fits held (f ∷ fs) e count some place stands =
-    let here = here-fits mosts P n S t f fs fits e in
-    let same : h .thread ≡ t = place ∙ mod-eq-of-lt (omega (arith, here .self, fits .few-threads)) in
-    let frames : threadAt S (h .thread) .frames ≡ f ∷ fs = ap (λ (u : ℕ). threadAt S u .frames) same ∙ e in
-    let all : d ≡ suc (length fs) = count ∙ ap length e in
-    let deep : d ≡ suc (h .depth) = stands .depth S rest held (ap length frames ∙ sym all) (omega (arith, here .few)) in
-    let depth : length fs ≡ h .depth = omega (arith, all, deep) in
-    let st : Stand s h P n S f fs rest = record { held = held; valid = valid; fits = fits; frames = frames; depth = depth } in
-    record {
-      thread = same;
-      frame = f;
-      callers = fs;
-      frames = frames;
-      depth = depth;
-      line = subst (λ (g : Frame). g .block < length (P .blocks) → g .line ≤ length (blockAt P (g .block) .lets) → OnLine p P (g .block) (g .line) h) (frame-is st)
-          (stands .row P S (loaded .counts) (loaded .rest) rest (loaded .filled) held) (here .frame .block) (here .frame .line);
-    }
+located : {p : List ℕ} {P : Program} {s rest : List ℕ} {S : State} {n d : ℕ} {h : Here} → Loaded p P → Valid mosts P → Fits mosts P n S → Held s S rest
+    → d ≡ length (threadAt S (h .thread) .frames) → (d ≡ 0 → ⊥) → Stands p s d h → Knows p P S h
+located {S = S} {h = h} loaded valid fits held count some stands =
+    let at = Place.found stands some loaded held valid fits count (threadAt S (h .thread) .frames) refl in
+    record { frame = at .frame; callers = at .callers; frames = at .stand .frames; depth = at .stand .depth; line = at .on-line }
 
-module _ {p : List ℕ} {P : Program} {S S₁ : State} {t : ℕ} {h : Here} (known : Knows p P S t h) where
-  -- at the same line
-  knows-same : StandsAt (h .thread) (known .frame .block) (known .frame .line) (length (known .callers)) S₁ → Knows p P S₁ t h
-  knows-same at =
-      record {
-        thread = known .thread;
-        frame = at .frame;
-        callers = at .callers;
-        frames = at .frames;
-        depth = at .depth ∙ known .depth;
-        line = rw (at .block, at .line) (known .line);
-      }
+-- the same thread and frame, with its line's words at x
+abbrev atRow : Here → ℕ → Here
+atRow h x = record { thread = h .thread; depth = h .depth; frame = h .frame; row = x }
 
-  -- at the next line
-  knows-next : {n : ℕ} → Loaded p P → Fits mosts P n S₁ → StandsAt (h .thread) (known .frame .block) (known .frame .line + 1) (length (known .callers)) S₁
-      → {r : Here} → r .thread ≡ h .thread → r .depth ≡ h .depth → r .row ≡ (h .row + 8) % 8192 → Knows p P S₁ t r
-  knows-next {n} loaded fits at {r} thread depth row =
-      let g = at .frame in
-      let here = here-fits mosts P n S₁ (h .thread) g (at .callers) fits (at .frames) in
-      let b = known .frame .block in
-      let there : b < length (P .blocks) = subst (λ (x : ℕ). x < length (P .blocks)) (at .block) (here .frame .block) in
-      let fit : g .line ≤ length (blockAt P b .lets) = subst (λ (x : ℕ). g .line ≤ length (blockAt P x .lets)) (at .block) (here .frame .line) in
-      record {
-        thread = thread ∙ known .thread;
-        frame = g;
-        callers = at .callers;
-        frames = ap (λ (u : ℕ). threadAt S₁ u .frames) thread ∙ at .frames;
-        depth = at .depth ∙ known .depth ∙ sym depth;
-        line = rw (at .block, at .line) (next-on-line P (loaded .filled) there (known .line) row (omega (arith, fit, at .line)));
-      }
+module _ {p : List ℕ} {P : Program} {S : State} {h : Here} (known : Knows p P S h) where
+  -- its row is not 0
+  row-there : {n : ℕ} → Loaded p P → Fits mosts P n S → h .row ≡ 0 → ⊥
+  row-there {n} loaded fits zero =
+      let here = here-fits mosts P n S (h .thread) (known .frame) (known .callers) fits (known .frames) in
+      let past = row-past-counts P (loaded .filled) (here .frame .block) (known .line) (here .frame .line) in
+      impossible (omega (arith, past, zero))
+
+  module _ {S₁ : State} where
+    -- after a turn of another thread
+    knows-other : (t : ℕ) → turn mosts P S t ≡ ok S₁ → (h .thread ≡ t → ⊥) → Knows p P S₁ h
+    knows-other t goes other =
+        record {
+          frame = known .frame;
+          callers = known .callers;
+          frames = turn-keeps (h .thread) mosts P S S₁ t goes other (known .frames);
+          depth = known .depth;
+          line = known .line;
+        }
+
+    -- at the same line
+    knows-same : StandsAt (h .thread) (known .frame .block) (known .frame .line) (length (known .callers)) S₁ → Knows p P S₁ h
+    knows-same at =
+        record { frame = at .frame; callers = at .callers; frames = at .frames; depth = at .depth ∙ known .depth; line = rw (at .block, at .line) (known .line) }
+
+    -- at the next line
+    knows-next : {n : ℕ} → Loaded p P → Fits mosts P n S₁ → StandsAt (h .thread) (known .frame .block) (known .frame .line + 1) (length (known .callers)) S₁
+        → {x : ℕ} → x ≡ (h .row + 8) % 8192 → Knows p P S₁ (atRow h x)
+    knows-next {n} loaded fits at row =
+        let g = at .frame in
+        let here = here-fits mosts P n S₁ (h .thread) g (at .callers) fits (at .frames) in
+        let b = known .frame .block in
+        let there : b < length (P .blocks) = subst (λ (x : ℕ). x < length (P .blocks)) (at .block) (here .frame .block) in
+        let fit : g .line ≤ length (blockAt P b .lets) = subst (λ (x : ℕ). g .line ≤ length (blockAt P x .lets)) (at .block) (here .frame .line) in
+        record {
+          frame = g;
+          callers = at .callers;
+          frames = at .frames;
+          depth = at .depth ∙ known .depth;
+          line = rw (at .block, at .line) (next-on-line P (loaded .filled) there (known .line) row (omega (arith, fit, at .line)));
+        }
 
 -- ---- What was performed
 
@@ -191,47 +189,99 @@ module _ {t : ℕ} {f : Frame} {fs : List Frame} {S : State} where
 same-step : {p s s₁ : List ℕ} {h : Here} {r r₁ : Step} → r ≡ r₁ → PerformsHere p s h r s₁ → PerformsHere p s h r₁ s₁
 same-step {p} {s} {s₁} {h} e does = subst (λ (r : Step). PerformsHere p s h r s₁) e does
 
-module _ {turns : List ℕ} {P : Program} {p s rest : List ℕ} {S : State} {n i t : ℕ} {h : Here}
-    (valid : Valid mosts P) (at : Reached turns P s rest S n i) (known : Knows p P S t h) where
+module _ {turns : List ℕ} {P : Program} {p s rest : List ℕ} {S : State} {n i : ℕ} {h : Here}
+    (valid : Valid mosts P) (at : Reached turns P s rest S n i) (known : Knows p P S h) where
   stand : Stand s h P n S (known .frame) (known .callers) rest
   stand = record { held = at .held; valid = valid; fits = at .fits; frames = known .frames; depth = known .depth }
 
   -- the line performed is the thread's turn
   performed-turn : Loaded p P → n < Most.turns → {r : Step} {s₁ : List ℕ} → PerformsHere p s h r s₁
-      → Performed (h .thread) (known .frame) (known .callers) s rest r s₁ (turn mosts P S t)
-  unfolding turn turnOf
+      → Performed (h .thread) (known .frame) (known .callers) s rest r s₁ (turn mosts P S (h .thread))
   performed-turn loaded few {r} {s₁} does =
       let f = known .frame in
       let fs = known .callers in
-      subst (λ (u : ℕ). Performed (h .thread) f fs s rest r s₁ (turn mosts P S u)) (known .thread)
-      (subst (λ (x : Res State). Performed (h .thread) f fs s rest r s₁ x) (sym (ap (turnOf mosts P S (h .thread) (threadAt S (h .thread) .sender)) (known .frames)))
-      (does .performs P n S f fs rest loaded stand few (known .line)))
+      subst (λ (x : Res State). Performed (h .thread) f fs s rest r s₁ x) (sym (turn-performs P S (h .thread) (known .frames)))
+      (does .performs P n S f fs rest loaded stand few (known .line))
+
+-- ---- The places kept
+
+-- that of thread u; a row of 0 keeps none
+abbrev pub keptAt : (rows frames depths : List ℕ) → ℕ → Here
+keptAt rows frames depths u = record { thread = u; depth = getD depths u 0; frame = getD frames u 0; row = getD rows u 0 }
+
+-- what holds of each place kept, where at₁ keeps what at does but for thread t
+each-kept : (Q : Here → Type 0) (t : ℕ) (at at₁ : ℕ → Here) → ((u : ℕ) → (u ≡ t → ⊥) → at₁ u ≡ at u) → ((u : ℕ) → (u ≡ t → ⊥) → (at u .row ≡ 0 → ⊥) → Q (at u))
+    → ((at₁ t .row ≡ 0 → ⊥) → Q (at₁ t)) → (u : ℕ) → (at₁ u .row ≡ 0 → ⊥) → Q (at₁ u)
+each-kept Q t at at₁ same others this u some =
+    by-bool (eqb u t)
+    (λ b. subst (λ (v : ℕ). (at₁ v .row ≡ 0 → ⊥) → Q (at₁ v)) (sym (eqb-true u t b)) this some)
+    (λ b. let other = eqb-false u t b in let e = same u other in subst Q (sym e) (others u other λ z. some (ap (λ (h : Here). h .row) e ∙ z)))
+
+pub record Arrays (rows frames depths : List ℕ) : Type 0 where
+  pub rows-long : length rows ≡ 16
+  pub frames-long : length frames ≡ 16
+  pub depths-long : length depths ≡ 16
+
+module _ (rows frames depths : List ℕ) (t : ℕ) where
+  -- the place h of thread t is stored
+  stored-arrays : Arrays rows frames depths → (h : Here) → Arrays (set rows t (h .row)) (set frames t (h .frame)) (set depths t (h .depth))
+  stored-arrays arrays h =
+      record {
+        rows-long = length-set rows t (h .row) ∙ arrays .rows-long;
+        frames-long = length-set frames t (h .frame) ∙ arrays .frames-long;
+        depths-long = length-set depths t (h .depth) ∙ arrays .depths-long;
+      }
+
+  stored-place : Arrays rows frames depths → (h : Here) → h .thread ≡ t → t < 16 → keptAt (set rows t (h .row)) (set frames t (h .frame)) (set depths t (h .depth)) t ≡ h
+  stored-place arrays h place few =
+      let row = getD-set-same rows t (h .row) 0 (omega (arith, few, arrays .rows-long)) in
+      let frame = getD-set-same frames t (h .frame) 0 (omega (arith, few, arrays .frames-long)) in
+      let depth = getD-set-same depths t (h .depth) 0 (omega (arith, few, arrays .depths-long)) in
+      rw (row, frame, depth, ← place) refl
+
+  stored-others : (h : Here) (u : ℕ) → (u ≡ t → ⊥) → keptAt (set rows t (h .row)) (set frames t (h .frame)) (set depths t (h .depth)) u ≡ keptAt rows frames depths u
+  stored-others h u other =
+      rw (getD-set-other rows t u (h .row) 0 other, getD-set-other frames t u (h .frame) 0 other, getD-set-other depths t u (h .depth) 0 other) refl
+
+-- the rows of other threads are as they were
+record Others (t : ℕ) (rows rows₁ : List ℕ) : Type 0 where
+  long : length rows₁ ≡ length rows
+  same : (u : ℕ) → (u ≡ t → ⊥) → getD rows₁ u 0 ≡ getD rows u 0
+
+row-set : {rows : List ℕ} (t x : ℕ) → Others t rows (set rows t x)
+row-set {rows} t x = record { long = length-set rows t x; same = λ u other. getD-set-other rows t u x 0 other }
+
+row-same : {rows : List ℕ} (t : ℕ) → Others t rows rows
+row-same t = record { long = refl; same = λ u other. refl }
 
 -- ---- What the loop keeps
 
--- of one program: the state reached, and the place of thread `known`; 256 is no thread
-pub record Sofar (p turns : List ℕ) (P : Program) (s rest : List ℕ) (h : Here) (known moves i : ℕ) : Type 0 where
+-- of one program: the state reached, and where the threads stand whose places are kept
+pub record Sofar (p turns : List ℕ) (P : Program) (s rest rows frames depths : List ℕ) (moves i : ℕ) : Type 0 where
   pub state : State
   pub reached : Reached turns P s rest state moves i
-  pub knows : known < 256 → Knows p P state known h
+  pub knows : (u : ℕ) → (getD rows u 0 ≡ 0 → ⊥) → Knows p P state (keptAt rows frames depths u)
 
 -- of every program that p holds
-pub record Playing (p s₀ turns s : List ℕ) (h : Here) (known moves i : ℕ) : Type 0 where
-  pub placed : Placed h
+pub record Playing (p s₀ turns s rows frames depths : List ℕ) (moves i : ℕ) : Type 0 where
+  pub arrays : Arrays rows frames depths
+  pub placed : (u : ℕ) → (getD rows u 0 ≡ 0 → ⊥) → Placed (keptAt rows frames depths u)
   pub few : moves ≤ i
   pub same-length : length s ≡ length s₀
-  pub sofar : (P : Program) (rest : List ℕ) → Loaded p P → Valid mosts P → Held s₀ start rest → Sofar p turns P s rest h known moves i
+  pub sofar : (P : Program) (rest : List ℕ) → Loaded p P → Valid mosts P → Held s₀ start rest → Sofar p turns P s rest rows frames depths moves i
 
-pub at-start : (p s turns : List ℕ) {h : Here} → Placed h → Playing p s turns s h 256 0 0
-at-start p s turns placed =
+pub at-start : (p s turns : List ℕ) → Playing p s turns s (replicate 16 0) (replicate 16 0) (replicate 16 0) 0 0
+at-start p s turns =
+    let none : (u : ℕ) → _≡_ {A = ℕ} (getD (replicate 16 0) u 0) 0 = λ u. every-get (λ (x : ℕ). x ≡ 0) (replicate 16 0) u 0 refl (every-replicate (λ (x : ℕ). x ≡ 0) 16 0 refl) in
     record {
-      placed = placed;
+      arrays = record { rows-long = refl; frames-long = refl; depths-long = refl };
+      placed = λ u some. absurd (some (none u));
       few = omega arith;
       same-length = refl;
-      sofar = λ P rest loaded valid held. record { state = start; reached = reached-start turns P s rest valid held; knows = λ low. impossible (omega (arith, low)) };
+      sofar = λ P rest loaded valid held. record { state = start; reached = reached-start turns P s rest valid held; knows = λ u some. absurd (some (none u)) };
     }
 
-pub at-end : {p s₀ turns s : List ℕ} {h : Here} {known moves i : ℕ} → Playing p s₀ turns s h known moves i → length turns ≤ i → Plays p s₀ turns (Through moves) s
+pub at-end : {p s₀ turns s rows frames depths : List ℕ} {moves i : ℕ} → Playing p s₀ turns s rows frames depths moves i → length turns ≤ i → Plays p s₀ turns (Through moves) s
 at-end {turns = turns} {s = s} {moves = moves} playing all =
     record {
       answers = λ P rest loaded valid held. rw (reached-end (playing .sofar P rest loaded valid held .reached) all) refl;
@@ -239,52 +289,63 @@ at-end {turns = turns} {s = s} {moves = moves} playing all =
     }
 
 -- the same, of what is equal
-pub same-playing : {p s₀ turns s s₁ : List ℕ} {h h₁ : Here} {known known₁ moves moves₁ i : ℕ} → s₁ ≡ s → h₁ ≡ h → known₁ ≡ known → moves₁ ≡ moves
-    → Playing p s₀ turns s h known moves i → Playing p s₀ turns s₁ h₁ known₁ moves₁ i
-same-playing e₀ e₁ e₂ e₃ playing = rw (e₀, e₁, e₂, e₃) playing
+pub same-playing : {p s₀ turns s s₁ rows rows₁ frames frames₁ depths depths₁ : List ℕ} {moves moves₁ i : ℕ}
+    → s₁ ≡ s → rows₁ ≡ rows → frames₁ ≡ frames → depths₁ ≡ depths → moves₁ ≡ moves
+    → Playing p s₀ turns s rows frames depths moves i → Playing p s₀ turns s₁ rows₁ frames₁ depths₁ moves₁ i
+same-playing e₀ e₁ e₂ e₃ e₄ playing = rw (e₀, e₁, e₂, e₃, e₄) playing
 
 -- ---- The thread whose turn it is, looked for
 
--- its place is known, or it has no frame
-pub record Looked (p s₀ turns s : List ℕ) (h : Here) (known moves i t : ℕ) : Type 0 where
-  pub playing : Playing p s₀ turns s h known moves i
-  pub idle : (t ≡ known → ⊥) → (S : State) (rest : List ℕ) → Held s S rest → length (S .threads) ≤ 16 → 0 ≡ length (threadAt S t .frames)
+-- its place is kept, or it has no frame
+pub record Looked (p s₀ turns s rows frames depths : List ℕ) (moves i t : ℕ) : Type 0 where
+  pub playing : Playing p s₀ turns s rows frames depths moves i
+  pub idle : getD rows t 0 ≡ 0 → (P : Program) (n : ℕ) (S : State) (rest : List ℕ) → Loaded p P → Valid mosts P → Held s S rest → Fits mosts P n S
+      → 0 ≡ length (threadAt S t .frames)
 
-module _ {p s₀ turns s : List ℕ} {h : Here} {known moves i t : ℕ} (playing : Playing p s₀ turns s h known moves i) where
-  pub is-known : t ≡ known → Looked p s₀ turns s h known moves i t
-  is-known e = record { playing = playing; idle = λ other. absurd (other e) }
+module _ {p s₀ turns s rows frames depths : List ℕ} {moves i t : ℕ} (playing : Playing p s₀ turns s rows frames depths moves i) where
+  pub is-kept : (getD rows t 0 ≡ 0 → ⊥) → Looked p s₀ turns s rows frames depths moves i t
+  is-kept some = record { playing = playing; idle = λ zero. absurd (some zero) }
 
-  module _ {d : ℕ} (counted : Sees s (λ S. length (S .threads) ≤ 16) (λ S. length (threadAt S t .frames)) d) where
-    pub has-none : d ≡ 0 → Looked p s₀ turns s h known moves i t
-    has-none zero = record { playing = playing; idle = λ other S rest held few. sym zero ∙ counted .sees S rest held few }
+  module _ {d : ℕ} (counted : Sees s Any (λ S. length (threadAt S t .frames)) d) where
+    pub has-none : d ≡ 0 → Looked p s₀ turns s rows frames depths moves i t
+    has-none zero = record { playing = playing; idle = λ empty P n S rest loaded valid held fits. sym zero ∙ counted .sees S rest held tt }
 
-    pub found : {h₁ : Here} → (d ≡ 0 → ⊥) → Placed h₁ → h₁ .thread ≡ t % 16 → Stands p s d h₁ → Looked p s₀ turns s h₁ t moves i t
-    found some placed place stands =
-        record {
-          playing = record {
-            placed = placed;
-            few = playing .few;
-            same-length = playing .same-length;
-            sofar = λ P rest loaded valid held.
-                let so = playing .sofar P rest loaded valid held in
-                let at = so .reached in
-                let count = counted .sees (so .state) rest (at .held) (at .fits .few-threads) in
-                record { state = so .state; reached = at; knows = λ low. located loaded valid (at .fits) (at .held) (threadAt (so .state) t .frames) refl count some place stands };
-          };
-          idle = λ other. absurd (other refl);
-        }
+    module _ {h : Here} (some : d ≡ 0 → ⊥) (few : t < 16) (placed : Placed h) (place : h .thread ≡ t) (stands : Stands p s d h) where
+      found-there : {P : Program} {n : ℕ} {S : State} {rest : List ℕ} → Loaded p P → Valid mosts P → Held s S rest → Fits mosts P n S → Knows p P S h
+      found-there {S = S} {rest} loaded valid held fits =
+          located loaded valid fits held
+          (counted .sees S rest held tt ∙ ap (λ (u : ℕ). length (threadAt S u .frames)) (sym place)) some stands
 
-pub same-looked : {p s₀ turns s : List ℕ} {h h₁ : Here} {known known₁ moves i t : ℕ} → h₁ ≡ h → known₁ ≡ known → Looked p s₀ turns s h known moves i t
-    → Looked p s₀ turns s h₁ known₁ moves i t
-same-looked e₁ e₂ looked = rw (e₁, e₂) looked
+      pub found : Looked p s₀ turns s (set rows t (h .row)) (set frames t (h .frame)) (set depths t (h .depth)) moves i t
+      found =
+          let at = keptAt rows frames depths in
+          let at₁ = keptAt (set rows t (h .row)) (set frames t (h .frame)) (set depths t (h .depth)) in
+          let arrays = playing .arrays in
+          let stored : at₁ t ≡ h = stored-place rows frames depths t arrays h place few in
+          record {
+            playing = record {
+              arrays = stored-arrays rows frames depths t arrays h;
+              placed = each-kept Placed t at at₁ (stored-others rows frames depths t h) (λ u other. playing .placed u) (λ filled. subst Placed (sym stored) placed);
+              few = playing .few;
+              same-length = playing .same-length;
+              sofar = λ P rest loaded valid held.
+                  let so = playing .sofar P rest loaded valid held in
+                  let knows = found-there loaded valid (so .reached .held) (so .reached .fits) in
+                  record {
+                    state = so .state;
+                    reached = so .reached;
+                    knows = each-kept (Knows p P (so .state)) t at at₁ (stored-others rows frames depths t h) (λ u other. so .knows u) (λ filled. subst (Knows p P (so .state)) (sym stored) knows);
+                  };
+            };
+            idle = λ empty P n S rest loaded valid held fits.
+                absurd (row-there (found-there loaded valid held fits) loaded fits (sym (ap (λ (x : Here). x .row) stored) ∙ empty));
+          }
+
+pub same-looked : {p s₀ turns s rows rows₁ frames frames₁ depths depths₁ : List ℕ} {moves i t : ℕ} → rows₁ ≡ rows → frames₁ ≡ frames → depths₁ ≡ depths
+    → Looked p s₀ turns s rows frames depths moves i t → Looked p s₀ turns s rows₁ frames₁ depths₁ moves i t
+same-looked e₀ e₁ e₂ looked = rw (e₀, e₁, e₂) looked
 
 -- ---- The turn
-
--- a thread that has no frame waits
-no-frame-waits : (P : Program) (S : State) (t : ℕ) → (fs : List Frame) → threadAt S t .frames ≡ fs → 0 ≡ length (threadAt S t .frames) → turn mosts P S t ≡ wait
-unfolding turn turnOf
-no-frame-waits P S t [] e zero = ap (turnOf mosts P S t (threadAt S t .sender)) e
-no-frame-waits P S t (f ∷ fs) e zero = impossible (omega (arith, zero ∙ ap length e))
 
 -- a turn of thread t, at line l of block b, stopped the run with number k
 record StoppedAt (turns : List ℕ) (P : Program) (rest s : List ℕ) (k t b l n : ℕ) : Type 0 where
@@ -294,71 +355,88 @@ record StoppedAt (turns : List ℕ) (P : Program) (rest s : List ℕ) (k t b l n
   block : b ≡ blockOf (threadAt state t .frames)
   line : l ≡ lineNow (threadAt state t .frames)
 
-module _ {p s₀ turns s : List ℕ} {h : Here} {known moves i t : ℕ} (looked : Looked p s₀ turns s h known moves i t) (more : i < length turns) (is : t ≡ getD turns i 0) where
-  pub turn-idles : (t ≡ known → ⊥) → Playing p s₀ turns s h known moves (i + 1)
-  turn-idles other =
-      let playing = looked .playing in
+module _ {p s₀ turns s rows frames depths : List ℕ} {moves i t : ℕ} (playing : Playing p s₀ turns s rows frames depths moves i) (more : i < length turns) (is : t ≡ getD turns i 0) where
+  idles : ((P : Program) (S : State) (rest : List ℕ) → Loaded p P → Valid mosts P → Held s S rest → Fits mosts P moves S → 0 ≡ length (threadAt S t .frames))
+      → Playing p s₀ turns s rows frames depths moves (i + 1)
+  idles idle =
       record {
+        arrays = playing .arrays;
         placed = playing .placed;
         few = omega (arith, playing .few);
         same-length = playing .same-length;
         sofar = λ P rest loaded valid held.
             let so = playing .sofar P rest loaded valid held in
             let at = so .reached in
-            let waits = no-frame-waits P (so .state) t (threadAt (so .state) t .frames) refl (looked .idle other (so .state) rest (at .held) (at .fits .few-threads)) in
+            let waits = no-frame-waits P (so .state) t (idle P (so .state) rest loaded valid (at .held) (at .fits)) in
             record { state = so .state; reached = waits-on at more is waits; knows = so .knows };
       }
 
-  module _ (few : length turns ≤ Most.turns) (byte : t < 256) (same : t ≡ known) where
-    knows-turn : {P : Program} {rest : List ℕ} (so : Sofar p turns P s rest h known moves i) → Knows p P (so .state) t h
-    knows-turn {P} so = subst (λ (u : ℕ). Knows p P (so .state) u h) (sym same) (so .knows (omega (arith, byte, same)))
+  -- there is no such thread
+  pub no-turn : 16 ≤ t → Playing p s₀ turns s rows frames depths moves (i + 1)
+  no-turn past = idles λ P S rest loaded valid held fits. no-frames S t (fits .few-threads) past
 
+  module _ (few : length turns ≤ Most.turns) (some : getD rows t 0 ≡ 0 → ⊥) where
     few-moves : moves < Most.turns
-    few-moves = omega (arith, looked .playing .few)
+    few-moves = omega (arith, playing .few)
 
     -- the turn's step, of one program
-    turn-performed : {r : Step} {s₁ : List ℕ} → PerformsHere p s h r s₁ → {P : Program} {rest : List ℕ} → Loaded p P → Valid mosts P
-        → (so : Sofar p turns P s rest h known moves i) → (let k = knows-turn so in Performed (h .thread) (k .frame) (k .callers) s rest r s₁ (turn mosts P (so .state) t))
-    turn-performed does loaded valid so = performed-turn valid (so .reached) (knows-turn so) loaded few-moves does
+    turn-performed : {r : Step} {s₁ : List ℕ} → PerformsHere p s (keptAt rows frames depths t) r s₁ → {P : Program} {rest : List ℕ} → Loaded p P → Valid mosts P
+        → (so : Sofar p turns P s rest rows frames depths moves i) → (let k = so .knows t some in Performed t (k .frame) (k .callers) s rest r s₁ (turn mosts P (so .state) t))
+    turn-performed does loaded valid so = performed-turn valid (so .reached) (so .knows t some) loaded few-moves does
 
-    -- a turn that moves, and what it makes known
-    moves-turn : {r : Step} {s₁ : List ℕ} {h₁ : Here} {known₁ : ℕ} → PerformsHere p s h r s₁ → IsMove r → Placed h₁ → length s₁ ≡ length s
-        → ((P : Program) (S S₁ : State) (k : Knows p P S t h) → Loaded p P → Fits mosts P (moves + 1) S₁ → Went (h .thread) (k .frame) (k .callers) S₁ r
-        → known₁ < 256 → Knows p P S₁ known₁ h₁)
-        → Playing p s₀ turns s₁ h₁ known₁ (moves + 1) (i + 1)
-    moves-turn does move placed long then =
-        let playing = looked .playing in
+    -- a turn that moves, and the place that it leaves to keep
+    moves-turn : {r : Step} {s₁ rows₁ : List ℕ} → PerformsHere p s (keptAt rows frames depths t) r s₁ → IsMove r → length s₁ ≡ length s → Others t rows rows₁
+        → ((getD rows₁ t 0 ≡ 0 → ⊥) → Placed (keptAt rows₁ frames depths t))
+        → ((P : Program) (S S₁ : State) (k : Knows p P S (keptAt rows frames depths t)) → Loaded p P → Fits mosts P (moves + 1) S₁ → Went t (k .frame) (k .callers) S₁ r
+        → (getD rows₁ t 0 ≡ 0 → ⊥) → Knows p P S₁ (keptAt rows₁ frames depths t))
+        → Playing p s₀ turns s₁ rows₁ frames depths (moves + 1) (i + 1)
+    moves-turn {rows₁ = rows₁} does move long others placed then =
+        let at = keptAt rows frames depths in
+        let at₁ = keptAt rows₁ frames depths in
+        let same : (u : ℕ) → (u ≡ t → ⊥) → at₁ u ≡ at u = λ u other. ap (atRow (at u)) (others .same u other) in
+        let arrays = playing .arrays in
         record {
-          placed = placed;
+          arrays = record { rows-long = others .long ∙ arrays .rows-long; frames-long = arrays .frames-long; depths-long = arrays .depths-long };
+          placed = each-kept Placed t at at₁ same (λ u other. playing .placed u) placed;
           few = omega (arith, playing .few);
           same-length = long ∙ playing .same-length;
           sofar = λ P rest loaded valid held.
               let so = playing .sofar P rest loaded valid held in
               let to = has-moved (turn-performed does loaded valid so) move in
-              let at = moves-on (so .reached) more is valid (to .is) (to .held) in
-              record { state = to .state; reached = at; knows = then P (so .state) (to .state) (knows-turn so) loaded (at .fits) (to .went) };
+              let reached = moves-on (so .reached) more is valid (to .is) (to .held) in
+              record {
+                state = to .state;
+                reached = reached;
+                knows = each-kept (Knows p P (to .state)) t at at₁ same (λ u other kept. knows-other (so .knows u kept) t (to .is) other)
+                    (then P (so .state) (to .state) (so .knows t some) loaded (reached .fits) (to .went));
+              };
         }
 
-    pub turn-goes-next : {r : Step} {s₁ : List ℕ} {h₁ : Here} → r ≡ Next → PerformsHere p s h r s₁ → length s₁ ≡ length s → Placed h₁ → h₁ .thread ≡ h .thread
-        → h₁ .depth ≡ h .depth → h₁ .row ≡ (h .row + 8) % 8192 → Playing p s₀ turns s₁ h₁ known (moves + 1) (i + 1)
-    turn-goes-next e does long placed thread depth row =
-        moves-turn (same-step e does) tt placed long
-        λ P S S₁ k loaded fits went low. rw (← same) (knows-next k loaded fits (went-next went) thread depth row)
+    pub turn-goes-next : {r : Step} {s₁ : List ℕ} {h : Here} → r ≡ Next → PerformsHere p s (keptAt rows frames depths t) r s₁ → length s₁ ≡ length s → Placed h
+        → h .row ≡ (getD rows t 0 + 8) % 8192 → Playing p s₀ turns s₁ (set rows t (h .row)) frames depths (moves + 1) (i + 1)
+    turn-goes-next {h = h} e does long placed row =
+        let here = playing .placed t some in
+        let stored : getD (set rows t (h .row)) t 0 ≡ h .row = getD-set-same rows t (h .row) 0 (omega (arith, here .thread, playing .arrays .rows-long)) in
+        moves-turn (same-step e does) tt long (row-set t (h .row))
+        (λ kept. record { thread = here .thread; depth = here .depth; frame = here .frame; row = rw stored (placed .row); aligned = rw stored (placed .aligned) })
+        (λ P S S₁ k loaded fits went kept. knows-next k loaded fits (went-next went) (stored ∙ row))
 
-    pub turn-stays : {r : Step} {s₁ : List ℕ} → r ≡ Stay → PerformsHere p s h r s₁ → length s₁ ≡ length s → Playing p s₀ turns s₁ h known (moves + 1) (i + 1)
+    pub turn-stays : {r : Step} {s₁ : List ℕ} → r ≡ Stay → PerformsHere p s (keptAt rows frames depths t) r s₁ → length s₁ ≡ length s
+        → Playing p s₀ turns s₁ rows frames depths (moves + 1) (i + 1)
     turn-stays e does long =
-        moves-turn (same-step e does) tt (looked .playing .placed) long
-        λ P S S₁ k loaded fits went low. rw (← same) (knows-same k (went-same went))
+        moves-turn (same-step e does) tt long (row-same t) (playing .placed t) (λ P S S₁ k loaded fits went kept. knows-same k (went-same went))
 
-    pub turn-leaves-frame : {r : Step} {s₁ : List ℕ} → r ≡ Turned → PerformsHere p s h r s₁ → length s₁ ≡ length s → Playing p s₀ turns s₁ h 256 (moves + 1) (i + 1)
+    pub turn-leaves-frame : {r : Step} {s₁ : List ℕ} → r ≡ Turned → PerformsHere p s (keptAt rows frames depths t) r s₁ → length s₁ ≡ length s
+        → Playing p s₀ turns s₁ (set rows t 0) frames depths (moves + 1) (i + 1)
     turn-leaves-frame e does long =
-        moves-turn (same-step e does) tt (looked .playing .placed) long
-        λ P S S₁ k loaded fits went low. impossible (omega (arith, low))
+        let none = getD-set-same rows t 0 0 (omega (arith, playing .placed t some .thread, playing .arrays .rows-long)) in
+        moves-turn (same-step e does) tt long (row-set t 0) (λ kept. absurd (kept none)) (λ P S S₁ k loaded fits went kept. absurd (kept none))
 
-    pub turn-waits : {r : Step} {s₁ : List ℕ} → r ≡ Waits → PerformsHere p s h r s₁ → length s₁ ≡ length s → Playing p s₀ turns s₁ h known moves (i + 1)
+    pub turn-waits : {r : Step} {s₁ : List ℕ} → r ≡ Waits → PerformsHere p s (keptAt rows frames depths t) r s₁ → length s₁ ≡ length s
+        → Playing p s₀ turns s₁ rows frames depths moves (i + 1)
     turn-waits e does long =
-        let playing = looked .playing in
         record {
+          arrays = playing .arrays;
           placed = playing .placed;
           few = omega (arith, playing .few);
           same-length = long ∙ playing .same-length;
@@ -369,33 +447,37 @@ module _ {p s₀ turns s : List ℕ} {h : Here} {known moves i t : ℕ} (looked 
         }
 
     -- a stop: block and line are those of the innermost frame
-    module _ {s₁ : List ℕ} {k b l : ℕ} (does : PerformsHere p s h (Stops k) s₁) (block : Sees s₁ Any (λ S. frameAt S (h .thread) (h .depth) .block) b)
-        (line : Sees s₁ Any (λ S. frameAt S (h .thread) (h .depth) .line) l) where
-      stopped-at : {P : Program} {rest : List ℕ} → Loaded p P → Valid mosts P → Sofar p turns P s rest h known moves i → StoppedAt turns P rest s₁ k t b l moves
+    module _ {s₁ : List ℕ} {k b l : ℕ} (does : PerformsHere p s (keptAt rows frames depths t) (Stops k) s₁)
+        (block : Sees s₁ Any (λ S. frameAt S t (getD depths t 0) .block) b) (line : Sees s₁ Any (λ S. frameAt S t (getD depths t 0) .line) l) where
+      stopped-at : {P : Program} {rest : List ℕ} → Loaded p P → Valid mosts P → Sofar p turns P s rest rows frames depths moves i → StoppedAt turns P rest s₁ k t b l moves
       unfolding blockOf lineNow
       stopped-at {P} {rest} loaded valid so =
           let S = so .state in
-          let kept = knows-turn so in
+          let known = so .knows t some in
           let did = has-stopped (turn-performed does loaded valid so) in
           let held : Held s₁ S rest = rw (did .1) (so .reached .held) in
-          let frame = frame-is (stand valid (so .reached) kept) in
-          let frames = ap (λ (u : ℕ). threadAt S u .frames) (sym (kept .thread)) ∙ kept .frames in
+          let frame = frame-is (stand valid (so .reached) known) in
           record {
             state = S;
             held = held;
             run-is = stops-there (so .reached) more is (did .0);
-            block = block .sees S rest held tt ∙ ap (λ (f : Frame). f .block) frame ∙ sym (ap blockOf frames);
-            line = line .sees S rest held tt ∙ ap (λ (f : Frame). f .line) frame ∙ sym (ap lineNow frames);
+            block = block .sees S rest held tt ∙ ap (λ (f : Frame). f .block) frame ∙ sym (ap blockOf (known .frames));
+            line = line .sees S rest held tt ∙ ap (λ (f : Frame). f .line) frame ∙ sym (ap lineNow (known .frames));
           }
 
       stops-run : Plays p s₀ turns (Stopped k t b l moves) s₁
       stops-run =
           record {
-            answers = λ P rest loaded valid held. let at = stopped-at loaded valid (looked .playing .sofar P rest loaded valid held) in
+            answers = λ P rest loaded valid held. let at = stopped-at loaded valid (playing .sofar P rest loaded valid held) in
                 rw (at .run-is) (ap (λ (x : ℕ). Stopped k t x l moves) (at .block) ∙ ap (λ (y : ℕ). Stopped k t (blockOf (threadAt (at .state) t .frames)) y moves) (at .line));
-            leaves = λ P rest loaded valid held. let at = stopped-at loaded valid (looked .playing .sofar P rest loaded valid held) in rw (at .run-is) (at .held);
+            leaves = λ P rest loaded valid held. let at = stopped-at loaded valid (playing .sofar P rest loaded valid held) in rw (at .run-is) (at .held);
           }
 
-    pub turn-stops : {r : Step} {s₁ : List ℕ} {k b l : ℕ} → r ≡ Stops k → PerformsHere p s h r s₁ → Sees s₁ Any (λ S. frameAt S (h .thread) (h .depth) .block) b
-        → Sees s₁ Any (λ S. frameAt S (h .thread) (h .depth) .line) l → Plays p s₀ turns (Stopped k t b l moves) s₁
+    pub turn-stops : {r : Step} {s₁ : List ℕ} {k b l : ℕ} → r ≡ Stops k → PerformsHere p s (keptAt rows frames depths t) r s₁
+        → Sees s₁ Any (λ S. frameAt S t (getD depths t 0) .block) b → Sees s₁ Any (λ S. frameAt S t (getD depths t 0) .line) l → Plays p s₀ turns (Stopped k t b l moves) s₁
     turn-stops e does block line = stops-run (same-step e does) block line
+
+-- the thread has no frame
+pub turn-idles : {p s₀ turns s rows frames depths : List ℕ} {moves i t : ℕ} → Looked p s₀ turns s rows frames depths moves i t → i < length turns → t ≡ getD turns i 0
+    → getD rows t 0 ≡ 0 → Playing p s₀ turns s rows frames depths moves (i + 1)
+turn-idles {moves = moves} looked more is empty = idles (looked .playing) more is λ P S rest loaded valid held fits. looked .idle empty P moves S rest loaded valid held fits

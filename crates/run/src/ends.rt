@@ -1,6 +1,5 @@
 // How a run ends that no turn stopped: "finished (all threads finished), stuck (some unfinished, and each of these would wait), else open".
 use super::Answer;
-ghost use mathlib.Core.Path.{_≡_};
 ghost use Prim.Native.Nat.{_≤_};
 ghost use lib.ListN.{length};
 ghost use Rattle.rules.specs.Run.{allFinished};

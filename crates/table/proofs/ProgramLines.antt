@@ -151,14 +151,23 @@ module _ {t counts rest : List ℕ} {Fs : List Form} (filled : Filled t counts F
       ∙ ap (λ l. getD l 0 0) (sym (opener-row (getD (blocksOf Fs) b noBlock .sort)))
 
 module _ (P : Program) {t counts rest : List ℕ} (filled : Filled t counts (linesOf P) rest) where
+  -- a line of a block is one of the program's lines
+  pub line-there : (b l : ℕ) → b < mosts .blocks → b < length (P .blocks) → l ≤ length (blockAt P b .lets) → getD t (8 + b) 0 + l < length (linesOf P)
+  unfolding lineAt
+  line-there b l few h m =
+      let s = block-stands P b h in
+      let there : s .at + l < length (linesOf P) = is-there (linesOf P) (s .at + l) (s .lines l m) (λ e. impossible cc) in
+      let first : getD t (8 + b) 0 ≡ 0 + s .at = first-line-is filled b few ∙ s .first in
+      omega (arith, first, there)
+
   pub line-part-is : (b l k : ℕ) → b < mosts .blocks → b < length (P .blocks) → l ≤ length (blockAt P b .lets) → k < 8
       → getD t ((72 + (getD t (8 + b) 0 + l) * 8 + k) % 8192) 0 ≡ getD (row (line (lineAt P b l))) k 0
   unfolding lineAt
   line-part-is b l k few h m c =
       let s = block-stands P b h in
       let stands : getD (linesOf P) (s .at + l) noForm ≡ line (lineAt P b l) = s .lines l m in
-      let there : s .at + l < length (linesOf P) = is-there (linesOf P) (s .at + l) stands (λ e. impossible cc) in
       let first : getD t (8 + b) 0 ≡ 0 + s .at = first-line-is filled b few ∙ s .first in
+      let there : s .at + l < length (linesOf P) = omega (arith, first, line-there b l few h m) in
       let place : (72 + (getD t (8 + b) 0 + l) * 8 + k) % 8192 ≡ 72 + (s .at + l) * 8 + k = omega (arith, first, there, filled .lines) in
       line-word-is filled (s .at + l) k _ there c place ∙ ap (λ F. getD (row F) k 0) stands
 

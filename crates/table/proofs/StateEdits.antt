@@ -1,13 +1,12 @@
--- The abstract state, edited: a thread put and read again, a frame edited and read again, one edit after another.
+-- The abstract state, edited: a thread put and read again, a frame of a thread found and edited, one edit after another.
 use Prim.Native.Nat.{ℕ, suc, _<_}
 use native.Mathlib.Nat.{not-suc-le-zero}
 use native.Mathlib.Omega.{arith}
 use mathlib.Core.Path.{_≡_, refl, sym, ap, _∙_}
-use mathlib.Core.Logic.{_≢_}
 use mathlib.Core.List.{List, [], _∷_}
 use lib.Dec.{eqb}
 use lib.ListN.{length, getD, set, length-set, List·getD-append}
-use lib.Seq.{getD-at, getD-set-same, getD-set-other, set-at, set-append-left, set-set}
+use lib.Seq.{getD-at, getD-set-same, set-at, set-append-left, set-set}
 use borrow.Author.Tests.{eqb-true, eqb-false}
 use Rattle.rules.specs.State.{Frame, Sender, Thread, State, threadAt}
 use Rattle.rules.specs.Turn.{putThread}
@@ -66,35 +65,17 @@ edits-agree k g h (f ∷ fs) i e = by-bool (eqb k (length fs))
     let there : k < length (outermostFirst fs) = omega (arith, length-outermost fs) in
     rw t (ap (f ∷_) (edits-agree k g h fs more (rw (List·getD-append (outermostFirst fs) (f ∷ []) noFrame k there) at e))))
 
-pub edited-again : (k : ℕ) (g h : Frame → Frame) (fs : List Frame) → onFrame k h (onFrame k g fs) ≡ onFrame k (λ f. h (g f)) fs
-unfolding onFrame
-edited-again k g h [] = refl
-edited-again k g h (f ∷ fs) = by-bool (eqb k (length fs))
-    (λ t. rw (t, t))
-    (λ t. rw (t, length-edited k g fs, t) (ap (f ∷_) (edited-again k g h fs)))
-
 -- ---- A frame of a thread that has it
+
+-- the innermost one
+pub innermost-frame : (S : State) (t : ℕ) {k : ℕ} {f : Frame} {fs : List Frame} → threadAt S t .frames ≡ f ∷ fs → length fs ≡ k → frameAt S t k ≡ f
+unfolding frameAt outermostFirst
+innermost-frame S t {k} {f} {fs} frames depth = rw frames (getD-at (outermostFirst fs) f [] noFrame k (length-outermost fs ∙ depth))
 
 module _ {S : State} {t k : ℕ} (has : HasFrame t k S) where
   frames-edited : (g : Frame → Frame) (d : Sender) → threadAt (editFrame S t k g d) t .frames ≡ onFrame k g (threadAt S t .frames)
   unfolding editFrame
   frames-edited g d = ap (λ (u : Thread). u .frames) (thread-put S t _ d (has .thread))
-
-  pub frame-edited : (g : Frame → Frame) (d : Sender) → frameAt (editFrame S t k g d) t k ≡ g (frameAt S t k)
-  unfolding frameAt
-  frame-edited g d =
-      let fs = threadAt S t .frames in
-      ap (λ (gs : List Frame). getD (outermostFirst gs) k noFrame) (frames-edited g d)
-      ∙ ap (λ (gs : List Frame). getD gs k noFrame) (outermost-edited k g fs (has .frame))
-      ∙ getD-set-same (outermostFirst fs) k _ noFrame (rw length-outermost (has .frame))
-
-  pub other-frame : (j : ℕ) (g : Frame → Frame) (d : Sender) → j ≢ k → frameAt (editFrame S t k g d) t j ≡ frameAt S t j
-  unfolding frameAt
-  other-frame j g d n =
-      let fs = threadAt S t .frames in
-      ap (λ (gs : List Frame). getD (outermostFirst gs) j noFrame) (frames-edited g d)
-      ∙ ap (λ (gs : List Frame). getD gs j noFrame) (outermost-edited k g fs (has .frame))
-      ∙ getD-set-other (outermostFirst fs) k j _ noFrame n
 
   -- what the frame becomes is known from the frame alone
   pub edit-at : (g : Frame → Frame) (d : Sender) → editFrame S t k (λ _. g (frameAt S t k)) d ≡ editFrame S t k g d
@@ -108,11 +89,3 @@ module _ {S : State} {t k : ℕ} (has : HasFrame t k S) where
   edit-then-sender g d e =
       let fs = onFrame k g (threadAt S t .frames) in
       ap (λ (gs : List Frame). putThread (editFrame S t k g d) t gs e) (frames-edited g d) ∙ put-put S t fs fs d e
-
-  pub edit-edit : (g h : Frame → Frame) (d e : Sender) → editFrame (editFrame S t k g d) t k h e ≡ editFrame S t k (λ f. h (g f)) e
-  unfolding editFrame
-  edit-edit g h d e =
-      let fs = threadAt S t .frames in
-      ap (λ (gs : List Frame). putThread (editFrame S t k g d) t (onFrame k h gs) e) (frames-edited g d)
-      ∙ put-put S t (onFrame k g fs) (onFrame k h (onFrame k g fs)) d e
-      ∙ ap (λ (gs : List Frame). putThread S t gs e) (edited-again k g h fs)

@@ -17,7 +17,7 @@ use Rattle.rules.proofs.TableWords.{length-outermost}
 use Rattle.table.specs.State.{Held, OnLine, frameAt, Innermost, callee, called, left}
 use Rattle.table.specs.Program.{Filled}
 use Rattle.table.specs.declared.state.Here.{Here}
-use Rattle.table.proofs.ProgramLines.{blocks-of-lines, line-part-is}
+use Rattle.table.proofs.ProgramLines.{blocks-of-lines, line-there, line-part-is}
 use Rattle.table.proofs.StateTable.{splice, Part, part-set, frame-part, sender-put, frame-pushed, frame-dropped}
 use Rattle.table.proofs.StateReads.{slot-word}
 use Rattle.table.proofs.StateEdits.{thread-put, put-put, length-put}
@@ -141,3 +141,7 @@ module _ (P : Program) {p counts rest : List ℕ} (filled : Filled p counts (lin
   -- the next line's place is eight words on
   pub next-on-line : {l : ℕ} {h r : Here} → OnLine p P b l h → r .row ≡ (h .row + 8) % 8192 → l < length (blockAt P b .lets) → OnLine p P b (l + 1) r
   next-on-line {l} on at more = let place = on .place in line-at (omega arith) (omega (arith, at, place))
+
+  -- the lines come after the counts and the numbers of the blocks' first lines
+  pub row-past-counts : {l : ℕ} {h : Here} → OnLine p P b l h → l ≤ length (blockAt P b .lets) → 72 ≤ h .row
+  row-past-counts {l} on few = let place = on .place in omega (arith, place, line-there P filled b l small there few, filled .lines)

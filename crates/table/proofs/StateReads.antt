@@ -91,9 +91,9 @@ module _ {l rest : List ℕ} {S : State} (held : Held l S rest) where
 -- ---- What is seen
 
 module _ {l : List ℕ} {r : Value} where
-  pub slot-seen : (t k s i : ℕ) → t < 16 → k < 16 → s < 16 → i ≡ 2058 + t * 306 + k * 19 → r ≡ valueOf (getD l (i + 3 + s) 0)
+  pub slot-seen : (t k s i : ℕ) → t < 16 → k < 16 → s < 16 → i ≡ 2058 + t * 306 + k * 19 + 3 + s → r ≡ valueOf (getD l i 0)
       → Sees l (λ S. InTable (slotAt (frameAt S t k .slots) s)) (λ S. slotAt (frameAt S t k .slots) s) r
-  slot-seen t k s i h m lt place e = record { sees = λ S rest held in-table. e ∙ ap valueOf (slot-word held t k s (i + 3 + s) h m lt (omega arith)) ∙ value-of-word (slotAt (frameAt S t k .slots) s) in-table }
+  slot-seen t k s i h m lt place e = record { sees = λ S rest held in-table. e ∙ ap valueOf (slot-word held t k s i h m lt place) ∙ value-of-word (slotAt (frameAt S t k .slots) s) in-table }
 
   pub field-seen : (o j : ℕ) → o < 256 → j < 4 → r ≡ valueOf (getD l (12 + o * 8 + j) 0) → Sees l (FieldIn o j) (λ S. slotAt (objectAt (S .objects) o .fields) j) r
   field-seen o j h lt e = record { sees = λ S rest held has. e ∙ ap valueOf (field-word held o j (12 + o * 8 + j) h lt refl) ∙ value-of-word (slotAt (objectAt (S .objects) o .fields) j) (has .in-table) }

@@ -24,6 +24,7 @@ pub use state::field;
 pub use state::frame_block;
 pub use state::frame_count;
 pub use state::frame_line;
+pub use state::frame_slot;
 pub use state::give_field;
 pub use state::give_message;
 pub use state::give_slot;

@@ -129,6 +129,15 @@ pub fn slot(s: &[u16], h: Here, i: usize) -> Value
     unpack(s[at + 3 + i])
 }
 
+// Slot i of frame k of thread t; absent where it is not filled.
+pub fn frame_slot(s: &[u16], t: usize, k: usize, i: usize) -> Value
+    requires { ⌜ (8192 ≤ length (now s)) × (t < 16) × (k < 16) × (i < 16) ⌝ }
+    ensures { λ r. ⌜ (r ≡ valueOf (getD (now (s .entry)) (2061 + t * 306 + k * 19 + i) 0)) × InTable r ⌝ }
+    ensures { λ r. ⌜ Sees (now (s .entry)) (λ S. InTable (slotAt (frameAt S t k .slots) i)) (λ S. slotAt (frameAt S t k .slots) i) r ⌝ }
+{
+    unpack(s[2061 + t * 306 + k * 19 + i])
+}
+
 pub fn cap(s: &[u16], o: u16) -> Cap
     requires { ⌜ (8192 ≤ length (now s)) × (o < 256) ⌝ }
     ensures { λ r. ⌜ r ≡ capOf (getD (now (s .entry)) (8 + o * 8) 0) ⌝ }

@@ -1,7 +1,5 @@
--- The lines that enter and leave a frame, call and give. A call pushes the method's frame, then leaves the operand's slot in its caller; a give gives the
--- slot's value to the caller, then ends the frame. In both the caller's frame is edited past the innermost one.
+-- The lines call and give: a frame is pushed, then the operand's slot in its caller is left; the caller is given the slot's value, then the frame ends.
 use Prim.Native.Nat.{ℕ, suc, _-_, _/_, _%_, _≤_, _<_}
-use native.Mathlib.Nat.{mod-eq-of-lt}
 use native.Mathlib.Omega.{arith}
 use mathlib.Core.Path.{_≡_, refl, sym, ap, _∙_, subst}
 use mathlib.Core.List.{List, [], _∷_, map}
@@ -18,67 +16,52 @@ use Rattle.rules.specs.Tables.{operandOf, outermostFirst, noFrame}
 use Rattle.rules.specs.Turn.{leftBy, object, putThread, filled, withSlots, isAbsent, giveLine, letLine, perform}
 use Rattle.rules.proofs.ListLaws.{impossible, get-there}
 use Rattle.rules.proofs.Moves.{MethodCalled, Step, by-call, by-return, by-finish}
-use Rattle.rules.proofs.Keeps.{here-fits, block-ok}
-use Rattle.rules.proofs.TableWords.{length-outermost}
+use Rattle.rules.proofs.Keeps.{block-ok}
+use Rattle.rules.proofs.TableWords.{length-outermost, slot-of-word}
 use Rattle.table.specs.declared.state.Here.{Here}
-use Rattle.table.specs.State.{Held, Becomes, frameAt, onFrame, editFrame, HasFrame, HasRoom, HasSlot, Innermost, given, callee, called, innerLess, left}
-use Rattle.table.proofs.StateEdits.{thread-put, put-put, length-put}
+use Rattle.table.specs.State.{Held, Becomes, frameAt, onFrame, editFrame, HasFrame, HasRoom, HasSlot, Innermost, given, callee, called, left}
+use Rattle.table.proofs.StateEdits.{thread-put, put-put}
 use Rattle.checks.specs.declared.lines.Check.{Check}
 use Rattle.checks.specs.Checked.{numberOf, hereAt, Stand, MethodItem, ChecksCall}
-use Rattle.checks.proofs.CheckLaws.{left-was-there}
-use Rattle.checks.proofs.Standing.{SlotSeen, slots-few, OperandChecked, slot-read, slot-object, kind-is-there}
+use Rattle.checks.proofs.CheckLaws.{then-gives, left-was-there}
+use Rattle.checks.proofs.Standing.{SlotSeen, fits-here, slots-few, OperandChecked, slot-found, slot-read, slot-object, kind-is-there}
 use Rattle.turn.specs.declared.lines.Step as C
 use Rattle.turn.specs.declared.lines.Step.the-variants.{Turned}
 use Rattle.turn.specs.Performed.{emptied, Went, to-other, Always, Loaded}
-use Rattle.turn.proofs.Steps.{Answers, Writes, then-moves, word-names, slot-of-word, let-names, give-names}
-use Rattle.turn.proofs.Frames.{Inside, inside, inside-put, frame-inside}
+use Rattle.turn.proofs.Steps.{Answers, Writes, word-names, let-names, give-names}
+use Rattle.turn.proofs.Frames.{Inside, inside, inside-put, innermost, left-inside}
 
 -- ---- The frame that called the innermost one
 
 -- thread t's innermost frame is g, called by c, which is inside of k others
-record CalledBy (t k : ℕ) (g c : Frame) (cs : List Frame) (S : State) : Type 0 where
-  thread : t < length (S .threads)
-  frames : threadAt S t .frames ≡ g ∷ c ∷ cs
-  depth : length cs ≡ k
+module _ {t k : ℕ} {g c : Frame} {cs : List Frame} {S : State} (in-call : Inside t (suc k) g (c ∷ cs) S) where
+  caller-depth : length cs ≡ k
+  caller-depth = omega (arith, in-call .depth)
 
-module _ {t k : ℕ} {g c : Frame} {cs : List Frame} {S : State} (in-call : CalledBy t k g c cs S) where
   caller-frame : frameAt S t k ≡ c
   unfolding frameAt outermostFirst
   caller-frame =
-      let there : k < length (outermostFirst (c ∷ cs)) = omega (arith, length-outermost (c ∷ cs), in-call .depth) in
-      rw (in-call .frames) (List·getD-append (outermostFirst (c ∷ cs)) (g ∷ []) noFrame k there ∙ getD-at (outermostFirst cs) c [] noFrame k (length-outermost cs ∙ in-call .depth))
+      let there : k < length (outermostFirst (c ∷ cs)) = omega (arith, length-outermost (c ∷ cs), caller-depth) in
+      rw (in-call .frames) (List·getD-append (outermostFirst (c ∷ cs)) (g ∷ []) noFrame k there ∙ getD-at (outermostFirst cs) c [] noFrame k (length-outermost cs ∙ caller-depth))
 
   has-caller : HasFrame t k S
-  has-caller = record { thread = in-call .thread; frame = rw (in-call .frames) (omega (arith, in-call .depth)) }
+  has-caller = record { thread = in-call .thread; frame = rw (in-call .frames) (omega (arith, caller-depth)) }
 
   edit-caller : (e : Frame → Frame) (d : Sender) → editFrame S t k e d ≡ putThread S t (g ∷ e c ∷ cs) d
   unfolding editFrame onFrame
   edit-caller e d =
-      let inner : k ≡ suc (length cs) → ⊥ = λ same. omega (arith, same, in-call .depth) in
-      rw (in-call .frames, ne-eqb k (suc (length cs)) inner, eq-eqb k (length cs) (sym (in-call .depth))) refl
+      let inner : k ≡ suc (length cs) → ⊥ = λ same. omega (arith, same, caller-depth) in
+      rw (in-call .frames, ne-eqb k (suc (length cs)) inner, eq-eqb k (length cs) (sym caller-depth)) refl
 
 -- after a frame more was put
-called-by : {t k : ℕ} {f : Frame} {fs : List Frame} {S : State} → Inside t k f fs S → (g : Frame) → CalledBy t k g f fs (putThread S t (g ∷ f ∷ fs) ready)
-called-by {t} {k} {f} {fs} {S} in-frame g =
-    record {
-      thread = rw (length-put S t (g ∷ f ∷ fs) ready) (in-frame .thread);
-      frames = ap (λ (u : Thread). u .frames) (thread-put S t (g ∷ f ∷ fs) ready (in-frame .thread));
-      depth = in-frame .depth;
-    }
+called-by : {t k : ℕ} {f : Frame} {fs : List Frame} {S : State} → Inside t k f fs S → (g : Frame) → Inside t (suc k) g (f ∷ fs) (putThread S t (g ∷ f ∷ fs) ready)
+called-by {S = S} in-frame g = inside-put S ready (in-frame .thread) (ap suc (in-frame .depth))
 
 -- ---- give: the operand's word w
 
 pub give-answers : {s : List ℕ} {h : Here} {k : Check} (w : ℕ) → OperandChecked s h w k → Answers Always s h (give (operandOf w)) k
 unfolding perform giveLine
-give-answers w first = record { answers = λ P n S f fs rest q st at-line. first .checks P n S f fs rest st (word-names st w (give-names st at-line), tt) ∙ then-moves _ _ }
-
--- the innermost frame ends
-left-inside : {t k : ℕ} {f : Frame} {fs : List Frame} {S : State} → Inside t k f fs S → left t S ≡ putThread S t fs ready
-unfolding left innerLess
-left-inside in-frame = rw (in-frame .frames) refl
-
-innermost : {t k : ℕ} {f : Frame} {fs : List Frame} {S : State} → Inside t k f fs S → Innermost t k S
-innermost in-frame = record { thread = in-frame .thread; frames = rw (in-frame .frames) (ap suc (in-frame .depth)) }
+give-answers w first = record { answers = λ P n S f fs rest q st at-line. first .checks P n S f fs rest st (word-names st w (give-names st at-line), tt) ∙ sym (then-gives _ _) }
 
 -- from the outermost frame: it ends
 module _ {s s₁ : List ℕ} {h : Here} {w : Operand} (outermost : h .depth ≡ 0) (drops : Becomes s (Innermost (h .thread) (h .depth)) (left (h .thread)) s₁) where
@@ -98,13 +81,13 @@ module _ {s s₁ : List ℕ} {h : Here} {w : Operand} (outermost : h .depth ≡ 
 -- a caller has room for what it is given
 caller-room : {s : List ℕ} {h : Here} {P : Program} {n : ℕ} {S : State} {f c : Frame} {cs : List Frame} {rest : List ℕ} → Stand s h P n S f (c ∷ cs) rest
     → (length (c .slots) < Most.slots) × (c .line < Most.turns)
-caller-room {h = h} {P = P} {n = n} {S = S} {f = f} {c = c} {cs = cs} st =
-    let fits = here-fits mosts P n S (h .thread) f (c ∷ cs) (st .fits) (st .frames) .callers .0 in
+caller-room {P = P} {c = c} st =
+    let fits = fits-here st .callers .0 in
     let few = block-ok mosts P (st .valid) (c .block) (fits .frame .block) .few in
     (omega (arith, few, fits .at-let, fits .frame .count), omega (arith, few, fits .at-let))
 
 -- the caller is given v, then the innermost frame ends
-given-then-left : {t k : ℕ} {f c : Frame} {cs : List Frame} {S : State} → CalledBy t k f c cs S → (v : Value)
+given-then-left : {t k : ℕ} {f c : Frame} {cs : List Frame} {S : State} → Inside t (suc k) f (c ∷ cs) S → (v : Value)
     → left t (given t k v S) ≡ putThread S t (filled c (c .slots) v ∷ cs) ready
 unfolding given
 given-then-left {t} {k} {f} {c} {cs} {S} in-call v =
@@ -124,11 +107,9 @@ module _ {s s₁ s₂ : List ℕ} {h : Here} {i : ℕ} (w : ℕ) (inner : h .dep
       let k = h .depth - 1 in
       let v = slotAt (f .slots) (w / 2) in
       let here = inside st in
-      let in-call : CalledBy t k f c cs S = record { thread = here .thread; frames = here .frames; depth = omega (arith, st .depth) } in
-      let same : i ≡ w / 2 = place ∙ mod-eq-of-lt (omega (arith, there, slots-few st)) in
-      let is-value : slotAt (frameAt S t (h .depth) .slots) i ≡ v = ap (λ (g : Frame). slotAt (g .slots) i) (frame-inside here) ∙ ap (slotAt (f .slots)) same in
+      let in-call : Inside t (suc k) f (c ∷ cs) S = record { thread = here .thread; frames = here .frames; depth = omega (arith, st .depth) } in
       let room : HasRoom t k S = record { has = has-caller in-call; room = rw (caller-frame in-call) (caller-room st .0); line = rw (caller-frame in-call) (caller-room st .1) } in
-      let first : Held s₁ (given t k v S) rest = subst (λ (u : Value). Held s₁ (given t k u S) rest) is-value (returns .becomes S rest (st .held) room) in
+      let first : Held s₁ (given t k v S) rest = subst (λ (u : Value). Held s₁ (given t k u S) rest) (slot-found st (w / 2) i place there) (returns .becomes S rest (st .held) room) in
       let now-in : Inside t (h .depth) f (filled c (c .slots) v ∷ cs) (given t k v S) =
       rw (edit-caller in-call (λ c. filled c (c .slots) v) ready) (inside-put S ready (here .thread) (st .depth)) in
       subst (λ (R : State). Held s₂ R rest) (given-then-left in-call v) (drops .becomes (given t k v S) rest first (innermost now-in))
@@ -212,13 +193,9 @@ module _ {p s : List ℕ} {h : Here} {o m : ℕ} {a : Value} (i j : ℕ) (target
         let t = h .thread in
         let k = h .depth in
         let here = inside st in
-        let is-target : slotAt (frameAt S t k .slots) (i % 16) ≡ slotAt (f .slots) i =
-        ap (λ (g : Frame). slotAt (g .slots) (i % 16)) (frame-inside here) ∙ ap (slotAt (f .slots)) (mod-eq-of-lt (omega (arith, named, slots-few st))) in
-        let is-value : slotAt (frameAt S t k .slots) l ≡ slotAt (f .slots) (w / 2) =
-        ap (λ (g : Frame). slotAt (g .slots) l) (frame-inside here) ∙ ap (slotAt (f .slots)) (value-place ∙ mod-eq-of-lt (omega (arith, there, slots-few st))) in
         let g : Frame = callee (m - 1) (slotAt (f .slots) i) (slotAt (f .slots) (w / 2)) in
-        let first : Held s₁ (called t g S) rest = rw (is-target, is-value) at (pushes .becomes S rest (st .held) (innermost here)) in
-        let in-call : CalledBy t k g f fs (called t g S) = rw (here .frames) (called-by here g) in
+        let first : Held s₁ (called t g S) rest = rw (slot-found st i (i % 16) refl named, slot-found st (w / 2) l value-place there) at (pushes .becomes S rest (st .held) (innermost here)) in
+        let in-call : Inside t (suc k) g (f ∷ fs) (called t g S) = rw (here .frames) (called-by here g) in
         let has : HasSlot t k (w / 2) (called t g S) = record { has = has-caller in-call; slot = rw (caller-frame in-call) there } in
         subst (λ (R : State). Held s₂ R rest) (called-then-emptied here g (operandOf w)) (leaves .becomes (called t g S) rest first (omega (arith, there, slots-few st), has))
 

@@ -1,6 +1,5 @@
--- The lines spawn and recv: a thread is started and its channel given; a message is given and its channel emptied. A channel in a slot has a place
--- in the table, so that its number read back is the rule's.
-use Prim.Native.Nat.{ℕ, _%_, _≤_, _<_}
+-- The lines spawn and recv: a thread is started and its channel given; a message is given and its channel, whose number is read back, emptied.
+use Prim.Native.Nat.{ℕ, _%_, _<_}
 use native.Mathlib.Nat.{mod-eq-of-lt}
 use native.Mathlib.Omega.{arith}
 use mathlib.Core.Path.{_≡_, refl, sym, ap, _∙_, subst}
@@ -14,17 +13,15 @@ use Rattle.rules.specs.Numbers as No
 use Rattle.rules.specs.Script.{Program, spawn, recv, bind, lineAt}
 use Rattle.rules.specs.State.{Frame, ready, Thread, noThread, State, threadAt, channelAt, slotAt}
 use Rattle.rules.specs.Turn.{check, putThread, putChannel, filled, gives, started, spawnLine, recvLine, letLine, perform}
-use Rattle.rules.specs.Fits.{InRange}
 use Rattle.rules.proofs.ListLaws.{length-snoc}
 use Rattle.rules.proofs.Moves.{Step, by-spawn, by-recv}
-use Rattle.rules.proofs.Keeps.{HereFits, here-fits, slot-range, channel-fits}
 use Rattle.table.specs.declared.state.Here.{Here}
 use Rattle.table.specs.State as T
 use Rattle.table.specs.State.{InTable, Held, Sees, Becomes, Any, HasRoom, given, channelled}
 use Rattle.checks.specs.declared.lines.Check.{Check}
 use Rattle.checks.specs.Checked.{checkOf, numberOf, Few, hereAt, Stand, Checks}
 use Rattle.checks.proofs.CheckLaws.{then-ok}
-use Rattle.checks.proofs.Standing.{SlotSeen, slot-in-table, slot-read}
+use Rattle.checks.proofs.Standing.{SlotSeen, slot-in-table, slot-channel, slot-read}
 use Rattle.turn.specs.declared.lines.Step.the-variants.{Next}
 use Rattle.turn.specs.Performed.{Went, to-next, Always}
 use Rattle.turn.proofs.Steps.{Answers, Writes, let-names, let-room, line-few}
@@ -74,26 +71,12 @@ module _ {s : List ℕ} {h : Here} (b : ℕ) where
 -- ---- The channel in slot i: what is read there is the value v, whose number is m
 
 module _ {s : List ℕ} {h : Here} {P : Program} {n : ℕ} {S : State} {f : Frame} {fs : List Frame} {rest : List ℕ} (st : Stand s h P n S f fs rest) where
-  fits-here : HereFits mosts P n (hereAt S (h .thread) f fs)
-  fits-here = here-fits mosts P n S (h .thread) f fs (st .fits) (st .frames)
-
-  -- there are as many channels as threads
-  pub slot-channel : (i c : ℕ) → slotAt (f .slots) i ≡ Chan c → c < length (S .channels)
-  slot-channel i c is =
-      let within = slot-range _ _ (f .slots) i (fits-here .frame .slots) in
-      let below : c < length (S .threads) = subst (InRange (length (S .objects)) (length (S .threads))) is within in
-      rw (st .fits .channel-each) below
-
   -- there are at most 16, so that its number read back is the rule's
   pub number-read : {v : Value} {m : ℕ} (i c : ℕ) → SlotSeen s h (i % 16) v → m ≡ numberOf v → i < length (f .slots) → slotAt (f .slots) i ≡ Chan c → m % 16 ≡ c
   number-read i c target number there is =
       let small : c < 16 = subst InTable is (slot-in-table st i) in
       let value-is = sym (slot-read st i (i % 16) refl target there) ∙ is in
       ap (_% 16) (number ∙ ap numberOf value-is) ∙ mod-eq-of-lt small
-
-  -- a message's number is at most that of the moves
-  pub messages-few : (c : ℕ) → channelAt S c .number ≤ n
-  messages-few c = channel-fits mosts P n (hereAt S (h .thread) f fs) fits-here c .number
 
 -- ---- recv
 

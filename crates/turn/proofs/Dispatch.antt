@@ -1,31 +1,25 @@
 -- The words of a line's row tell the line: the first is the number of its form, the others are its parts, each of which reads back.
-use Prim.Native.Nat.{ℕ, _+_, _*_, _%_, _≤_, _<_}
-use native.Mathlib.Nat.{mod-eq-of-lt}
+use Prim.Native.Nat.{ℕ, _+_, _%_, _≤_, _<_}
 use native.Mathlib.Omega.{arith}
 use mathlib.Core.Path.{_≡_, refl, sym, ap, ap₂, _∙_}
 use mathlib.Core.List.{List, [], _∷_, map}
-use lib.ListN.{length, getD}
-use borrow.Author.Tests.{eq-eqb, ne-eqb}
+use lib.ListN.{getD}
 use Rattle.rules.specs.declared.Cap.{Cap}
 use Rattle.rules.specs.Lists.{pad}
-use Rattle.rules.specs.Script.{Operand, reads, takes, value, field, swap, call, new, cast, spawn, send, recv, Line, bind, give, line, rank, Program, lineAt}
+use Rattle.rules.specs.Script.{Operand, reads, value, field, swap, call, new, cast, spawn, send, recv, Line, bind, give, line, rank, Program, lineAt}
 use Rattle.rules.specs.State.{Frame, State}
 use Rattle.rules.specs.Tables.{operandWord, operandItem, operandOf, capOf, lineWords, row}
 use Rattle.rules.proofs.ListLaws.{get-pad}
-use Rattle.rules.proofs.TableWords.{cap-of-rank}
+use Rattle.rules.proofs.TableWords.{cap-of-rank, operand-of-word}
 use Rattle.table.specs.declared.state.Here.{Here}
 use Rattle.table.specs.State.{OnLine}
 use Rattle.checks.specs.Checked.{Stand}
-use Rattle.checks.proofs.Standing.{slots-few}
+use Rattle.checks.proofs.Standing.{slot-place}
 use Rattle.turn.specs.declared.lines.Step.{Step}
 use Rattle.turn.specs.Performed.{Always, Loaded, Performs, PerformsNew, PerformsHere}
 use Rattle.turn.proofs.Steps.{let-names}
 
 -- ---- The parts read back
-
-operand-of-word : (w : Operand) → operandOf (operandWord w) ≡ w
-operand-of-word (reads s) = rw (ne-eqb (s * 2 % 2) 1 (λ odd. omega arith)) (ap reads (omega arith))
-operand-of-word (takes s) = rw (eq-eqb ((s * 2 + 1) % 2) 1 (omega arith)) (ap takes (omega arith))
 
 operand-read : {u : Operand} {n : ℕ} → n ≡ operandWord u → u ≡ operandOf n
 operand-read {u} e = sym (operand-of-word u) ∙ ap operandOf (sym e)
@@ -125,11 +119,6 @@ pub record Tells (p s : List ℕ) (h : Here) (x : Line) : Type 0 where
   pub at-line : (P : Program) (n : ℕ) (S : State) (f : Frame) (fs : List Frame) (rest : List ℕ) → Stand s h P n S f fs rest → OnLine p P (f .block) (f .line) h
       → lineAt P (f .block) (f .line) ≡ x
 
--- a slot that the line names is one of 16
-slot-in-sixteen : {s : List ℕ} {h : Here} {P : Program} {n : ℕ} {S : State} {f : Frame} {fs : List Frame} {rest : List ℕ} → Stand s h P n S f fs rest → {i : ℕ}
-    → i < length (f .slots) → i % 16 ≡ i
-slot-in-sixteen st named = mod-eq-of-lt (omega (arith, named, slots-few st))
-
 module _ {p : List ℕ} {h : Here} {form : ℕ} (first : form ≡ wordAt p h 0) where
   line-is : (n : ℕ) → form ≡ 4 + n → {P : Program} {i l : ℕ} (on : OnLine p P i l h) → lineAt P i l ≡ lineByPlace (wordAt p h) (here-says on .operands) n
   line-is n number on = line-by-place (here-says on) n (sym first ∙ number)
@@ -159,7 +148,7 @@ module _ {p : List ℕ} {h : Here} {form : ℕ} (first : form ≡ wordAt p h 0) 
           record {
             at-line = λ P n S f fs rest st on.
                 let named : lineAt P (f .block) (f .line) ≡ bind (send a (operandOf b)) = rw (second, third) (line-is 8 number on) in
-                rw (slot-in-sixteen st (let-names st named .0)) named;
+                rw (slot-place st _ (let-names st named .0)) named;
           }
 
       module _ {c : ℕ} (fourth : c ≡ wordAt p h 3) where
@@ -168,7 +157,7 @@ module _ {p : List ℕ} {h : Here} {form : ℕ} (first : form ≡ wordAt p h 0) 
             record {
               at-line = λ P n S f fs rest st on.
                   let named : lineAt P (f .block) (f .line) ≡ bind (swap a b (operandOf c)) = rw (second, third, fourth) (line-is 3 number on) in
-                  rw (slot-in-sixteen st (let-names st named .0)) named;
+                  rw (slot-place st _ (let-names st named .0)) named;
             }
 
         pub tells-call : form ≡ 8 → Tells p s h (bind (call (a % 16) b (operandOf c)))
@@ -176,7 +165,7 @@ module _ {p : List ℕ} {h : Here} {form : ℕ} (first : form ≡ wordAt p h 0) 
             record {
               at-line = λ P n S f fs rest st on.
                   let named : lineAt P (f .block) (f .line) ≡ bind (call a b (operandOf c)) = rw (second, third, fourth) (line-is 4 number on) in
-                  rw (slot-in-sixteen st (let-names st named .0)) named;
+                  rw (slot-place st _ (let-names st named .0)) named;
             }
 
 -- ---- The line performed

@@ -1,26 +1,23 @@
 -- The frame where a thread stands, edited: a value given, an operand's slot left, each is a put of the thread's frames.
-use Prim.Native.Nat.{ℕ, zero, suc, _+_, _/_, _<_}
+use Prim.Native.Nat.{ℕ, suc, _+_, _<_}
 use native.Mathlib.Omega.{arith}
-use mathlib.Core.Path.{_≡_, refl, sym, ap, _∙_, subst}
+use mathlib.Core.Path.{_≡_, refl, sym, ap, _∙_}
 use mathlib.Core.List.{List, [], _∷_, _++_}
-use lib.ListN.{length, set}
-use lib.Seq.{set-append-left, getD-at}
+use lib.ListN.{length}
+use lib.Seq.{set-append-left}
 use borrow.Author.Tests.{eq-eqb}
 use Rattle.rules.specs.declared.Value.{Value}
 use Rattle.rules.specs.declared.Value.the-variants.{Absent}
 use Rattle.rules.specs.Mosts as Most
-use Rattle.rules.specs.Mosts.{mosts}
 use Rattle.rules.specs.Script.{Operand, reads, takes, Program}
 use Rattle.rules.specs.Reading.{slotOf}
-use Rattle.rules.specs.State.{Frame, Sender, ready, Thread, State, threadAt, slotAt}
-use Rattle.rules.specs.Tables.{outermostFirst, noFrame}
-use Rattle.rules.specs.Turn.{leftBy, putThread, filled, withSlots}
-use Rattle.rules.proofs.Keeps.{here-fits}
-use Rattle.rules.proofs.TableWords.{length-outermost}
+use Rattle.rules.specs.State.{Object, Frame, Sender, ready, Thread, State, threadAt}
+use Rattle.rules.specs.Turn.{leftBy, putThread, putObjects, filled, withSlots}
 use Rattle.table.specs.declared.state.Here.{Here}
-use Rattle.table.specs.State.{frameAt, onFrame, editFrame, HasFrame, HasRoom, HasSlot, given}
-use Rattle.table.proofs.StateEdits.{thread-put, put-put, length-put}
+use Rattle.table.specs.State.{frameAt, onFrame, editFrame, HasFrame, HasRoom, HasSlot, Innermost, given, innerLess, left}
+use Rattle.table.proofs.StateEdits.{thread-put, put-put, length-put, innermost-frame}
 use Rattle.checks.specs.Checked.{Stand}
+use Rattle.checks.proofs.Standing.{fits-here}
 use Rattle.turn.specs.Performed.{emptied, StandsAt}
 
 -- thread t's innermost frame is f, inside of k others
@@ -31,8 +28,12 @@ pub record Inside (t k : ℕ) (f : Frame) (fs : List Frame) (S : State) : Type 0
 
 pub inside : {s : List ℕ} {h : Here} {P : Program} {n : ℕ} {S : State} {f : Frame} {fs : List Frame} {rest : List ℕ} → Stand s h P n S f fs rest
     → Inside (h .thread) (h .depth) f fs S
-inside {h = h} {P = P} {n = n} {S = S} {f = f} {fs = fs} st =
-    record { thread = here-fits mosts P n S (h .thread) f fs (st .fits) (st .frames) .self; frames = st .frames; depth = st .depth }
+inside st = record { thread = fits-here st .self; frames = st .frames; depth = st .depth }
+
+-- after the objects were put
+pub inside-objects : {t k : ℕ} {f : Frame} {fs : List Frame} {S : State} (os : List Object) → Inside t k f fs S → Inside t k f fs (putObjects S os)
+unfolding putObjects threadAt
+inside-objects os in-frame = record { thread = in-frame .thread; frames = in-frame .frames; depth = in-frame .depth }
 
 -- after the frames were put
 pub inside-put : (S : State) {t k : ℕ} {f : Frame} {fs : List Frame} (d : Sender) → t < length (S .threads) → length fs ≡ k → Inside t k f fs (putThread S t (f ∷ fs) d)
@@ -46,12 +47,11 @@ inside-put S {t} {k} {f} {fs} d there deep =
 pub stands-put : (S : State) {t : ℕ} (f : Frame) (fs : List Frame) (d : Sender) → t < length (S .threads)
     → StandsAt t (f .block) (f .line) (length fs) (putThread S t (f ∷ fs) d)
 stands-put S {t} f fs d there =
-    record { frame = f; callers = fs; frames = ap (λ (u : Thread). u .frames) (thread-put S t (f ∷ fs) d there); depth = refl; block = refl; line = refl }
+    record { frame = f; callers = fs; frames = inside-put S d there refl .frames; depth = refl; block = refl; line = refl }
 
 module _ {t k : ℕ} {f : Frame} {fs : List Frame} {S : State} (in-frame : Inside t k f fs S) where
   pub frame-inside : frameAt S t k ≡ f
-  unfolding frameAt outermostFirst
-  frame-inside = rw (in-frame .frames) (getD-at (outermostFirst fs) f [] noFrame k (length-outermost fs ∙ in-frame .depth))
+  frame-inside = innermost-frame S t (in-frame .frames) (in-frame .depth)
 
   pub has-frame : HasFrame t k S
   has-frame = record { thread = in-frame .thread; frame = rw (in-frame .frames) (omega (arith, in-frame .depth)) }
@@ -61,6 +61,9 @@ module _ {t k : ℕ} {f : Frame} {fs : List Frame} {S : State} (in-frame : Insid
 
   pub has-slot : (i : ℕ) → i < length (f .slots) → HasSlot t k i S
   has-slot i there = record { has = has-frame; slot = rw frame-inside there }
+
+  pub innermost : Innermost t k S
+  innermost = record { thread = in-frame .thread; frames = rw (in-frame .frames) (ap suc (in-frame .depth)) }
 
   edit-inside : (g : Frame → Frame) (d : Sender) → editFrame S t k g d ≡ putThread S t (g f ∷ fs) d
   unfolding editFrame onFrame
@@ -73,6 +76,11 @@ module _ {t k : ℕ} {f : Frame} {fs : List Frame} {S : State} (in-frame : Insid
   pub emptied-inside : (w : Operand) → emptied t k w S ≡ putThread S t (withSlots f (leftBy (f .slots) w) ∷ fs) (threadAt S t .sender)
   unfolding emptied
   emptied-inside w = edit-inside (λ f. withSlots f (leftBy (f .slots) w)) (threadAt S t .sender)
+
+  -- the innermost frame ends
+  pub left-inside : left t S ≡ putThread S t fs ready
+  unfolding left innerLess
+  left-inside = rw (in-frame .frames) refl
 
 -- an operand leaves the value given after its slot
 left-append : (vs : List Value) (v : Value) (w : Operand) → slotOf w < length vs → leftBy (vs ++ (v ∷ [])) w ≡ leftBy vs w ++ (v ∷ [])

@@ -13,5 +13,5 @@ mod SendLines
 -- the line that a row's words tell
 mod Dispatch
 -- where a turn stands; which turns wait
-mod Located
+pub mod Located
 mod Waiting

@@ -31,20 +31,20 @@ unfolding turnOf
 frameless P S t d [] none = refl
 frameless P S t d (f ∷ fs) none = absurd (omega arith)
 
+pub no-frame-waits : (P : Program) (S : State) (t : ℕ) → 0 ≡ length (threadAt S t .frames) → turn mosts P S t ≡ wait
+unfolding turn
+no-frame-waits P S t none = frameless P S t (threadAt S t .sender) (threadAt S t .frames) (sym none)
+
 -- there are 16 threads at most
+pub no-frames : (S : State) (t : ℕ) → length (S .threads) ≤ 16 → 16 ≤ t → 0 ≡ length (threadAt S t .frames)
+unfolding threadAt
+no-frames S t few past = sym (ap (λ (u : Thread). length (u .frames)) (List·getD-eq-default (S .threads) noThread (omega arith)))
+
 pub past-idles : {s : List ℕ} {t : ℕ} → 16 ≤ t → Idles s t
-unfolding turn threadAt
-past-idles {s} {t} past =
-    record {
-      idles = λ P n S rest held fits.
-          let none : threadAt S t ≡ noThread = List·getD-eq-default (S .threads) noThread (omega (arith, past, fits .few-threads)) in
-          frameless P S t (threadAt S t .sender) (threadAt S t .frames) (ap (λ (u : Thread). length (u .frames)) none);
-    }
+past-idles {t = t} past = record { idles = λ P n S rest held fits. no-frame-waits P S t (no-frames S t (fits .few-threads) past) }
 
 pub frameless-idles : {s : List ℕ} {t d : ℕ} → Sees s Any (λ S. length (threadAt S t .frames)) d → d ≡ 0 → Idles s t
-unfolding turn
-frameless-idles {s} {t} {d} seen none =
-    record { idles = λ P n S rest held fits. frameless P S t (threadAt S t .sender) (threadAt S t .frames) (sym (seen .sees S rest held tt) ∙ none) }
+frameless-idles {t = t} seen none = record { idles = λ P n S rest held fits. no-frame-waits P S t (sym none ∙ seen .sees S rest held tt) }
 
 -- ---- The frame where a thread stands
 
@@ -59,7 +59,7 @@ pub record Found (p s : List ℕ) (t : ℕ) (h : Here) (P : Program) (n : ℕ) (
 pub record Finds (p s : List ℕ) (t : ℕ) (h : Here) : Type 0 where
   pub finds : (P : Program) (n : ℕ) (S : State) (rest : List ℕ) → Loaded p P → Held s S rest → Valid mosts P → Fits mosts P n S → Found p s t h P n S rest
 
-turn-performs : (P : Program) (S : State) (t : ℕ) {f : Frame} {fs : List Frame} → threadAt S t .frames ≡ f ∷ fs
+pub turn-performs : (P : Program) (S : State) (t : ℕ) {f : Frame} {fs : List Frame} → threadAt S t .frames ≡ f ∷ fs
     → R.turn mosts P S t ≡ R.perform mosts P (hereAt S t f fs) (lineAt P (f .block) (f .line))
 unfolding turn turnOf
 turn-performs P S t frames = ap (turnOf mosts P S t (threadAt S t .sender)) frames
@@ -67,7 +67,7 @@ turn-performs P S t frames = ap (turnOf mosts P S t (threadAt S t .sender)) fram
 module _ {p s : List ℕ} {d : ℕ} {h : Here} (stands : Stands p s d h) (some : d ≡ 0 → ⊥)
     {P : Program} {n : ℕ} {S : State} {rest : List ℕ} (loaded : Loaded p P) (held : Held s S rest) (valid : Valid mosts P) (fits : Fits mosts P n S)
     (count : d ≡ length (threadAt S (h .thread) .frames)) where
-  found : (gs : List Frame) → threadAt S (h .thread) .frames ≡ gs → Found p s (h .thread) h P n S rest
+  pub found : (gs : List Frame) → threadAt S (h .thread) .frames ≡ gs → Found p s (h .thread) h P n S rest
   found [] frames = absurd (some (count ∙ ap length frames))
   found (f ∷ fs) frames =
       let here = here-fits mosts P n S (h .thread) f fs fits frames in

@@ -14,24 +14,24 @@ use Rattle.rules.specs.Mosts.{mosts}
 use Rattle.rules.specs.Lists.{pad, Every}
 use Rattle.rules.specs.Script.{Operand, Program, new, bind, lineAt, rank, blockAt}
 use Rattle.rules.specs.Reading.{slotOf}
-use Rattle.rules.specs.State.{Object, Frame, State, ready, threadAt}
+use Rattle.rules.specs.State.{Object, Frame, State, ready}
 use Rattle.rules.specs.Tables.{operandItem, operandOf}
-use Rattle.rules.specs.Turn.{isAbsent, leftBy, putThread, putObjects, filled, gives, letLine, perform}
+use Rattle.rules.specs.Turn.{isAbsent, leftBy, putThread, filled, gives, letLine, perform}
 use Rattle.rules.proofs.ListLaws.{every-map, every-image, length-snoc}
 use Rattle.rules.proofs.Moves.{GaveAll, no-more, one-more, Step, by-new}
 use Rattle.rules.proofs.Keeps.{kind-ok}
+use Rattle.rules.proofs.TableWords.{operand-of-word, half-of-word}
 use Rattle.table.specs.declared.state.Here.{Here}
 use Rattle.table.specs.State.{Held, Sees, Any, Becomes, HasSlot, HasRoom, Makes, given, made}
 use Rattle.checks.specs.declared.lines.Check.{Check}
 use Rattle.checks.specs.declared.lines.Check.the-variants.{Pass, Wait, Stop}
 use Rattle.checks.specs.Checked.{hereAt, Stand, Named}
 use Rattle.checks.specs.Items.{itemSlots, ChecksNew}
-use Rattle.checks.proofs.ItemChecks.{operand-of-word, half-of-word}
 use Rattle.checks.proofs.NewChecks.{slotsOf, were-there}
 use Rattle.turn.specs.declared.lines.Step.the-variants.{Next, Waits, Stops}
 use Rattle.turn.specs.Performed.{emptied, itemEmptied, Went, to-next, Always, PerformsNew}
 use Rattle.turn.proofs.Steps.{Answers, Writes, line-stops, line-waits, line-moves, operand-names, let-names, let-room, line-few}
-use Rattle.turn.proofs.Frames.{Inside, inside, frame-inside, has-room, has-slot, stands-put, inside-put, given-inside, filled-then-emptied}
+use Rattle.turn.proofs.Frames.{Inside, inside, inside-objects, frame-inside, has-room, has-slot, stands-put, inside-put, given-inside, filled-then-emptied}
 
 -- ---- What an item leaves
 
@@ -103,13 +103,6 @@ module _ (R : State) (t : ℕ) (f : Frame) (fs : List Frame) (v : Value) (rest :
         let next = operand-left vs w first (there .0) room held in
         operands-left n m others (omega arith) more (every-map (λ w below. rw (gave .count) below) ws (there .1)) (rw (gave .count) room) (rw (gave .slots) next)
 
--- ---- One object more
-
--- the thread's frames are as they were
-inside-made : {t k : ℕ} {f : Frame} {fs : List Frame} {S : State} (o : Object) → Inside t k f fs S → Inside t k f fs (made o S)
-unfolding made putObjects threadAt
-inside-made o in-frame = record { thread = in-frame .thread; frames = in-frame .frames; depth = in-frame .depth }
-
 -- ---- What a new says of its operands
 
 module _ {s : List ℕ} {h : Here} {P : Program} {n : ℕ} {S : State} {f : Frame} {fs : List Frame} {rest : List ℕ} (st : Stand s h P n S f fs rest)
@@ -167,9 +160,10 @@ module _ {s s₁ s₂ s₃ : List ℕ} {h : Here} {c : Cap} {kind count n cap : 
         (makes .makes c ws ranked is low .becomes S rest (st .held) number)
 
     object-given : n ≡ length (S .objects) → Held s₂ (putThread (made new-object S) (h .thread) (filled f (f .slots) new-value ∷ fs) ready) rest
+    unfolding made
     object-given number =
         let R = made new-object S in
-        let here = inside-made new-object (inside st) in
+        let here : Inside (h .thread) (h .depth) f fs R = inside-objects _ (inside st) in
         let held = gives-object .becomes R rest (object-made number) (has-room here (let-room st at-line) (line-few st)) in
         subst (λ (T : State). Held s₂ T rest) (given-inside here new-value) (subst (λ i. Held s₂ (given (h .thread) (h .depth) (Obj i) R) rest) number held)
 
@@ -177,7 +171,7 @@ module _ {s s₁ s₂ s₃ : List ℕ} {h : Here} {c : Cap} {kind count n cap : 
     unfolding gives filled made pad
     new-moved (by-new c kind ws ns vs found) =
         let R = made new-object S in
-        let here = inside-made new-object (inside st) in
+        let here : Inside (h .thread) (h .depth) f fs R = inside-objects _ (inside st) in
         let leaves-all : ItemsLeft (h .thread) (h .depth) (pad 4 0 (map operandItem ws)) s₂ s₃ = subst (λ es. ItemsLeft (h .thread) (h .depth) es s₂ s₃) is leaves in
         let first = object-given (object-number (found .room)) in
         let last = operands-left R (h .thread) f fs new-value rest (here .thread) (here .depth) 4 4 (found .gave) (operands-few st ws at-line) leaves-all (operands-named st ws at-line) (let-room st at-line) first in

@@ -15,6 +15,7 @@ use Rattle.rules.specs.Tables.{operandOf}
 use Rattle.rules.specs.Turn.{isAbsent, leftBy, object, putThread, putObjects, filled, gives, fieldLine, swapLine, letLine, perform}
 use Rattle.rules.proofs.ListLaws.{length-snoc}
 use Rattle.rules.proofs.Moves.{Step, by-field, by-swap}
+use Rattle.rules.proofs.TableWords.{slot-of-word}
 use Rattle.table.specs.declared.state.Here.{Here}
 use Rattle.table.specs.State.{Held, Becomes, HasSlot, HasRoom, HasField, frameAt, editFrame, given, stored}
 use Rattle.checks.specs.declared.lines.Check.{Check}
@@ -23,8 +24,8 @@ use Rattle.checks.proofs.CheckLaws.{left-was-there}
 use Rattle.checks.proofs.Standing.{SlotSeen, slot-read, slot-object, fielded}
 use Rattle.turn.specs.declared.lines.Step.the-variants.{Next}
 use Rattle.turn.specs.Performed.{emptied, Went, to-next, Always}
-use Rattle.turn.proofs.Steps.{Answers, Writes, word-names, slot-of-word, let-names, let-room, line-few}
-use Rattle.turn.proofs.Frames.{Inside, inside, frame-inside, has-room, has-slot, stands-put, inside-put, given-inside, given-then-emptied}
+use Rattle.turn.proofs.Steps.{Answers, Writes, word-names, let-names, let-room, line-few}
+use Rattle.turn.proofs.Frames.{Inside, inside, inside-objects, frame-inside, has-room, has-slot, stands-put, inside-put, given-inside, given-then-emptied}
 
 -- ---- The checks
 
@@ -43,11 +44,6 @@ module _ {s : List ℕ} {h : Here} {k : Check} (i j : ℕ) where
       }
 
 -- ---- A field stored
-
--- the thread's frames are as they were
-inside-stored : {t k : ℕ} {f : Frame} {fs : List Frame} {S : State} (o j : ℕ) (v : Value) → Inside t k f fs S → Inside t k f fs (stored o j v S)
-unfolding stored putObjects threadAt
-inside-stored o j v in-frame = record { thread = in-frame .thread; frames = in-frame .frames; depth = in-frame .depth }
 
 stored-after-given : (t k o j : ℕ) (u v : Value) (S : State) → stored o j v (given t k u S) ≡ given t k u (stored o j v S)
 unfolding stored given editFrame putThread putObjects threadAt
@@ -125,12 +121,12 @@ module _ {s s₁ : List ℕ} {h : Here} {o : ℕ} {x : Value} (i j : ℕ) (targe
           subst (λ (R : State). Held s₂ R rest) (stored-after-given t k m j old new-value S) (rw (number-is, place-is, value-kept) at held)
 
       field-swapped : Held s₃ (putThread (stored m j new-value S) (h .thread) (filled f (leftBy (f .slots) (operandOf w)) old ∷ fs) ready) rest
-      unfolding filled
+      unfolding filled stored
       field-swapped =
           let t = h .thread in
           let k = h .depth in
           let R = stored m j new-value S in
-          let here : Inside t k f fs R = inside-stored m j new-value (inside st) in
+          let here : Inside t k f fs R = inside-objects _ (inside st) in
           let now-in : Inside t k (filled f (f .slots) old) fs (given t k old R) = rw (given-inside here old) (inside-put R ready (here .thread) (here .depth)) in
           let more : w / 2 < length (f .slots ++ (old ∷ [])) = omega (arith, there, length-snoc (f .slots) old) in
           subst (λ (R : State). Held s₃ R rest) (given-then-emptied here old (operandOf w) (rw (slot-of-word w) there))
@@ -145,7 +141,7 @@ module _ {s s₁ : List ℕ} {h : Here} {o : ℕ} {x : Value} (i j : ℕ) (targe
         let is-value : Obj u ≡ slotAt (f .slots) (w / 2) = sym (swapped .gave .value) ∙ ap (slotAt (f .slots)) (slot-of-word w) in
         let holds : slotAt (f .slots) i ≡ Obj m = left-was-there (f .slots) (operandOf w) i refl (rw (swapped .gave .slots) at (swapped .target)) in (
           rw (swapped .gave .slots, is-value) (field-swapped st m (names .0) holds (swapped .has-field) (let-room st at-line) (word-names st w (names .2))),
-          to-next (stands-put (stored m j (Obj u) S) _ fs ready (inside-stored m j (Obj u) (inside st) .thread)),
+          to-next (stands-put (stored m j (Obj u) S) _ fs ready (inside-objects _ (inside st) .thread)),
         )
 
     pub swap-writes : Writes Always s h (bind (swap i j (operandOf w))) Next s₃

@@ -1,7 +1,5 @@
--- The line send: a thread that is ready puts the message and stays on the line as its sender; one that waits as a sender is given the channel.
--- Which of both it is stands in the sender's word.
+-- The line send: a thread whose sender's word is 0 is ready, puts the message and stays on the line as its sender; any other is given the channel.
 use Prim.Native.Nat.{ℕ, _+_, _-_, _/_, _%_, _≤_, _<_}
-use native.Mathlib.Nat.{mod-eq-of-lt}
 use native.Mathlib.Omega.{arith}
 use mathlib.Core.Path.{_≡_, refl, sym, ap, _∙_, subst}
 use mathlib.Core.List.{List, [], _∷_}
@@ -15,19 +13,20 @@ use Rattle.rules.specs.Tables.{operandOf, senderWord}
 use Rattle.rules.specs.Turn.{isAbsent, leftBy, putThread, putChannel, filled, withSlots, gives, putLine, sentLine, sendLine, letLine, perform}
 use Rattle.rules.proofs.ListLaws.{impossible}
 use Rattle.rules.proofs.Moves.{Step, by-put, by-sent}
+use Rattle.rules.proofs.TableWords.{slot-of-word, sender-tells}
 use Rattle.table.specs.declared.state.Here.{Here}
 use Rattle.table.specs.State.{Held, Sees, Becomes, Any, HasSlot, HasRoom, frameAt, given, channelled, sending, Puts}
 use Rattle.table.proofs.StateEdits.{thread-put, put-put}
 use Rattle.checks.specs.declared.lines.Check.{Check}
 use Rattle.checks.specs.Checked.{checkOf, numberOf, hereAt, Stand, Checks}
 use Rattle.checks.proofs.CheckLaws.{left-was-there}
-use Rattle.checks.proofs.Standing.{SlotSeen}
+use Rattle.checks.proofs.Standing.{SlotSeen, slot-channel, messages-few, slot-found}
 use Rattle.turn.specs.declared.lines.Step as C
 use Rattle.turn.specs.declared.lines.Step.the-variants.{Next, Stay}
 use Rattle.turn.specs.Performed.{emptied, Went, to-next, to-same, Performs, Always}
-use Rattle.turn.proofs.Steps.{Answers, Writes, word-names, slot-of-word, let-names, let-room, line-few}
-use Rattle.turn.proofs.Frames.{Inside, inside, frame-inside, has-room, has-slot, stands-put, inside-put, given-inside, emptied-inside}
-use Rattle.turn.proofs.ChannelLines.{slot-channel, number-read, messages-few}
+use Rattle.turn.proofs.Steps.{Answers, Writes, always-performs, word-names, let-names, let-room, line-few}
+use Rattle.turn.proofs.Frames.{Inside, inside, has-room, has-slot, stands-put, inside-put, given-inside, emptied-inside}
+use Rattle.turn.proofs.ChannelLines.{number-read}
 
 -- ---- send by a thread that is ready
 
@@ -87,9 +86,7 @@ module _ {s : List ℕ} {h : Here} (i w : ℕ) where
         let room = let-room st at-line in
         let is-channel = left-was-there (f .slots) (operandOf w) i refl (rw (put .gave .slots) at (put .target)) in
         let same = number-read st i c target number (names .0) is-channel in
-        let here-slot : j ≡ w / 2 = place ∙ mod-eq-of-lt (omega (arith, named, room)) in
-        let is-value : slotAt (frameAt S t k .slots) j ≡ Obj o =
-        ap (λ (g : Frame). slotAt (g .slots) j) (frame-inside here) ∙ ap (slotAt (f .slots)) (here-slot ∙ sym (slot-of-word w)) ∙ put .gave .value in
+        let is-value : slotAt (frameAt S t k .slots) j ≡ Obj o = slot-found st (w / 2) j place named ∙ ap (slotAt (f .slots)) (sym (slot-of-word w)) ∙ put .gave .value in
         let next = channelAt S c .number + 1 in
         let few-messages : channelAt S c .number < Most.turns = omega (arith, messages-few st c, few) in
         let put-there : Puts t (m % 16) S = record { thread = here .thread; channel = rw same (slot-channel st i c is-channel); number = rw same few-messages } in
@@ -108,10 +105,6 @@ module _ {s : List ℕ} {h : Here} (i w : ℕ) where
 
 -- ---- send by a thread that waits as a sender, whose word is d
 
-sender-waits : (x : Sender) {d : ℕ} → 1 ≤ d → senderWord x ≡ d → x ≡ waiting (d - 1)
-sender-waits ready some is = absurd (omega arith)
-sender-waits (waiting i) {d} some is = let same : i ≡ d - 1 = omega arith in ap waiting same
-
 -- thread t's sender has the word d
 abbrev Waiting : ℕ → ℕ → Program → State → Type 0
 Waiting t d P S = senderWord (threadAt S t .sender) ≡ d
@@ -123,7 +116,7 @@ module _ {s : List ℕ} {h : Here} (i : ℕ) {d : ℕ} (some : 1 ≤ d) (w : Ope
       record {
         answers = λ P n S f fs rest q st at-line.
             all .checks P n S f fs rest st (let-names st at-line .0, tt)
-            ∙ ap (λ (x : Sender). checkOf (sendLine (hereAt S (h .thread) f fs) x i w)) (sym (sender-waits (threadAt S (h .thread) .sender) some q));
+            ∙ ap (λ (x : Sender). checkOf (sendLine (hereAt S (h .thread) f fs) x i w)) (sym (sender-tells (threadAt S (h .thread) .sender) (waiting (d - 1)) (omega (arith, q, some))));
       }
 
   -- the channel's slot is given
@@ -139,9 +132,7 @@ module _ {s : List ℕ} {h : Here} (i : ℕ) {d : ℕ} (some : 1 ≤ d) (w : Ope
         let here = inside st in
         let room = let-room st at-line in
         let named = let-names st at-line .0 in
-        let same : i % 16 ≡ i = mod-eq-of-lt (omega (arith, named, room)) in
-        let is-channel : slotAt (frameAt S t k .slots) (i % 16) ≡ Chan c =
-        ap (λ (g : Frame). slotAt (g .slots) (i % 16)) (frame-inside here) ∙ ap (slotAt (f .slots)) same ∙ taken .target in
+        let is-channel : slotAt (frameAt S t k .slots) (i % 16) ≡ Chan c = slot-found st i (i % 16) refl named ∙ taken .target in
         let first : Held s₁ (given t k (Chan c) S) rest =
         subst (λ (v : Value). Held s₁ (given t k v S) rest) is-channel (gives-slot .becomes S rest (st .held) (has-room here room (line-few st))) in
         (subst (λ (R : State). Held s₁ R rest) (given-inside here (Chan c)) first, to-next (stands-put S _ fs ready (here .thread)))
@@ -151,18 +142,16 @@ module _ {s : List ℕ} {h : Here} (i : ℕ) {d : ℕ} (some : 1 ≤ d) (w : Ope
 
 -- ---- send, by the sender's word d
 
-sender-ready : (x : Sender) → senderWord x ≡ 0 → x ≡ ready
-sender-ready ready is = refl
-sender-ready (waiting i) is = absurd (omega arith)
+module _ {s : List ℕ} (t : ℕ) {d : ℕ} (sender : Sees s Any (λ S. senderWord (threadAt S t .sender)) d) where
+  pub seen-ready : d ≡ 0 → (P : Program) (S : State) (rest : List ℕ) → Held s S rest → Ready t P S
+  seen-ready none P S rest held = sender-tells (threadAt S t .sender) ready (sym (sender .sees S rest held tt) ∙ none)
+
+  pub seen-waiting : (P : Program) (S : State) (rest : List ℕ) → Held s S rest → Waiting t d P S
+  seen-waiting P S rest held = sym (sender .sees S rest held tt)
 
 module _ {s s₁ : List ℕ} {h : Here} {x : Line} {d : ℕ} {r : C.Step} (sender : Sees s Any (λ S. senderWord (threadAt S (h .thread) .sender)) d) where
   pub send-ready : d ≡ 0 → Performs (Ready (h .thread)) s h x r s₁ → Performs Always s h x r s₁
-  send-ready none puts =
-      record {
-        performs = λ P n S f fs rest q st few at-line.
-            puts .performs P n S f fs rest (sender-ready (threadAt S (h .thread) .sender) (sym (sender .sees S rest (st .held) tt) ∙ none)) st few at-line;
-      }
+  send-ready none = always-performs (seen-ready (h .thread) sender none)
 
   pub send-waiting : Performs (Waiting (h .thread) d) s h x r s₁ → Performs Always s h x r s₁
-  send-waiting gives-channel =
-      record { performs = λ P n S f fs rest q st few at-line. gives-channel .performs P n S f fs rest (sym (sender .sees S rest (st .held) tt)) st few at-line }
+  send-waiting = always-performs (seen-waiting (h .thread) sender)

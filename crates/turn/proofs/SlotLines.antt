@@ -1,41 +1,37 @@
 -- What an operand leaves in the table; and the lines that give a slot's value, value and cast: the value is given, then the operand's slot is left.
-use Prim.Native.Nat.{ℕ, zero, suc, _+_, _/_, _%_, _<_}
+use Prim.Native.Nat.{ℕ, _/_, _%_, _<_}
 use native.Mathlib.Nat.{mod-eq-of-lt}
 use native.Mathlib.Omega.{arith}
 use mathlib.Core.Path.{_≡_, refl, sym, ap, _∙_, subst}
-use mathlib.Core.Bool.{Bool, true, false}
 use mathlib.Core.List.{List, [], _∷_, _++_}
 use lib.Dec.{eqb}
-use lib.ListN.{length, getD, set}
+use lib.ListN.{length, getD}
+use lib.Seq.{set-getD}
 use borrow.Author.Tests.{eq-eqb, ne-eqb}
 use Rattle.rules.specs.declared.Cap.{Cap}
 use Rattle.rules.specs.declared.Value.{Value}
 use Rattle.rules.specs.declared.Value.the-variants.{Obj}
 use Rattle.rules.specs.Mosts as Most
 use Rattle.rules.specs.Mosts.{mosts}
-use Rattle.rules.specs.Script.{Operand, Program, value, cast, bind, lineAt}
-use Rattle.rules.specs.Reading.{slotOf}
+use Rattle.rules.specs.Script.{Program, value, cast, bind, lineAt}
 use Rattle.rules.specs.State.{Frame, Thread, State, ready, noThread, threadAt, slotAt}
 use Rattle.rules.specs.Tables.{operandOf}
-use Rattle.rules.specs.Turn.{operand, leftBy, putThread, filled, withSlots, gives, valueLine, castLine, letLine, perform}
+use Rattle.rules.specs.Turn.{leftBy, putThread, filled, withSlots, gives, valueLine, castLine, letLine, perform}
 use Rattle.rules.proofs.ListLaws.{by-bool, length-snoc}
-use Rattle.rules.proofs.Moves.{Gave, ObjectCast, Step, by-value, by-cast}
+use Rattle.rules.proofs.Moves.{Step, by-value, by-cast}
+use Rattle.rules.proofs.TableWords.{slot-of-word}
 use Rattle.table.specs.declared.state.Here.{Here}
 use Rattle.table.specs.State.{Held, Becomes, HasSlot, HasRoom, frameAt, onFrame, editFrame, cleared, given}
 use Rattle.checks.specs.declared.lines.Check.{Check}
 use Rattle.checks.specs.Checked.{hereAt, Stand, Checks}
-use Rattle.checks.proofs.Standing.{OperandChecked}
+use Rattle.checks.proofs.CheckLaws.{then-gives}
+use Rattle.checks.proofs.Standing.{OperandChecked, slot-found}
 use Rattle.turn.specs.declared.lines.Step.the-variants.{Next}
 use Rattle.turn.specs.Performed.{emptied, Went, to-next, Always}
-use Rattle.turn.proofs.Steps.{Answers, Writes, then-moves, word-names, slot-of-word, let-names, let-room, line-few}
-use Rattle.turn.proofs.Frames.{Inside, inside, frame-inside, has-room, has-slot, stands-put, inside-put, given-inside, given-then-emptied}
+use Rattle.turn.proofs.Steps.{Answers, Writes, word-names, let-names, let-room, line-few}
+use Rattle.turn.proofs.Frames.{Inside, inside, has-room, has-slot, stands-put, inside-put, given-inside, given-then-emptied}
 
 -- ---- What an operand leaves
-
-set-same : {A : Type 0} (xs : List A) (i : ℕ) (d : A) → set xs i (getD xs i d) ≡ xs
-set-same [] i d = refl
-set-same (x ∷ xs) zero d = refl
-set-same (x ∷ xs) (suc i) d = ap (x ∷_) (set-same xs i d)
 
 same-frames : (k : ℕ) (fs : List Frame) → onFrame k (λ f. withSlots f (f .slots)) fs ≡ fs
 unfolding onFrame withSlots
@@ -46,7 +42,7 @@ read-leaves : (t k : ℕ) (S : State) → editFrame S t k (λ f. withSlots f (f 
 unfolding editFrame putThread threadAt
 read-leaves t k S =
     let T = getD (S .threads) t noThread in
-    rw (same-frames k (T .frames)) (ap (λ (ts : List Thread). let R : State = record { objects = S .objects; threads = ts; channels = S .channels } in R) (set-same (S .threads) t noThread))
+    rw (same-frames k (T .frames)) (ap (λ (ts : List Thread). let R : State = record { objects = S .objects; threads = ts; channels = S .channels } in R) (set-getD (S .threads) t noThread))
 
 module _ {s : List ℕ} (t k w : ℕ) where
   pub leaves-read : (w % 2 ≡ 1 → ⊥) → Becomes s (λ S. (w / 2 < 16) × HasSlot t k (w / 2) S) (emptied t k (operandOf w)) s
@@ -68,7 +64,7 @@ module _ {s : List ℕ} (t k w : ℕ) where
 module _ {s : List ℕ} {h : Here} {k : Check} (w : ℕ) where
   pub value-answers : OperandChecked s h w k → Answers Always s h (bind (value (operandOf w))) k
   unfolding perform letLine valueLine
-  value-answers first = record { answers = λ P n S f fs rest q st at-line. first .checks P n S f fs rest st (word-names st w (let-names st at-line), tt) ∙ then-moves _ _ }
+  value-answers first = record { answers = λ P n S f fs rest q st at-line. first .checks P n S f fs rest st (word-names st w (let-names st at-line), tt) ∙ sym (then-gives _ _) }
 
   pub cast-answers : (c : Cap) → Checks s h (w / 2 ∷ []) (λ P H. castLine H c (operandOf w)) k → Answers Always s h (bind (cast c (operandOf w))) k
   unfolding perform letLine
@@ -89,9 +85,7 @@ module _ {s s₁ s₂ : List ℕ} {h : Here} {i : ℕ} (w : ℕ) (place : i ≡ 
         let t = h .thread in
         let k = h .depth in
         let here = inside st in
-        let same : i ≡ w / 2 = place ∙ mod-eq-of-lt (omega (arith, there, room)) in
-        let is-value : slotAt (frameAt S t k .slots) i ≡ value-of = ap (λ (g : Frame). slotAt (g .slots) i) (frame-inside here) ∙ ap (slotAt (f .slots)) same in
-        let first : Held s₁ (given t k value-of S) rest = subst (λ (v : Value). Held s₁ (given t k v S) rest) is-value (gives-slot .becomes S rest (st .held) (has-room here room (line-few st))) in
+        let first : Held s₁ (given t k value-of S) rest = subst (λ (v : Value). Held s₁ (given t k v S) rest) (slot-found st (w / 2) i place there) (gives-slot .becomes S rest (st .held) (has-room here room (line-few st))) in
         let now-in : Inside t k (filled f (f .slots) value-of) fs (given t k value-of S) = rw (given-inside here value-of) (inside-put S ready (here .thread) (here .depth)) in
         let more : w / 2 < length (f .slots ++ (value-of ∷ [])) = omega (arith, there, length-snoc (f .slots) value-of) in
         subst (λ (R : State). Held s₂ R rest) (given-then-emptied here value-of (operandOf w) (rw (slot-of-word w) there))

@@ -1,31 +1,32 @@
 -- A rule's result as the step taken: where the check stops or waits the table is as it was; where it passes the rule has moved.
-use Prim.Native.Nat.{ℕ, _+_, _/_, _%_, _<_}
+use Prim.Native.Nat.{ℕ, _/_, _<_}
 use native.Mathlib.Omega.{arith}
-use mathlib.Core.Path.{_≡_, refl, sym, ap, _∙_, subst}
-use mathlib.Core.List.{List, [], _∷_}
-use lib.Dec.{eqb}
+use mathlib.Core.Path.{_≡_, refl}
+use mathlib.Core.List.{List}
 use lib.ListN.{length}
 use Rattle.rules.specs.Mosts as Most
 use Rattle.rules.specs.Mosts.{mosts}
 use Rattle.rules.specs.Script.{Operand, reads, takes, Expr, Line, bind, give, Sort, Program, blockAt, lineAt}
-use Rattle.rules.specs.Reading.{firstSlots, slotOf}
+use Rattle.rules.specs.Reading.{slotOf}
 use Rattle.rules.specs.Valid.{OperandOk, ExprOk}
 use Rattle.rules.specs.State.{Frame, State}
 use Rattle.rules.specs.Tables.{operandOf}
 use Rattle.rules.specs.Turn as R
-use Rattle.rules.specs.Turn.{Res, ok, wait, stop, _>>=_}
+use Rattle.rules.specs.Turn.{Res, ok, wait, stop}
 use Rattle.rules.specs.Fits.{FrameFits}
-use Rattle.rules.proofs.ListLaws.{impossible, by-bool}
+use Rattle.rules.proofs.ListLaws.{impossible}
 use Rattle.rules.proofs.Moves.{Step, stepped}
-use Rattle.rules.proofs.Keeps.{let-below, let-ok, give-ok, block-ok, here-fits}
+use Rattle.rules.proofs.Keeps.{let-below, let-ok, give-ok, block-ok}
+use Rattle.rules.proofs.TableWords.{slot-of-word}
 use Rattle.table.specs.declared.state.Here.{Here}
 use Rattle.table.specs.State.{Held}
 use Rattle.checks.specs.declared.lines.Check.{Check}
 use Rattle.checks.specs.declared.lines.Check.the-variants.{Pass, Wait, Stop}
 use Rattle.checks.specs.Checked.{checkOf, hereAt, Stand}
+use Rattle.checks.proofs.Standing.{fits-here}
 use Rattle.turn.specs.declared.lines.Step as C
 use Rattle.turn.specs.declared.lines.Step.the-variants.{Waits, Stops}
-use Rattle.turn.specs.Performed.{Went, Performed, moved, waited, stopped, Performs}
+use Rattle.turn.specs.Performed.{Went, Performed, moved, waited, stopped, Performs, Always}
 
 -- ---- A result
 
@@ -45,13 +46,6 @@ module _ {t : ℕ} {f : Frame} {fs : List Frame} {s rest : List ℕ} where
   performed-pass (ok S) e is go = go S refl
   performed-pass wait e is go = impossible cc
   performed-pass (stop m) e is go = impossible cc
-
--- what cannot fail changes no answer
-pub then-moves : {A : Type 0} (x : Res A) (g : A → State) → checkOf x ≡ checkOf (x >>= λ a. ok (g a))
-unfolding _>>=_
-then-moves (ok a) g = refl
-then-moves wait g = refl
-then-moves (stop n) g = refl
 
 -- ---- A line, by its check
 
@@ -81,18 +75,20 @@ module _ {Q : Program → State → Type 0} {s : List ℕ} {h : Here} {x : Line}
             λ S₁ e. let done = does .writes P n S f fs rest q st few at-line S₁ (stepped mosts P H x S₁ e) in moved (done .0) (done .1);
       }
 
+-- where Q holds of each state that the table holds, it need not be asked
+pub always-performs : {Q : Program → State → Type 0} {s s₁ : List ℕ} {h : Here} {x : Line} {r : C.Step} → ((P : Program) (S : State) (rest : List ℕ) → Held s S rest → Q P S)
+    → Performs Q s h x r s₁ → Performs Always s h x r s₁
+always-performs holds does = record { performs = λ P n S f fs rest q st few at-line. does .performs P n S f fs rest (holds P S rest (st .held)) st few at-line }
+
 -- ---- What a line says of the slots that are filled
 
 pub operand-names : (o : Sort) (n : ℕ) (w : Operand) → OperandOk o n w → slotOf w < n
 operand-names o n (reads s) names = names
 operand-names o n (takes s) names = names .0
 
-pub slot-of-word : (w : ℕ) → slotOf (operandOf w) ≡ w / 2
-slot-of-word w = by-bool (eqb (w % 2) 1) (λ t. rw t refl) (λ t. rw t refl)
-
 module _ {s : List ℕ} {h : Here} {P : Program} {n : ℕ} {S : State} {f : Frame} {fs : List Frame} {rest : List ℕ} (st : Stand s h P n S f fs rest) where
   frame-fits : FrameFits P (length (S .objects)) (length (S .threads)) f
-  frame-fits = here-fits mosts P n S (h .thread) f fs (st .fits) (st .frames) .frame
+  frame-fits = fits-here st .frame
 
   pub let-names : {e : Expr} → lineAt P (f .block) (f .line) ≡ bind e → ExprOk P (blockAt P (f .block) .sort) (length (f .slots)) e
   let-names {e} at-line = rw (frame-fits .count) (let-ok mosts P (st .valid) (f .block) (f .line) e (frame-fits .block) at-line)

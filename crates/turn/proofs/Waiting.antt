@@ -10,17 +10,19 @@ use Rattle.rules.specs.declared.Value.the-variants.{Absent, Obj, Chan}
 use Rattle.rules.specs.Mosts.{mosts}
 use Rattle.rules.specs.Lists.{pad}
 use Rattle.rules.specs.Script.{Operand, reads, takes, value, field, swap, call, new, cast, spawn, send, recv, Line, bind, give, line, Program}
-use Rattle.rules.specs.State.{Object, Sender, ready, waiting, State, threadAt}
+use Rattle.rules.specs.State.{Object, State, threadAt}
 use Rattle.rules.specs.Tables.{operandOf, senderWord, lineWords, row}
 use Rattle.rules.specs.Turn as R
-use Rattle.rules.specs.Turn.{Res, ok, wait, stop, _>>=_, _>>_, check, permit, present, asObject, operand, operands, allObjects, permitSwap, valueLine, fieldLine, swapLine, callLine, newLine, castLine, spawnLine, putLine, sentLine, sendLine, recvLine, giveLine, letLine, perform}
+use Rattle.rules.specs.Turn.{Res, ok, wait, stop, _>>=_, _>>_, check, permit, present, asObject, operand, operands, allObjects, permitSwap, valueLine, fieldLine, swapLine, callLine, newLine, castLine, spawnLine, putLine, sentLine, recvLine, giveLine, letLine, perform}
 use Rattle.rules.specs.Run.{waits}
 use Rattle.table.specs.declared.state.Here.{Here}
-use Rattle.table.specs.State.{Sees, Any}
+use Rattle.table.specs.State.{Held, Sees, Any}
 use Rattle.checks.specs.declared.lines.Check.{Check}
 use Rattle.checks.specs.Checked.{checkOf, isWait, hereAt, Checks}
 use Rattle.turn.specs.Performed.{WaitsHere, WouldWait}
-use Rattle.turn.proofs.Steps.{let-names, word-names}
+use Rattle.turn.proofs.Steps.{Answers}
+use Rattle.turn.proofs.ChannelLines.{recv-answers}
+use Rattle.turn.proofs.SendLines.{put-answers, sent-answers, seen-ready, seen-waiting}
 use Rattle.turn.proofs.Dispatch.{wordAt, Tells}
 use Rattle.turn.proofs.Located.{Idles, Finds}
 
@@ -34,48 +36,19 @@ answer-waits (stop n) e = ap isWait e
 
 -- r says whether the check k waits
 module _ {s : List ℕ} {h : Here} {k : Check} {r : Bool} (is : r ≡ isWait k) where
+  -- where Q holds of each state that the table holds
+  answered-waits : {Q : Program → State → Type 0} {x : Line} → ((P : Program) (S : State) (rest : List ℕ) → Held s S rest → Q P S) → Answers Q s h x k → WaitsHere s h x r
+  answered-waits holds told = record { is = λ P n S f fs rest st at-line. is ∙ answer-waits _ (told .answers P n S f fs rest (holds P S rest (st .held)) st at-line) }
+
   pub recv-waits : (i : ℕ) → Checks s h (i ∷ []) (λ P H. recvLine H i) k → WaitsHere s h (bind (recv i)) r
-  unfolding perform letLine
-  recv-waits i checked =
-      record { is = λ P n S f fs rest st at-line. is ∙ answer-waits _ (checked .checks P n S f fs rest st (let-names st at-line, tt)) }
-
--- a sender's word tells it
-ready-by-word : (x : Sender) → 0 ≡ senderWord x → x ≡ ready
-ready-by-word ready e = refl
-ready-by-word (waiting i) e = absurd (omega arith)
-
-waiting-by-word : (x : Sender) (d : ℕ) → d ≡ senderWord x → (d ≡ 0 → ⊥) → x ≡ waiting (d - 1)
-waiting-by-word ready d e some = absurd (some e)
-waiting-by-word (waiting i) d e some = ap waiting (omega arith)
-
-module _ (H : R.Here) (i : ℕ) (w : Operand) where
-  ready-puts : {d : Sender} → d ≡ ready → putLine H i w ≡ sendLine H d i w
-  unfolding sendLine
-  ready-puts is-ready = rw is-ready refl
-
-  waiting-sent : {d : Sender} {n : ℕ} → d ≡ waiting n → sentLine H i n ≡ sendLine H d i w
-  unfolding sendLine
-  waiting-sent is-waiting = rw is-waiting refl
+  recv-waits i checked = answered-waits (λ P S rest held. tt) (recv-answers i checked)
 
 module _ {s : List ℕ} {h : Here} {k : Check} {r : Bool} (is : r ≡ isWait k) {d : ℕ} (seen : Sees s Any (λ S. senderWord (threadAt S (h .thread) .sender)) d) (i w : ℕ) where
   pub put-waits : d ≡ 0 → Checks s h (i ∷ w / 2 ∷ []) (λ P H. putLine H i (operandOf w)) k → WaitsHere s h (bind (send i (operandOf w))) r
-  unfolding perform letLine
-  put-waits none checked =
-      record {
-        is = λ P n S f fs rest st at-line.
-            let names = let-names st at-line in
-            let is-ready = ready-by-word (threadAt S (h .thread) .sender) (sym none ∙ seen .sees S rest (st .held) tt) in
-            is ∙ answer-waits _ (checked .checks P n S f fs rest st (names .0, (word-names st w (names .1), tt))) ∙ ap waits (ready-puts (hereAt S (h .thread) f fs) i (operandOf w) is-ready);
-      }
+  put-waits none checked = answered-waits is (seen-ready (h .thread) seen none) (put-answers i w checked)
 
   pub sent-waits : (d ≡ 0 → ⊥) → Checks s h (i ∷ []) (λ P H. sentLine H i (d - 1)) k → WaitsHere s h (bind (send i (operandOf w))) r
-  unfolding perform letLine
-  sent-waits some checked =
-      record {
-        is = λ P n S f fs rest st at-line.
-            let is-waiting = waiting-by-word (threadAt S (h .thread) .sender) d (seen .sees S rest (st .held) tt) some in
-            is ∙ answer-waits _ (checked .checks P n S f fs rest st (let-names st at-line .0, tt)) ∙ ap waits (waiting-sent (hereAt S (h .thread) f fs) i (operandOf w) is-waiting);
-      }
+  sent-waits some checked = answered-waits is (seen-waiting (h .thread) seen) (sent-answers i (omega (arith, some)) (operandOf w) checked)
 
 -- ---- The other lines go on or stop
 

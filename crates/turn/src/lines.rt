@@ -94,7 +94,7 @@ pub fn swap_line(s: &mut [u16], h: Here, i: u16, j: u16, w: u16) -> Step
         Check::Wait => Step::Waits,
         Check::Pass => {
             let o = number_of(table::slot(s, h, i as usize % 16));
-            table::give_field(s, h, o, j % 4);
+            table::give_field(s, h, o, j % 4); // the old value
             table::store_field(s, h, o, j % 4, slot_of(w));
             leave(s, h, w);
             Step::Next
@@ -235,7 +235,7 @@ pub fn recv_line(s: &mut [u16], h: Here, i: u16) -> Step
     let k = checks::recv_check(s, h, i);
     match k {
         Check::Stop(n) => Step::Stops(n),
-        Check::Wait => Step::Waits,
+        Check::Wait => Step::Waits, // the channel is empty
         Check::Pass => {
             let c = number_of(table::slot(s, h, i as usize % 16)) % 16;
             table::give_message(s, h, c);

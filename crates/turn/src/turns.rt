@@ -1,8 +1,6 @@
 // The line where a thread stands, by the number of its form; a turn; and whether a turn would wait.
 use super::lines::Step;
-use checks::Check;
 use table::Here;
-ghost use mathlib.Core.Path.{_≡_};
 ghost use Prim.Native.Nat.{_≤_, _<_};
 ghost use lib.ListN.{length};
 ghost use Rattle.rules.specs.Script.{send, recv, bind};

@@ -6,58 +6,115 @@ use mathlib.Core.Logic.{⊎-elim}
 use lib.ListN.{length, getD}
 use denote.Ref.{now}
 use borrow.Author.Needs.{needs}
-use Rattle.run.proofs.TurnByTurn.{Playing, Looked, at-start, at-end, is-known, has-none, found, same-looked, same-playing, turn-idles, turn-goes-next, turn-stays, turn-leaves-frame, turn-waits, turn-stops}
+use Rattle.table.specs.State.{Placed}
+use Rattle.run.proofs.TurnByTurn.{keptAt, Playing, Looked, at-start, at-end, is-kept, has-none, found, same-looked, same-playing, turn-idles, no-turn, turn-goes-next, turn-stays, turn-leaves-frame, turn-waits, turn-stops}
 use Rattle.run.proofs.playing.play.Statement.{statement}
 use Rattle.run.proofs.playing.play.Tie as tie
 
 abbrev Inv-loop : tie.InvT-loop
-Inv-loop p s₀ turns here₀ known₀ moves₀ i₀ s here known moves i = Playing p s₀ turns s here known moves i
+Inv-loop p s₀ turns rows₀ frames₀ depths₀ moves₀ i₀ s rows frames depths moves i = Playing p s₀ turns s rows frames depths moves i
 
 abbrev μ-loop : tie.MeasureT-loop
-μ-loop p s₀ turns here₀ known₀ moves₀ i₀ s here known moves i = length turns - i
-
-locate-requires : tie.Need-locate-requires Inv-loop μ-loop
-locate-requires c κs = search needs
+μ-loop p s₀ turns rows₀ frames₀ depths₀ moves₀ i₀ s rows frames depths moves i = length turns - i
 
 loop-holds : tie.Need-loop-holds Inv-loop μ-loop
-loop-holds c = at-start _ _ _ (c .locate .ensures .0 .0)
+loop-holds c = at-start _ _ _
 
 shared-slice-read-t : tie.Need-shared-slice-read-t Inv-loop μ-loop
 shared-slice-read-t c = search needs
 
 -- a turn is a byte
-byte : (c : tie.After-shared-slice-known3 Inv-loop μ-loop) → getD (now (c .before .before .before .before .before .before .before .before .args .turns)) (c .before .before .loop .i) 0 < 256
+byte : (c : tie.After-shared-slice-known3 Inv-loop μ-loop) → getD (now (c .before .before .before .before .before .before .args .turns)) (c .before .before .loop .i) 0 < 256
 byte c = c .shared-slice-known3 .given (c .before .before .loop .i) .fits
 
 cast-t : tie.Need-cast-t Inv-loop μ-loop
 cast-t c = omega (arith, byte c)
 
-frames-of-requires : tie.Need-frames-of-requires Inv-loop μ-loop
-frames-of-requires c κs = search needs
+mul-if2 : tie.Need-mul-if2 Inv-loop μ-loop
+mul-if2 c = search needs
 
-locate-requires-2 : tie.Need-locate-requires-2 Inv-loop μ-loop
-locate-requires-2 c κs = search needs
+array-read-if2 : tie.Need-array-read-if2 Inv-loop μ-loop
+array-read-if2 c = search needs
+
+frame-count-requires : tie.Need-frame-count-requires Inv-loop μ-loop
+frame-count-requires c κs = search needs
+
+locate-requires : tie.Need-locate-requires Inv-loop μ-loop
+locate-requires c κs = search needs
+
+mul-rows : tie.Need-mul-rows Inv-loop μ-loop
+mul-rows c = search needs
+
+array-write-rows : tie.Need-array-write-rows Inv-loop μ-loop
+array-write-rows c = search needs
+
+mul-frames : tie.Need-mul-frames Inv-loop μ-loop
+mul-frames c = search needs
+
+array-write-frames : tie.Need-array-write-frames Inv-loop μ-loop
+array-write-frames c = search needs
+
+mul-depths : tie.Need-mul-depths Inv-loop μ-loop
+mul-depths c = search needs
+
+array-write-depths : tie.Need-array-write-depths Inv-loop μ-loop
+array-write-depths c = search needs
+
+mul-if4 : tie.Need-mul-if4 Inv-loop μ-loop
+mul-if4 c = search needs
+
+array-read-if4 : tie.Need-array-read-if4 Inv-loop μ-loop
+array-read-if4 c = search needs
+
+mul-t40 : tie.Need-mul-t40 Inv-loop μ-loop
+mul-t40 c = search needs
+
+array-read-t43 : tie.Need-array-read-t43 Inv-loop μ-loop
+array-read-t43 c = search needs
+
+mul-t44 : tie.Need-mul-t44 Inv-loop μ-loop
+mul-t44 c = search needs
+
+array-read-t47 : tie.Need-array-read-t47 Inv-loop μ-loop
+array-read-t47 c = search needs
+
+mul-t48 : tie.Need-mul-t48 Inv-loop μ-loop
+mul-t48 c = search needs
+
+array-read-t51 : tie.Need-array-read-t51 Inv-loop μ-loop
+array-read-t51 c = search needs
 
 -- where the arms meet, the thread whose turn it is was looked for
-looked : (c : tie.Joined1 Inv-loop μ-loop)
-    → (let x = c .before .before .before .loop in
-    let a = c .before .before .before .before .before .before .before .before .before .args in
-    Looked (now (a .p)) (now (a .s)) (now (a .turns)) (x .s) (c .if1 .here) (c .if1 .known) (x .moves) (x .i) (getD (now (a .turns)) (x .i) 0))
+looked : (c : tie.Joined2 Inv-loop μ-loop)
+    → (let x = c .before .before .before .before .loop in
+    let a = c .before .before .before .before .before .before .before .before .args in
+    Looked (now (a .p)) (now (a .s)) (now (a .turns)) (x .s) (c .if2 .rows) (c .if2 .frames) (c .if2 .depths) (x .moves) (x .i) (getD (now (a .turns)) (x .i) 0))
 looked c =
-    let playing = c .before .before .before .loop .inv in
+    let playing = c .before .before .before .before .loop .inv in
     ⊎-elim
-    (λ w. same-looked (w .6) (w .7) (found playing (w .2 .ensures) (w .3 .taken) (w .5 .ensures .0 .0) (w .5 .ensures .0 .1) (w .5 .ensures .1)))
-    (⊎-elim (λ w. same-looked (w .4) (w .5) (has-none playing (w .2 .ensures) (w .3 .left))) (λ w. same-looked (w .1) (w .2) (is-known playing (w .0 .left))))
-    (c .if1 .came)
+    (λ w. same-looked (w .6) (w .7) (w .8) (found playing (w .2 .ensures .1) (w .3 .taken) (c .before .if1 .taken) (w .5 .ensures .0 .0) (w .5 .ensures .0 .1) (w .5 .ensures .1)))
+    (⊎-elim (λ w. same-looked (w .4) (w .5) (w .6) (has-none playing (w .2 .ensures .1) (w .3 .left))) (λ w. same-looked (w .1) (w .2) (w .3) (is-kept playing (w .0 .left))))
+    (c .if2 .came)
+
+-- and where its place is kept, the place is one of the tables
+kept-placed : (c : tie.Then4 Inv-loop μ-loop)
+    → (let t = getD (now (c .before .before .before .before .before .before .before .before .before .args .turns)) (c .before .before .before .before .before .loop .i) 0 in let x = c .before .if2 in Placed (keptAt (x .rows) (x .frames) (x .depths) t))
+kept-placed c = looked (c .before) .playing .placed _ (c .if4 .taken)
 
 perform-requires : tie.Need-perform-requires Inv-loop μ-loop
-perform-requires c κs = (search needs, search needs, looked (c .before .before) .playing .placed)
+perform-requires c κs = (search needs, search needs, kept-placed (c .before))
 
 enum-told : tie.Need-enum-told Inv-loop μ-loop
 enum-told c = search needs
 
 next-line-requires : tie.Need-next-line-requires Inv-loop μ-loop
-next-line-requires c κs = looked (c .before .before .before .before .before .before .before) .playing .placed
+next-line-requires c κs = kept-placed (c .before .before .before .before .before .before)
+
+mul-rows-2 : tie.Need-mul-rows-2 Inv-loop μ-loop
+mul-rows-2 c = search needs
+
+array-write-rows-2 : tie.Need-array-write-rows-2 Inv-loop μ-loop
+array-write-rows-2 c = search needs
 
 add-moves : tie.Need-add-moves Inv-loop μ-loop
 add-moves c = search needs
@@ -71,6 +128,12 @@ add-moves-2 c = search needs
 enum-told-3 : tie.Need-enum-told-3 Inv-loop μ-loop
 enum-told-3 c = search needs
 
+mul-rows-3 : tie.Need-mul-rows-3 Inv-loop μ-loop
+mul-rows-3 c = search needs
+
+array-write-rows-3 : tie.Need-array-write-rows-3 Inv-loop μ-loop
+array-write-rows-3 c = search needs
+
 add-moves-3 : tie.Need-add-moves-3 Inv-loop μ-loop
 add-moves-3 c = search needs
 
@@ -81,26 +144,22 @@ enum-known-step : tie.Need-enum-known-step Inv-loop μ-loop
 enum-known-step c = search needs
 
 frame-block-requires : tie.Need-frame-block-requires Inv-loop μ-loop
-frame-block-requires c κs =
-    let placed = looked (c .before .before .before .before .before .before .before .before .before) .playing .placed in
-    (search needs, placed .thread, placed .depth)
+frame-block-requires c κs = let placed = kept-placed (c .before .before .before .before .before .before .before .before) in (search needs, placed .thread, placed .depth)
 
 frame-line-requires : tie.Need-frame-line-requires Inv-loop μ-loop
-frame-line-requires c κs =
-    let placed = looked (c .before .before .before .before .before .before .before .before .before .before .before) .playing .placed in
-    (search needs, placed .thread, placed .depth)
+frame-line-requires c κs = let placed = kept-placed (c .before .before .before .before .before .before .before .before .before .before) in (search needs, placed .thread, placed .depth)
 
-cast-t32 : tie.Need-cast-t32 Inv-loop μ-loop
-cast-t32 c = omega (arith, byte (c .before .before .before .before .before .before .before .before .before .before .before .before .before))
+cast-t65 : tie.Need-cast-t65 Inv-loop μ-loop
+cast-t65 c = search needs
 
 same-length : tie.Need-same-length Inv-loop μ-loop
 same-length c = search needs
 
 returns : tie.Need-returns Inv-loop μ-loop
 returns c =
-    let joined = c .before .before .before .before .before .before .before .before .before .before .before .before in
-    let few = joined .before .before .before .before .before .before .before .before .before .pre .2 in
-    turn-stops (looked joined) (joined .before .before .loop-test .taken) refl few (byte (joined .before)) (c .before .before .before .before .before .before .before .before .before .before .before .if3 .taken)
+    let kept = c .before .before .before .before .before .before .before .before .before .before .before in
+    let start = kept .before .before .before .before .before .before .before .before .before in
+    turn-stops (looked (kept .before) .playing) (kept .before .before .before .before .loop-test .taken) refl (start .pre .2) (kept .if4 .taken)
     (c .before .before .before .before .before .step .given .1) (c .before .before .before .before .before .before .before .before .before .perform .ensures) (c .before .before .frame-block .ensures .1) (c .frame-line .ensures .1)
 
 add-i : tie.Need-add-i Inv-loop μ-loop
@@ -111,21 +170,26 @@ loop-less c = search needs
 
 loop-again : tie.Need-loop-again Inv-loop μ-loop
 loop-again c =
-    let few = c .before .before .before .before .before .before .before .before .before .before .pre .2 in
-    let more = c .before .before .before .loop-test .taken in
-    let at = looked (c .before) in
-    let small = byte (c .before .before) in
+    let few = c .before .before .before .before .before .before .before .pre .2 in
+    let more = c .before .before .loop-test .taken in
     ⊎-elim
-    (λ w. same-playing (w .8) (w .9) (w .10) (w .11)
-    (let next = w .7 .ensures in turn-goes-next at more refl few small (w .0 .taken) (w .6 .given .1) (w .2 .ensures) (w .2 .kept .1 .0) (next .0) (next .1) (next .2) (next .3)))
+    (λ w. let at = looked (record { before = record { before = c .before; if1 = w .0 }; if2 = w .1 }) .playing in
+    same-playing (w .10) (w .11) (w .12) (w .13) (w .14)
+    (turn-goes-next at more refl few (w .2 .taken) (w .8 .given .1) (w .4 .ensures) (w .4 .kept .1 .0) (w .9 .ensures .0) (w .9 .ensures .3)))
     (⊎-elim
-    (λ w. same-playing (w .7) (w .8) (w .9) (w .10) (turn-stays at more refl few small (w .0 .taken) (w .6 .given .1) (w .2 .ensures) (w .2 .kept .1 .0)))
+    (λ w. let at = looked (record { before = record { before = c .before; if1 = w .0 }; if2 = w .1 }) .playing in
+    same-playing (w .9) (w .10) (w .11) (w .12) (w .13) (turn-stays at more refl few (w .2 .taken) (w .8 .given .1) (w .4 .ensures) (w .4 .kept .1 .0)))
     (⊎-elim
-    (λ w. same-playing (w .7) (w .8) (w .9) (w .10) (turn-leaves-frame at more refl few small (w .0 .taken) (w .6 .given .1) (w .2 .ensures) (w .2 .kept .1 .0)))
+    (λ w. let at = looked (record { before = record { before = c .before; if1 = w .0 }; if2 = w .1 }) .playing in
+    same-playing (w .9) (w .10) (w .11) (w .12) (w .13) (turn-leaves-frame at more refl few (w .2 .taken) (w .8 .given .1) (w .4 .ensures) (w .4 .kept .1 .0)))
     (⊎-elim
-    (λ w. same-playing (w .7) (w .8) (w .9) (w .10) (turn-waits at more refl few small (w .0 .taken) (w .6 .given .1) (w .2 .ensures) (w .2 .kept .1 .0)))
-    (λ w. same-playing (w .1) (w .2) (w .3) (w .4) (turn-idles at more refl (w .0 .left))))))
-    (c .if3 .came)
+    (λ w. let at = looked (record { before = record { before = c .before; if1 = w .0 }; if2 = w .1 }) .playing in
+    same-playing (w .9) (w .10) (w .11) (w .12) (w .13) (turn-waits at more refl few (w .2 .taken) (w .8 .given .1) (w .4 .ensures) (w .4 .kept .1 .0)))
+    (⊎-elim
+    (λ w. same-playing (w .3) (w .4) (w .5) (w .6) (w .7)
+    (turn-idles (looked (record { before = record { before = c .before; if1 = w .0 }; if2 = w .1 })) more refl (w .2 .left)))
+    (λ w. same-playing (w .1) (w .2) (w .3) (w .4) (w .5) (no-turn (c .before .before .before .loop .inv) more refl (w .0 .left)))))))
+    (c .if1 .came)
 
 same-length-2 : tie.Need-same-length-2 Inv-loop μ-loop
 same-length-2 c = search needs
@@ -139,25 +203,44 @@ play-spec =
     (tie.spec
     Inv-loop
     μ-loop
-    locate-requires
     loop-holds
     shared-slice-read-t
     cast-t
-    frames-of-requires
-    locate-requires-2
+    mul-if2
+    array-read-if2
+    frame-count-requires
+    locate-requires
+    mul-rows
+    array-write-rows
+    mul-frames
+    array-write-frames
+    mul-depths
+    array-write-depths
+    mul-if4
+    array-read-if4
+    mul-t40
+    array-read-t43
+    mul-t44
+    array-read-t47
+    mul-t48
+    array-read-t51
     perform-requires
     enum-told
     next-line-requires
+    mul-rows-2
+    array-write-rows-2
     add-moves
     enum-told-2
     add-moves-2
     enum-told-3
+    mul-rows-3
+    array-write-rows-3
     add-moves-3
     enum-told-4
     enum-known-step
     frame-block-requires
     frame-line-requires
-    cast-t32
+    cast-t65
     same-length
     returns
     add-i

@@ -1,4 +1,5 @@
 -- `table::state::slot` meets its contract: slot i is word 3 + i of the frame's.
+use Prim.Native.Nat.{_+_}
 use native.Mathlib.Omega.{arith}
 use Rattle.table.proofs.StateReads.{slot-seen}
 use borrow.Author.Needs.{needs}
@@ -25,7 +26,7 @@ returns c =
     let start = c .before .before .before in
     let h = start .args .h in
     let placed = start .pre .1 in
-    (c .unpack .ensures, slot-seen (h .thread) (h .depth) (start .args .i) (h .frame) (placed .thread) (placed .depth) (omega arith) (placed .frame) (c .unpack .ensures .0))
+    (c .unpack .ensures, slot-seen (h .thread) (h .depth) (start .args .i) (h .frame + 3 + start .args .i) (placed .thread) (placed .depth) (omega arith) (omega (arith, placed .frame)) (c .unpack .ensures .0))
 
 pub slot-spec : {M : Type 1} → statement M
 slot-spec =

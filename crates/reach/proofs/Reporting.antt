@@ -1,0 +1,219 @@
+-- The report: the numbers listed are those met, and what is met is what is reached. Before it: 1, 9, and what the run answers.
+use Prim.Native.Nat.{ℕ, _%_, _≤_, _<_}
+use native.Mathlib.Nat.{mod-eq-of-lt}
+use native.Mathlib.Omega.{arith}
+use mathlib.Core.Path.{_≡_, refl, sym, ap, _∙_, subst}
+use mathlib.Core.Bool.{Bool, true, false, cond}
+use mathlib.Core.List.{List, [], _++_}
+use lib.Dec.{ltb}
+use lib.ListN.{length, getD, drop, replicate, length-append}
+use borrow.Author.Tests.{lt-ltb, le-ltb, ltb-true, ltb-false}
+use Rattle.rules.specs.declared.Value.{Value}
+use Rattle.rules.specs.Mosts as Most
+use Rattle.rules.specs.Mosts.{mosts}
+use Rattle.rules.specs.Numbers as No
+use Rattle.rules.specs.Script.{Program}
+use Rattle.rules.specs.Reading.{Reading, turnedAway, accepted, script, reading}
+use Rattle.rules.specs.Valid.{Valid}
+use Rattle.rules.specs.State.{Object, State}
+use Rattle.rules.specs.Fits.{Fits}
+use Rattle.rules.specs.Run as R
+use Rattle.rules.specs.Run.{Stop, none, stopped, run, finished, stuck, openEnd, ended, answer}
+use Rattle.rules.specs.Tables.{stateWords}
+use Rattle.rules.specs.Reach.{count, times, ReachedFrom, roots, Lists}
+use Rattle.rules.specs.Calls.{longText, longTurns, shortTable, runCall, runAnswer, reachCall, programAfter, stateAfter, unreported, reached, Reports, ReportsOn, ReachReport}
+use Rattle.rules.proofs.ListLaws.{impossible, by-bool}
+use Rattle.rules.proofs.Accepted.{accepted-valid}
+use Rattle.rules.proofs.Keeps.{fits-run}
+use Rattle.rules.proofs.Walks.{walked-lists, roots-made, reached-range}
+use Rattle.rules.proofs.TableWords.{state-words-length}
+use Rattle.table.specs.State.{Held, Sees, Any}
+use Rattle.run.specs.declared.Answer.{Answer}
+use Rattle.run.specs.declared.Answer.the-variants.{Refused, Finished, Stuck, Open, Stopped}
+use Rattle.run.specs.Answers.{answerOf}
+use Rattle.reach.specs.declared.Report.{Report}
+use Rattle.reach.specs.declared.Report.the-variants as T
+use Rattle.reach.specs.Walking.{reportOf, Marked, WalkedRoots, WalksThread, ListsMarked, ReportsState}
+use Rattle.reach.proofs.Marks.{none-marked}
+
+-- ---- The report on a state
+
+-- only how often a value or a number stands in its list matters
+lists-same : {os : List Object} {vs us : List Value} {out ns : List ℕ} → ((x : ℕ) → count x vs ≡ count x us) → ((x : ℕ) → times x out ≡ times x ns)
+    → Lists os vs out → Lists os us ns
+lists-same {os} {vs} {us} {out} {ns} same-values same-numbers l =
+    record {
+      reached = λ x. ((λ h. there x (l .reached x .0 (omega (arith, same-numbers x)))), (λ r. omega (arith, same-numbers x, l .reached x .1 (back x r))));
+      once = λ x. omega (arith, same-numbers x, l .once x);
+    }
+  where
+    there : (x : ℕ) → ReachedFrom os vs x → ReachedFrom os us x
+    there x r = record { first = r .first; held = omega (arith, same-values (r .first), r .held); reaches = r .reaches }
+
+    back : (x : ℕ) → ReachedFrom os us x → ReachedFrom os vs x
+    back x r = record { first = r .first; held = omega (arith, same-values (r .first), r .held); reaches = r .reaches }
+
+-- what is met lies below 256, so it is listed
+same-times : {marks : List Bool} {out : List ℕ} (ns : List ℕ) → Marked marks out → ((x : ℕ) → 1 ≤ times x out → x < 256)
+    → ((x : ℕ) → times x ns ≡ cond (ltb x 256) (cond (getD marks x false) 1 0) 0) → (x : ℕ) → times x out ≡ times x ns
+same-times {marks} {out} ns marked low listed x =
+    by-bool (ltb x 256) (λ t. marked .is x ∙ sym (listed x ∙ ap (λ b. cond b (cond (getD marks x false) 1 0) 0) t))
+    (λ t. high (ltb-false x 256 t) ∙ sym (listed x ∙ ap (λ b. cond b (cond (getD marks x false) 1 0) 0) t))
+  where
+    high : 256 ≤ x → times x out ≡ 0
+    high h = by-bool (ltb 0 (times x out)) (λ t. absurd (omega (arith, h, low x (ltb-true 0 (times x out) t)))) (λ t. omega (arith, ltb-false 0 (times x out) t))
+
+module _ {s list : List ℕ} {t d : ℕ} (counted : Sees s Any (λ S. length (S .threads)) d) where
+  pub not-reported : d ≤ t → ReportsState s t list (T.Refused No.noThread 0) list
+  not-reported past =
+      record {
+        reports = λ P n S rest held fits.
+            let few : length (S .threads) ≤ t = omega (arith, counted .sees S rest held tt) in
+            subst (λ (b : Bool). ReportsOn S t b list (unreported No.noThread 0) list) (sym (le-ltb t (length (S .threads)) few)) (record { answers = refl; leaves = refl });
+      }
+
+  pub reported : {marks : List Bool} {r : ℕ} {list₁ : List ℕ} → t < d → WalksThread s (replicate 256 false) (t % 16) marks → ListsMarked marks list r list₁
+      → ReportsState s t list (T.Reached r) list₁
+  reported {marks} {r} {list₁} there walks listed =
+      record {
+        reports = λ P n S rest held fits.
+            let started : t < length (S .threads) = omega (arith, counted .sees S rest held tt) in
+            let place : t % 16 ≡ t = mod-eq-of-lt (omega (arith, fits .few-threads)) in
+            let walked : WalkedRoots S t [] marks = rw place at (walks .walks P n S rest [] held fits (none-marked 256)) in
+            subst (λ (b : Bool). ReportsOn S t b list (reached r) list₁) (sym (lt-ltb t (length (S .threads)) started)) (on fits walked);
+      }
+    where
+      on : {P : Program} {n : ℕ} {S : State} → Fits mosts P n S → WalkedRoots S t [] marks → Reports S t list (reached r) list₁
+      on {S = S} fits w =
+          let all : Lists (S .objects) (roots S t) (w .walked-to .out) = lists-same (w .same) (λ x. refl) (walked-lists (S .objects) (w .walked-to .walked)) in
+          let low : (x : ℕ) → 1 ≤ times x (w .walked-to .out) → x < 256 =
+          λ x h. omega (arith, fits .few-objects, reached-range fits (roots S t) (roots-made fits t) x (all .reached x .0 h)) in
+          record {
+            objects = listed .numbers;
+            lists = lists-same (λ x. refl) (same-times (listed .numbers) (w .walked-to .marked) low (listed .marked)) all;
+            answers = ap reached (listed .count);
+            leaves = listed .words;
+          }
+
+-- ---- 1 and 9, then what the run is
+
+module _ (text turns program state list : List ℕ) where
+  pub text-long : Most.text < length text → reachCall mosts text turns program state list ≡ turnedAway No.overlong 0
+  unfolding reachCall reading longText
+  text-long long = rw (lt-ltb _ _ long) refl
+
+  pub turns-long : length text ≤ Most.text → Most.turns < length turns → reachCall mosts text turns program state list ≡ turnedAway No.overlong 0
+  unfolding reachCall reading longText longTurns
+  turns-long few long = rw (le-ltb _ _ few, lt-ltb _ _ long) refl
+
+  pub list-short : length text ≤ Most.text → length turns ≤ Most.turns → length list < Most.reachList
+      → reachCall mosts text turns program state list ≡ turnedAway No.shortTable 0
+  unfolding reachCall reading longText longTurns
+  list-short few few-turns short =
+      rw (le-ltb _ _ few, le-ltb _ _ few-turns, lt-ltb _ _ short)
+      (by-bool (shortTable program) (λ t. rw t refl) (λ t. rw t (by-bool (shortTable state) (λ u. rw u refl) (λ u. rw u refl))))
+
+  pub as-run : Most.reachList ≤ length list → reachCall mosts text turns program state list ≡ runCall mosts text turns program state
+  unfolding reachCall runCall
+  as-run long =
+      rw (le-ltb (length list) Most.reachList long)
+      (by-bool (shortTable program) (λ t. rw t refl) (λ t. rw t (by-bool (shortTable state) (λ u. rw u refl) (λ u. rw u refl))))
+
+-- ---- What the run answers tells the reading
+
+never-refused : (P : Program) (S : State) (m : ℕ) (x : Stop) {k n : ℕ} → Refused k n ≡ answerOf (R.answerOf mosts P S m x) → ⊥
+unfolding R.answerOf
+never-refused P S m none e = ended-not (R.endOf mosts P S) m e
+  where
+    ended-not : (x : R.End) (m : ℕ) {k n : ℕ} → Refused k n ≡ answerOf (ended x m) → ⊥
+    ended-not finished m e = impossible cc
+    ended-not stuck m e = impossible cc
+    ended-not openEnd m e = impossible cc
+never-refused P S m (stopped i t b l) e = impossible cc
+
+refusal-is : (turns : List ℕ) (C : Reading) {k n : ℕ} → Refused k n ≡ answerOf (runAnswer mosts turns C) → C ≡ turnedAway k n
+unfolding answer
+refusal-is turns (turnedAway i j) {k} {n} e =
+    let number : i ≡ k = cc in
+    let line : j ≡ n = cc in
+    rw (number, line) refl
+refusal-is turns (accepted P) e = absurd (never-refused P (run mosts P turns .state) (run mosts P turns .moves) (run mosts P turns .stop) e)
+
+-- an answer of a run that was made
+abbrev pub Ran : Answer → Type 0
+Ran (Refused k n) = ⊥
+Ran (Finished m) = Unit {0}
+Ran (Stuck m) = Unit {0}
+Ran (Open m) = Unit {0}
+Ran (Stopped k t b l m) = Unit {0}
+
+-- ---- What the report ensures, of the reading C
+
+pub record Told (C : Reading) (turns : List ℕ) (t : ℕ) (program state list : List ℕ) (r : Report) (p s list₁ : List ℕ) : Type 0 where
+  pub report : ReachReport mosts turns t C list (reportOf r) list₁
+  pub program-is : p ≡ programAfter C program
+  pub state-is : s ≡ stateAfter mosts turns C state
+
+pub of-same : {C C′ : Reading} {turns program state list p s list₁ : List ℕ} {t : ℕ} {r : Report} → C ≡ C′ → Told C′ turns t program state list r p s list₁
+    → Told C turns t program state list r p s list₁
+of-same e x = rw e x
+
+pub turned-away : {C : Reading} {k n : ℕ} (turns : List ℕ) (t : ℕ) (program state list : List ℕ) → C ≡ turnedAway k n
+    → Told C turns t program state list (T.Refused k n) program state list
+turned-away turns t program state list e = rw e (record { report = record { answers = refl; leaves = refl }; program-is = refl; state-is = refl })
+
+module _ (C : Reading) (turns : List ℕ) (t : ℕ) (program state list : List ℕ) {p s : List ℕ} {a : Answer} (answers : a ≡ answerOf (runAnswer mosts turns C))
+    (program-is : p ≡ programAfter C program) (state-is : s ≡ stateAfter mosts turns C state) where
+  -- the run was turned away
+  pub turned-away-by-run : {k n : ℕ} → a ≡ Refused k n → Told C turns t program state list (T.Refused k n) p s list
+  turned-away-by-run e =
+      let is = refusal-is turns C (sym e ∙ answers) in
+      let same-program = rw is at program-is in
+      let same-state = rw is at state-is in
+      rw (same-program, same-state) (turned-away turns t program state list is)
+
+-- neither 1 nor 9
+script-accepted : (long short : Bool) (text : List ℕ) (P : Program) → reading mosts long short text ≡ accepted P → script mosts text ≡ accepted P
+unfolding reading
+script-accepted true short text P e = impossible cc
+script-accepted false true text P e = impossible cc
+script-accepted false false text P e = e
+
+run-valid : (text turns program state : List ℕ) (P : Program) → runCall mosts text turns program state ≡ accepted P → Valid mosts P
+unfolding runCall
+run-valid text turns program state P e = accepted-valid mosts text P (script-accepted _ _ text P e)
+
+record IsAccepted (C : Reading) : Type 0 where
+  program : Program
+  is : C ≡ accepted program
+
+ran-is : (turns : List ℕ) (C : Reading) → Ran (answerOf (runAnswer mosts turns C)) → IsAccepted C
+ran-is turns (turnedAway k n) ran = absurd ran
+ran-is turns (accepted P) ran = record { program = P; is = refl }
+
+module _ (text turns program state : List ℕ) {s : List ℕ} {a b : Answer} (answers : a ≡ answerOf (runAnswer mosts turns (runCall mosts text turns program state)))
+    (state-is : s ≡ stateAfter mosts turns (runCall mosts text turns program state) state) (is : a ≡ b) (ran : Ran b) where
+  run-is : IsAccepted (runCall mosts text turns program state)
+  run-is = ran-is turns (runCall mosts text turns program state) (subst Ran (sym is ∙ answers) ran)
+
+  state-there : s ≡ stateWords (run mosts (run-is .program) turns .state) ++ drop Most.words state
+  state-there = state-is ∙ ap (λ (C : Reading). stateAfter mosts turns C state) (run-is .is)
+
+  pub words-there : Most.words ≤ length s
+  words-there =
+      let S = run mosts (run-is .program) turns .state in
+      omega (arith, ap length state-there, length-append (stateWords S) (drop Most.words state), state-words-length S)
+
+  -- the run was made
+  pub told : {t : ℕ} {p list list₁ : List ℕ} {r : Report} → length turns ≤ Most.turns → p ≡ programAfter (runCall mosts text turns program state) program
+      → ReportsState s t list r list₁ → Told (runCall mosts text turns program state) turns t program state list r p s list₁
+  told {t} {p} {list} {list₁} {r} few program-is reports =
+      let P = run-is .program in
+      let valid = run-valid text turns program state P (run-is .is) in
+      let held : Held s (run mosts P turns .state) (drop Most.words state) = record { words = state-there } in
+      record {
+        report = subst (λ (C : Reading). ReachReport mosts turns t C list (reportOf r) list₁) (sym (run-is .is))
+            (reports .reports P Most.turns (run mosts P turns .state) (drop Most.words state) held (fits-run P turns valid few));
+        program-is = program-is;
+        state-is = state-is;
+      }

@@ -1,0 +1,66 @@
+-- `reach::walking::walk_thread` meets its contract: before turn k the slots of the k outermost frames are walked.
+use Prim.Native.Nat.{_-_, _≤_}
+use native.Mathlib.Omega.{arith}
+use mathlib.Core.Path.{_≡_, refl, _∙_}
+use lib.ListN.{length}
+use Rattle.table.specs.State.{Any}
+use Rattle.reach.specs.Walking.{Walks}
+use Rattle.reach.proofs.Steps.{slotsTo, no-frame-yet, frame-next, thread-walked}
+use borrow.Author.Needs.{needs}
+use Rattle.reach.proofs.walking.walk_thread.Statement.{statement}
+use Rattle.reach.proofs.walking.walk_thread.Tie as tie
+
+abbrev Inv-loop : tie.InvT-loop
+Inv-loop s marks₀ t n k₀ marks k = (k ≤ n) × (length marks ≡ length marks₀) × Walks s marks₀ Any (slotsTo t k) marks
+
+abbrev μ-loop : tie.MeasureT-loop
+μ-loop s marks₀ t n k₀ marks k = n - k
+
+frame-count-requires : tie.Need-frame-count-requires Inv-loop μ-loop
+frame-count-requires c κs = let pre = c .before .before .pre in (pre .0, pre .2)
+
+cast-n : tie.Need-cast-n Inv-loop μ-loop
+cast-n c = search needs
+
+loop-holds : tie.Need-loop-holds Inv-loop μ-loop
+loop-holds c = (search needs, refl, no-frame-yet (c .before .before .before .args .t))
+
+walk-frame-requires : tie.Need-walk-frame-requires Inv-loop μ-loop
+walk-frame-requires c κs =
+    let pre = c .before .before .before .before .before .before .pre in (pre .0, omega (arith, c .before .before .loop .inv .1, pre .1), pre .2, omega arith)
+
+add-k : tie.Need-add-k Inv-loop μ-loop
+add-k c = search needs
+
+loop-less : tie.Need-loop-less Inv-loop μ-loop
+loop-less c = search needs
+
+loop-again : tie.Need-loop-again Inv-loop μ-loop
+loop-again c =
+    let loop = c .before .before .before .before .before .loop in
+    let walk = c .before .before .walk-frame in
+    (omega arith, walk .kept .1 .0 ∙ loop .inv .1, frame-next (c .before .before .before .before .before .before .before .before .before .args .t) (c .before .before .before .before .before .before .frame-count .ensures .1) (loop .k) (c .before .before .before .before .loop-test .taken) (loop .inv .2) (walk .ensures))
+
+same-length : tie.Need-same-length Inv-loop μ-loop
+same-length c = c .before .loop .inv .1
+
+returns : tie.Need-returns Inv-loop μ-loop
+returns c =
+    let loop = c .before .loop in
+    thread-walked (c .before .before .before .before .before .args .t) (c .before .before .frame-count .ensures .1) (loop .k) (c .loop-test .left) (loop .inv .2)
+
+pub walk-thread-spec : {M : Type 1} → statement M
+walk-thread-spec =
+    tie.close
+    (tie.spec
+    Inv-loop
+    μ-loop
+    frame-count-requires
+    cast-n
+    loop-holds
+    walk-frame-requires
+    add-k
+    loop-less
+    loop-again
+    same-length
+    returns)

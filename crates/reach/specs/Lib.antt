@@ -1,0 +1,2 @@
+-- What the reach report answers.
+pub mod Walking

@@ -1,0 +1,75 @@
+-- Marks as the numbers met, and what each part of the report does.
+use Prim.Native.Nat.{ℕ, zero, suc, _+_}
+use mathlib.Core.Path.{_≡_}
+use mathlib.Core.Bool.{Bool, false, cond}
+use mathlib.Core.List.{List, _++_}
+use lib.Dec.{ltb}
+use lib.ListN.{length, getD, drop}
+use Rattle.rules.specs.declared.Value.{Value}
+use Rattle.rules.specs.Mosts as Most
+use Rattle.rules.specs.Mosts.{mosts}
+use Rattle.rules.specs.Lists.{pad}
+use Rattle.rules.specs.Script.{Program}
+use Rattle.rules.specs.State.{Object, State}
+use Rattle.rules.specs.Fits.{InRange, Fits}
+use Rattle.rules.specs.Reach.{count, times, roots, Walked}
+use Rattle.rules.specs.Calls as Calls
+use Rattle.rules.specs.Calls.{unreported, reached, ReportsOn}
+use Rattle.table.specs.State.{Held}
+use Rattle.reach.specs.declared.Report.{Report}
+use Rattle.reach.specs.declared.Report.the-variants.{Refused, Reached}
+
+-- document 01's report, as the code's enum
+abbrev pub reportOf : Report → Calls.Report
+reportOf (Refused k n) = unreported k n
+reportOf (Reached n) = reached n
+
+-- ---- Marks
+
+-- a mark for each number met
+pub record Marked (marks : List Bool) (met : List ℕ) : Type 0 where
+  pub is : (x : ℕ) → times x met ≡ cond (getD marks x false) 1 0
+
+-- how many of the first k numbers have no mark
+unfoldable pub unmarked : ℕ → List Bool → ℕ
+unmarked zero marks = 0
+unmarked (suc k) marks = cond (getD marks k false) 0 1 + unmarked k marks
+
+-- ---- The walk
+
+-- over these values, ended
+pub record WalkedTo (os : List Object) (met : List ℕ) (vs : List Value) (marks : List Bool) : Type 0 where
+  pub out : List ℕ
+  pub walked : Walked os met vs out
+  pub marked : Marked marks out
+
+-- over these values of any state of a run of which Q holds
+pub record Walks (s : List ℕ) (marks : List Bool) (Q : State → Type 0) (vs : State → List Value) (marks₁ : List Bool) : Type 0 where
+  pub walks : (P : Program) (n : ℕ) (S : State) (rest met : List ℕ) → Held s S rest → Fits mosts P n S → Q S → Marked marks met
+      → WalkedTo (S .objects) met (vs S) marks₁
+
+-- an object or a channel of the state
+abbrev pub Of : Value → State → Type 0
+Of v S = InRange (length (S .objects)) (length (S .threads)) v
+
+-- the slots of all frames of a thread, in some order: only how often a value stands among them matters
+pub record WalkedRoots (S : State) (t : ℕ) (met : List ℕ) (marks : List Bool) : Type 0 where
+  pub values : List Value
+  pub same : (x : ℕ) → count x values ≡ count x (roots S t)
+  pub walked-to : WalkedTo (S .objects) met values marks
+
+pub record WalksThread (s : List ℕ) (marks : List Bool) (t : ℕ) (marks₁ : List Bool) : Type 0 where
+  pub walks : (P : Program) (n : ℕ) (S : State) (rest met : List ℕ) → Held s S rest → Fits mosts P n S → Marked marks met → WalkedRoots S t met marks₁
+
+-- ---- The list
+
+-- the numbers marked, in the first words of the list; then zeros
+pub record ListsMarked (marks : List Bool) (list : List ℕ) (r : ℕ) (list₁ : List ℕ) : Type 0 where
+  pub numbers : List ℕ
+  pub marked : (x : ℕ) → times x numbers ≡ cond (ltb x 256) (cond (getD marks x false) 1 0) 0
+  pub count : r ≡ length numbers
+  pub words : list₁ ≡ pad Most.reachList 0 numbers ++ drop Most.reachList list
+
+-- the report on the state that a run left
+pub record ReportsState (s : List ℕ) (t : ℕ) (list : List ℕ) (r : Report) (list₁ : List ℕ) : Type 0 where
+  pub reports : (P : Program) (n : ℕ) (S : State) (rest : List ℕ) → Held s S rest → Fits mosts P n S → ReportsOn S t (ltb t (length (S .threads))) list (reportOf r) list₁
