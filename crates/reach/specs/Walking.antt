@@ -66,7 +66,7 @@ pub record WalksThread (s : List ℕ) (marks : List Bool) (t : ℕ) (marks₁ : 
 -- the numbers marked, in the first words of the list; then zeros
 pub record ListsMarked (marks : List Bool) (list : List ℕ) (r : ℕ) (list₁ : List ℕ) : Type 0 where
   pub numbers : List ℕ
-  pub marked : (x : ℕ) → times x numbers ≡ cond (ltb x 256) (cond (getD marks x false) 1 0) 0
+  pub marked : (x : ℕ) → times x numbers ≡ cond (ltb x Most.reachList) (cond (getD marks x false) 1 0) 0
   pub count : r ≡ length numbers
   pub words : list₁ ≡ pad Most.reachList 0 numbers ++ drop Most.reachList list
 

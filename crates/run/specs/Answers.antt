@@ -22,12 +22,12 @@ answerOf (ended openEnd m) = Open m
 answerOf (halted k t b l m) = Stopped k t b l m
 
 -- which end it is
-abbrev pub endOf : R.Answer → ℕ
-endOf (ended finished m) = 0
-endOf (ended stuck m) = 1
-endOf (ended openEnd m) = 2
-endOf (halted k t b l m) = 3
-endOf (refused k n) = 4
+abbrev pub endNumber : R.Answer → ℕ
+endNumber (ended finished m) = 0
+endNumber (ended stuck m) = 1
+endNumber (ended openEnd m) = 2
+endNumber (halted k t b l m) = 3
+endNumber (refused k n) = 4
 
 -- and its numbers, 0 where there is none
 abbrev pub numberOf : R.Answer → ℕ
@@ -56,7 +56,7 @@ movesOf (halted k t b l m) = m
 movesOf (refused k n) = 0
 
 pub record Tells (a : R.Answer) (end number thread block line moves : ℕ) : Type 0 where
-  pub end-is : end ≡ endOf a
+  pub end-is : end ≡ endNumber a
   pub number-is : number ≡ numberOf a
   pub thread-is : thread ≡ threadOf a
   pub block-is : block ≡ blockOf a

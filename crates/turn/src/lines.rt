@@ -114,6 +114,7 @@ pub fn call_line(p: &[u16], s: &mut [u16], h: Here, i: u16, j: u16, w: u16) -> S
         Check::Pass => {
             let o = number_of(table::slot(s, h, i as usize % 16));
             let m = checks::method_item(p, s, o, j);
+            // the check has passed, so neither can be
             if m == 0 {
                 return Step::Waits;
             }
