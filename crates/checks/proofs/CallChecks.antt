@@ -10,30 +10,29 @@ use lib.ListN.{length, getD, length-map, List·getD-eq-default}
 use borrow.Author.Tests.{lt-ltb, le-ltb}
 use Rattle.rules.specs.declared.Value.{Value}
 use Rattle.rules.specs.declared.Value.the-variants.{Absent, Obj, Chan}
-use Rattle.rules.specs.Numbers as No
-use Rattle.rules.specs.Numbers.{foreign}
 use Rattle.rules.specs.Script.{Program, noKind, linesOf, kindAt}
 use Rattle.rules.specs.Valid.{KindOk}
 use Rattle.rules.specs.State.{State, Frame, objectAt}
+use Rattle.rules.specs.Tables.{operandOf}
 use Rattle.rules.specs.Turn.{_>>=_, _>>_, check, permit, isForeign, asObject, object, callLine}
 use Rattle.rules.proofs.ListLaws.{impossible, every-at}
 use Rattle.table.specs.declared.state.Here.{Here}
 use Rattle.table.specs.Program.{Filled, KindMethod}
 use Rattle.table.specs.State.{Sees, Any}
-use Rattle.checks.specs.declared.lines.Check.{Check}
-use Rattle.checks.specs.declared.lines.Check.the-variants.{Pass, Stop}
-use Rattle.checks.specs.Checked.{checkOf, isPass, Made, Few, Stand, Named, MethodItem, ChecksCall}
+use Rattle.checks.specs.declared.lines.Step.{Step}
+use Rattle.checks.specs.declared.lines.Step.the-variants.{Next, NoValue, NoMethod, WrongThing, Foreign, UsedUp}
+use Rattle.checks.specs.Checked.{resultOf, outcomeOf, isPass, Made, Few, Stand, hereAt, Named, MethodItem}
 use Rattle.checks.proofs.CheckLaws.{stays}
 use Rattle.checks.proofs.Standing.{TargetSeen, OperandChecked, kind-is-there, target-read, target-object, operand-goes}
 
 -- ---- spawn: k threads
 
 module _ {s : List ℕ} {k : ℕ} (count : Sees s Any (λ S. length (S .threads)) k) where
-  pub spawn-room : k < 16 → Sees s Few (λ S. checkOf (check (ltb (length (S .threads)) 16) 16)) Pass
+  pub spawn-room : k < 16 → Sees s Few (λ S. outcomeOf (check (ltb (length (S .threads)) 16) 16)) (resultOf Next)
   unfolding check
   spawn-room room = record { sees = λ S rest held few. rw (sym (count .sees S rest held tt), lt-ltb k 16 room) refl }
 
-  pub spawn-used-up : 16 ≤ k → Sees s Few (λ S. checkOf (check (ltb (length (S .threads)) 16) 16)) (Stop No.usedUp)
+  pub spawn-used-up : 16 ≤ k → Sees s Few (λ S. outcomeOf (check (ltb (length (S .threads)) 16) 16)) (resultOf UsedUp)
   unfolding check
   spawn-used-up full = record { sees = λ S rest held few. rw (sym (count .sees S rest held tt), le-ltb k 16 full) refl }
 
@@ -72,20 +71,27 @@ method-of-kind {k = k} j kind method =
           method .is P counts rest₁ filled (rw same there) ∙ ap (λ k. getD (map suc (kindAt P k .methods)) j 0) same;
     }
 
--- ---- call: the operand's word w, the target v in slot i as the operand leaves it, method j
+-- ---- call
 
-module _ {p s : List ℕ} {h : Here} (i j w : ℕ) {k : Check} (first : OperandChecked s h w k) where
+-- the checks of a call of method j on the target in slot i answer k
+pub record ChecksCall (p s : List ℕ) (h : Here) (i j w : ℕ) (k : Step) : Type 0 where
+  pub checks : (P : Program) (n : ℕ) (S : State) (f : Frame) (fs : List Frame) (counts rest₁ rest₂ : List ℕ) → Filled p counts (linesOf P) rest₁
+      → Stand s h P n S f fs rest₂ → Named (i ∷ w / 2 ∷ []) f → resultOf k ≡ outcomeOf (callLine P (hereAt S (h .thread) f fs) i j (operandOf w))
+
+-- the operand's word w, the target v in slot i as the operand leaves it, method j
+
+module _ {p s : List ℕ} {h : Here} (i j w : ℕ) {k : Step} (first : OperandChecked s h w k) where
   pub call-no-operand : isPass k ≡ false → ChecksCall p s h i j w k
   unfolding callLine
   call-no-operand fails = record { checks = λ P n S f fs counts rest₁ rest₂ filled st named. stays _ _ fails (first .checks P n S f fs rest₂ st (named .1)) }
 
   module _ {v : Value} (passed : isPass k ≡ true) (target : TargetSeen s h i w v) where
-    pub call-no-target : v ≡ Absent → ChecksCall p s h i j w (Stop No.absent)
+    pub call-no-target : v ≡ Absent → ChecksCall p s h i j w NoValue
     unfolding callLine asObject _>>=_
     call-no-target is =
         record { checks = λ P n S f fs counts rest₁ rest₂ filled st named. rw (operand-goes st w first passed (named .1 .0), target-read st i w target (named .0) ∙ is) refl }
 
-    pub call-of-channel : {c : ℕ} → v ≡ Chan c → ChecksCall p s h i j w (Stop No.wrongThing)
+    pub call-of-channel : {c : ℕ} → v ≡ Chan c → ChecksCall p s h i j w WrongThing
     unfolding callLine asObject _>>=_
     call-of-channel is =
         record { checks = λ P n S f fs counts rest₁ rest₂ filled st named. rw (operand-goes st w first passed (named .1 .0), target-read st i w target (named .0) ∙ is) refl }
@@ -100,7 +106,7 @@ module _ {p s : List ℕ} {h : Here} (i j w : ℕ) {k : Check} (first : OperandC
         item-is : getD (map suc (kindAt P (objectAt (S .objects) o .kind) .methods)) j 0 ≡ m
         item-is = sym (method .is P S counts rest₁ rest₂ filled (st .held) (st .valid) made (kind-is-there st o made))
 
-      pub call-no-method : m ≡ 0 → ChecksCall p s h i j w (Stop No.noMethod)
+      pub call-no-method : m ≡ 0 → ChecksCall p s h i j w NoMethod
       unfolding callLine asObject object check _>>=_ _>>_
       call-no-method none =
           record {
@@ -121,7 +127,7 @@ module _ {p s : List ℕ} {h : Here} (i j w : ℕ) {k : Check} (first : OperandC
           foreign-is : isForeign (h .thread) (objectAt (S .objects) o) ≡ b
           foreign-is = sym (away .sees S rest₂ (st .held) (made filled st named))
 
-        pub call-foreign : b ≡ true → ChecksCall p s h i j w (Stop (No.permission foreign))
+        pub call-foreign : b ≡ true → ChecksCall p s h i j w Foreign
         unfolding callLine asObject object check permit _>>=_ _>>_
         call-foreign far =
             record {
@@ -129,7 +135,7 @@ module _ {p s : List ℕ} {h : Here} (i j w : ℕ) {k : Check} (first : OperandC
                   rw (operand-goes st w first passed (named .1 .0), target-read st i w target (named .0) ∙ is, has-method filled st named, foreign-is filled st named ∙ far) refl;
             }
 
-        pub call-used-up : b ≡ false → 15 ≤ h .depth → ChecksCall p s h i j w (Stop No.usedUp)
+        pub call-used-up : b ≡ false → 15 ≤ h .depth → ChecksCall p s h i j w UsedUp
         unfolding callLine asObject object check permit _>>=_ _>>_
         call-used-up near deep =
             record {
@@ -138,7 +144,7 @@ module _ {p s : List ℕ} {h : Here} (i j w : ℕ) {k : Check} (first : OperandC
                   rw (operand-goes st w first passed (named .1 .0), target-read st i w target (named .0) ∙ is, has-method filled st named, foreign-is filled st named ∙ near, full) refl;
             }
 
-        pub call-passes : b ≡ false → h .depth < 15 → ChecksCall p s h i j w Pass
+        pub call-passes : b ≡ false → h .depth < 15 → ChecksCall p s h i j w Next
         unfolding callLine asObject object check permit _>>=_ _>>_
         call-passes near room =
             record {

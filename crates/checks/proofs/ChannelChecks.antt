@@ -8,53 +8,51 @@ use borrow.Author.Tests.{eq-eqb, ne-eqb}
 use Rattle.rules.specs.declared.Cap.{Cap}
 use Rattle.rules.specs.declared.Value.{Value}
 use Rattle.rules.specs.declared.Value.the-variants.{Absent, Obj, Chan}
-use Rattle.rules.specs.Numbers as No
-use Rattle.rules.specs.Numbers.{other}
 use Rattle.rules.specs.State.{State, objectAt, channelAt}
 use Rattle.rules.specs.Tables.{operandOf}
 use Rattle.rules.specs.Turn.{_>>=_, _>>_, check, waitUnless, permit, isLocal, isAbsent, asObject, asChannel, object, recvLine, sentLine, putLine}
 use Rattle.table.specs.declared.state.Here.{Here}
 use Rattle.table.specs.State.{InTable, Held, Sees, Any}
-use Rattle.checks.specs.declared.lines.Check.{Check}
-use Rattle.checks.specs.declared.lines.Check.the-variants.{Pass, Wait, Stop}
-use Rattle.checks.specs.Checked.{checkOf, isPass, InObjects, putInto, Checks}
+use Rattle.checks.specs.declared.lines.Step.{Step}
+use Rattle.checks.specs.declared.lines.Step.the-variants.{Next, Waits, NoValue, WrongThing, Other}
+use Rattle.checks.specs.Checked.{resultOf, outcomeOf, isPass, InObjects, putInto, Checks}
 use Rattle.checks.proofs.CheckLaws.{stays, then-ok, same-after}
 use Rattle.checks.proofs.Standing.{SlotSeen, TargetSeen, MessageSeen, OperandChecked, slot-in-objects, message-in-table, slot-read, target-read, message-read, operand-goes}
 
 -- ---- recv and sent: the target v in slot i, its message u
 
 module _ {s : List ℕ} {h : Here} (i : ℕ) {v : Value} (target : SlotSeen s h (i % 16) v) where
-  pub recv-no-target : v ≡ Absent → Checks s h (i ∷ []) (λ P H. recvLine H i) (Stop No.absent)
+  pub recv-no-target : v ≡ Absent → Checks s h (i ∷ []) (λ P H. recvLine H i) NoValue
   unfolding recvLine asChannel _>>=_
   recv-no-target is = record { checks = λ P n S f fs rest st named. rw (slot-read st i _ refl target (named .0) ∙ is) refl }
 
-  pub recv-of-object : {n : ℕ} → v ≡ Obj n → Checks s h (i ∷ []) (λ P H. recvLine H i) (Stop No.wrongThing)
+  pub recv-of-object : {n : ℕ} → v ≡ Obj n → Checks s h (i ∷ []) (λ P H. recvLine H i) WrongThing
   unfolding recvLine asChannel _>>=_
   recv-of-object is = record { checks = λ P n S f fs rest st named. rw (slot-read st i _ refl target (named .0) ∙ is) refl }
 
-  pub sent-no-target : (d : ℕ) → v ≡ Absent → Checks s h (i ∷ []) (λ P H. sentLine H i d) (Stop No.absent)
+  pub sent-no-target : (d : ℕ) → v ≡ Absent → Checks s h (i ∷ []) (λ P H. sentLine H i d) NoValue
   unfolding sentLine asChannel _>>=_
   sent-no-target d is = record { checks = λ P n S f fs rest st named. rw (slot-read st i _ refl target (named .0) ∙ is) refl }
 
-  pub sent-of-object : (d : ℕ) {n : ℕ} → v ≡ Obj n → Checks s h (i ∷ []) (λ P H. sentLine H i d) (Stop No.wrongThing)
+  pub sent-of-object : (d : ℕ) {n : ℕ} → v ≡ Obj n → Checks s h (i ∷ []) (λ P H. sentLine H i d) WrongThing
   unfolding sentLine asChannel _>>=_
   sent-of-object d is = record { checks = λ P n S f fs rest st named. rw (slot-read st i _ refl target (named .0) ∙ is) refl }
 
   module _ {c : ℕ} {u : Value} (is : v ≡ Chan c) (message : MessageSeen s c u) where
-    pub recv-empty : isAbsent u ≡ true → Checks s h (i ∷ []) (λ P H. recvLine H i) Wait
+    pub recv-empty : isAbsent u ≡ true → Checks s h (i ∷ []) (λ P H. recvLine H i) Waits
     unfolding recvLine asChannel waitUnless _>>=_ _>>_
     recv-empty empty = record { checks = λ P n S f fs rest st named. rw (slot-read st i _ refl target (named .0) ∙ is, message-read st c message, empty) refl }
 
-    pub recv-full : isAbsent u ≡ false → Checks s h (i ∷ []) (λ P H. recvLine H i) Pass
+    pub recv-full : isAbsent u ≡ false → Checks s h (i ∷ []) (λ P H. recvLine H i) Next
     unfolding recvLine asChannel waitUnless _>>=_ _>>_
     recv-full full = record { checks = λ P n S f fs rest st named. rw (slot-read st i _ refl target (named .0) ∙ is, message-read st c message, full) refl }
 
-    pub sent-empty : (d : ℕ) → isAbsent u ≡ true → Checks s h (i ∷ []) (λ P H. sentLine H i d) Pass
+    pub sent-empty : (d : ℕ) → isAbsent u ≡ true → Checks s h (i ∷ []) (λ P H. sentLine H i d) Next
     unfolding sentLine asChannel waitUnless _>>=_ _>>_
     sent-empty d empty = record { checks = λ P n S f fs rest st named. rw (slot-read st i _ refl target (named .0) ∙ is, message-read st c message, empty) refl }
 
     module _ (d : ℕ) {k : ℕ} (full : isAbsent u ≡ false) (number : Sees s Any (λ S. channelAt S c .number) k) where
-      pub sent-still-there : k ≡ d → Checks s h (i ∷ []) (λ P H. sentLine H i d) Wait
+      pub sent-still-there : k ≡ d → Checks s h (i ∷ []) (λ P H. sentLine H i d) Waits
       unfolding sentLine asChannel waitUnless _>>=_ _>>_
       sent-still-there same =
           record {
@@ -62,7 +60,7 @@ module _ {s : List ℕ} {h : Here} (i : ℕ) {v : Value} (target : SlotSeen s h 
                 rw (slot-read st i _ refl target (named .0) ∙ is, message-read st c message, full, sym (number .sees S rest (st .held) tt), eq-eqb k d same) refl;
           }
 
-      pub sent-taken : (k ≡ d → ⊥) → Checks s h (i ∷ []) (λ P H. sentLine H i d) Pass
+      pub sent-taken : (k ≡ d → ⊥) → Checks s h (i ∷ []) (λ P H. sentLine H i d) Next
       unfolding sentLine asChannel waitUnless _>>=_ _>>_
       sent-taken differs =
           record {
@@ -72,15 +70,15 @@ module _ {s : List ℕ} {h : Here} (i : ℕ) {v : Value} (target : SlotSeen s h 
 
 -- ---- put: the value v into channel c, whose message is u
 
-abbrev PutSeen : List ℕ → ℕ → Value → Check → Type 0
-PutSeen s c v k = Sees s (λ S. InObjects v S × InTable (channelAt S c .message)) (λ S. checkOf (putInto S c v)) k
+abbrev PutSeen : List ℕ → ℕ → Value → Step → Type 0
+PutSeen s c v k = Sees s (λ S. InObjects v S × InTable (channelAt S c .message)) (λ S. outcomeOf (putInto S c v)) (resultOf k)
 
 module _ (s : List ℕ) (c : ℕ) {v : Value} where
-  pub put-nothing : v ≡ Absent → PutSeen s c v (Stop No.absent)
+  pub put-nothing : v ≡ Absent → PutSeen s c v NoValue
   unfolding putInto asObject _>>=_
   put-nothing is = record { sees = λ S rest held there. rw is refl }
 
-  pub put-channel : {d : ℕ} → v ≡ Chan d → PutSeen s c v (Stop No.wrongThing)
+  pub put-channel : {d : ℕ} → v ≡ Chan d → PutSeen s c v WrongThing
   unfolding putInto asObject _>>=_
   put-channel is = record { sees = λ S rest held there. rw is refl }
 
@@ -88,37 +86,37 @@ module _ {s : List ℕ} (c : ℕ) {v : Value} {n : ℕ} {k : Cap} (is : v ≡ Ob
   cap-is : (S : State) (rest : List ℕ) → Held s S rest → InObjects v S → objectAt (S .objects) n .cap ≡ k
   cap-is S rest held there = sym (cap .sees S rest held (subst (λ x. InObjects x S) is there))
 
-  pub put-local : isLocal k ≡ true → PutSeen s c v (Stop (No.permission other))
+  pub put-local : isLocal k ≡ true → PutSeen s c v Other
   unfolding putInto asObject permit check _>>=_ _>>_
   put-local loc = record { sees = λ S rest held there. rw (is, cap-is S rest held (there .0), loc) refl }
 
   module _ {u : Value} (near : isLocal k ≡ false) (message : MessageSeen s c u) where
-    pub put-empty : isAbsent u ≡ true → PutSeen s c v Pass
+    pub put-empty : isAbsent u ≡ true → PutSeen s c v Next
     unfolding putInto asObject permit check waitUnless _>>=_ _>>_
     put-empty empty = record { sees = λ S rest held there. rw (is, cap-is S rest held (there .0), near, sym (message .sees S rest held (there .1)), empty) refl }
 
-    pub put-full : isAbsent u ≡ false → PutSeen s c v Wait
+    pub put-full : isAbsent u ≡ false → PutSeen s c v Waits
     unfolding putInto asObject permit check waitUnless _>>=_ _>>_
     put-full full = record { sees = λ S rest held there. rw (is, cap-is S rest held (there .0), near, sym (message .sees S rest held (there .1)), full) refl }
 
 -- ---- put: the operand's word w, the target v in slot i as the operand leaves it
 
-module _ {s : List ℕ} {h : Here} (i w : ℕ) {k : Check} (first : OperandChecked s h w k) where
+module _ {s : List ℕ} {h : Here} (i w : ℕ) {k : Step} (first : OperandChecked s h w k) where
   pub put-no-operand : isPass k ≡ false → Checks s h (i ∷ w / 2 ∷ []) (λ P H. putLine H i (operandOf w)) k
   unfolding putLine
   put-no-operand fails = record { checks = λ P n S f fs rest st named. stays _ _ fails (first .checks P n S f fs rest st (named .1)) }
 
   module _ {v : Value} (passed : isPass k ≡ true) (target : TargetSeen s h i w v) where
-    pub put-no-target : v ≡ Absent → Checks s h (i ∷ w / 2 ∷ []) (λ P H. putLine H i (operandOf w)) (Stop No.absent)
+    pub put-no-target : v ≡ Absent → Checks s h (i ∷ w / 2 ∷ []) (λ P H. putLine H i (operandOf w)) NoValue
     unfolding putLine asChannel _>>=_
     put-no-target is = record { checks = λ P n S f fs rest st named. rw (operand-goes st w first passed (named .1 .0), target-read st i w target (named .0) ∙ is) refl }
 
-    pub put-of-object : {n : ℕ} → v ≡ Obj n → Checks s h (i ∷ w / 2 ∷ []) (λ P H. putLine H i (operandOf w)) (Stop No.wrongThing)
+    pub put-of-object : {n : ℕ} → v ≡ Obj n → Checks s h (i ∷ w / 2 ∷ []) (λ P H. putLine H i (operandOf w)) WrongThing
     unfolding putLine asChannel _>>=_
     put-of-object is = record { checks = λ P n S f fs rest st named. rw (operand-goes st w first passed (named .1 .0), target-read st i w target (named .0) ∙ is) refl }
 
     -- the value u, read at the place j
-    pub put-to-channel : {c j : ℕ} {u : Value} {r : Check} → v ≡ Chan c → j ≡ w / 2 % 16 → SlotSeen s h j u → PutSeen s c u r
+    pub put-to-channel : {c j : ℕ} {u : Value} {r : Step} → v ≡ Chan c → j ≡ w / 2 % 16 → SlotSeen s h j u → PutSeen s c u r
         → Checks s h (i ∷ w / 2 ∷ []) (λ P H. putLine H i (operandOf w)) r
     unfolding putLine putInto asChannel object _>>=_ _>>_
     put-to-channel {c} {j} {u} is place value into =

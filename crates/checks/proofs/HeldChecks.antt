@@ -12,15 +12,15 @@ use Rattle.rules.specs.declared.Value.{Value}
 use Rattle.rules.specs.declared.Value.the-variants.{Absent, Obj, Chan}
 use Rattle.rules.specs.Mosts.{mosts}
 use Rattle.rules.specs.Numbers as No
-use Rattle.rules.specs.Numbers.{foreign, other}
 use Rattle.rules.specs.Lists.{any, pad, Every}
 use Rattle.rules.specs.State.{State, objectAt}
 use Rattle.rules.specs.Turn.{ok, stop, _>>=_, _>>_, check, permit, mayHold, isForeign, isAbsent, asObject, allObjects}
 use Rattle.rules.proofs.ListLaws.{impossible, every-pad}
 use Rattle.table.specs.State.{Sees, Any}
-use Rattle.checks.specs.declared.lines.Check.{Check}
-use Rattle.checks.specs.declared.lines.Check.the-variants.{Pass, Stop}
-use Rattle.checks.specs.Checked.{checkOf, numberOf, Made, InObjects}
+use Rattle.checks.specs.declared.lines.Step.{Step}
+use Rattle.checks.specs.declared.lines.Step.the-variants.{Next, WrongThing, Foreign, Other, UsedUp}
+use Rattle.checks.specs.Checked.{resultOf, outcomeOf, Made, InObjects}
+use Rattle.checks.proofs.CheckLaws.{numberOf}
 use Rattle.checks.specs.Items.{holdAll, foreignTo, above, isChannel, AllInObjects, ChecksHeld}
 
 -- ---- Channels among the values
@@ -104,14 +104,14 @@ any-seen {d = d} g seen-a seen-b seen-c seen-d answer =
 -- ---- new, past its operands: four values, of which no more than are given are made up
 
 module _ (s : List ℕ) (t : ℕ) (k : Cap) {vs : List Value} where
-  pub held-channel : any isChannel vs ≡ true → ChecksHeld s t k vs (Stop No.wrongThing)
+  pub held-channel : any isChannel vs ≡ true → ChecksHeld s t k vs WrongThing
   unfolding holdAll _>>=_
   held-channel some =
       record { checks = λ us values few there. record { sees = λ S rest held made. rw (channel-stops us there (any-pad isChannel Absent refl us vs values few ∙ some)) refl } }
 
   module _ (none : any isChannel vs ≡ false) where
     -- what is asked of the values that are given is asked of all four
-    of-all-four : {r : Check} → Sees s (AllInObjects vs) (λ S. checkOf (permit (any (foreignTo t S) vs) false (any (above k S) vs) >> check (ltb (length (S .objects)) (mosts .objects)) No.usedUp)) r
+    of-all-four : {r : Step} → Sees s (AllInObjects vs) (λ S. outcomeOf (permit (any (foreignTo t S) vs) false (any (above k S) vs) >> check (ltb (length (S .objects)) (mosts .objects)) No.usedUp)) (resultOf r)
         → ChecksHeld s t k vs r
     of-all-four answer =
         record {
@@ -123,17 +123,17 @@ module _ (s : List ℕ) (t : ℕ) (k : Cap) {vs : List Value} where
         }
 
     module _ {far : Bool} (foreigns : Sees s (AllInObjects vs) (λ S. any (foreignTo t S) vs) far) where
-      pub held-foreign : far ≡ true → ChecksHeld s t k vs (Stop (No.permission foreign))
+      pub held-foreign : far ≡ true → ChecksHeld s t k vs Foreign
       unfolding permit check _>>=_ _>>_
       held-foreign is = of-all-four (record { sees = λ S rest held made. rw (← foreigns .sees S rest held made, is) refl })
 
       module _ {over : Bool} (near : far ≡ false) (aboves : Sees s (AllInObjects vs) (λ S. any (above k S) vs) over) where
-        pub held-above : over ≡ true → ChecksHeld s t k vs (Stop (No.permission other))
+        pub held-above : over ≡ true → ChecksHeld s t k vs Other
         unfolding permit check _>>=_ _>>_
         held-above is = of-all-four (record { sees = λ S rest held made. rw (← foreigns .sees S rest held made, near, ← aboves .sees S rest held made, is) refl })
 
         module _ {n : ℕ} (within : over ≡ false) (count : Sees s Any (λ S. length (S .objects)) n) where
-          pub held-passes : n < 256 → ChecksHeld s t k vs Pass
+          pub held-passes : n < 256 → ChecksHeld s t k vs Next
           unfolding permit check _>>=_ _>>_
           held-passes room =
               of-all-four (record {
@@ -141,7 +141,7 @@ module _ (s : List ℕ) (t : ℕ) (k : Cap) {vs : List Value} where
                     rw (← foreigns .sees S rest held made, near, ← aboves .sees S rest held made, within, ← count .sees S rest held tt, lt-ltb n 256 room) refl;
               })
 
-          pub held-used-up : 256 ≤ n → ChecksHeld s t k vs (Stop No.usedUp)
+          pub held-used-up : 256 ≤ n → ChecksHeld s t k vs UsedUp
           unfolding permit check _>>=_ _>>_
           held-used-up full =
               of-all-four (record {

@@ -9,7 +9,6 @@ use lib.ListN.{length, take, replicate}
 use borrow.Author.Tests.{eqb-true, eqb-false}
 use Rattle.rules.specs.declared.Value.{Value}
 use Rattle.rules.specs.declared.Value.the-variants.{Absent}
-use Rattle.rules.specs.Numbers as No
 use Rattle.rules.specs.Lists.{pad, Every}
 use Rattle.rules.specs.Script.{Operand, reads, takes, Program}
 use Rattle.rules.specs.Reading.{slotOf}
@@ -19,9 +18,9 @@ use Rattle.rules.specs.Turn.{Res, ok, _>>=_, _>>_, permit, isIsoObject, present
 use Rattle.rules.proofs.ListLaws.{impossible, by-bool, every-pad, every-image, every-mapped, every-map}
 use Rattle.rules.proofs.TableWords.{operand-of-word, half-of-word, slot-of-word}
 use Rattle.table.specs.declared.state.Here.{Here}
-use Rattle.checks.specs.declared.lines.Check.{Check}
-use Rattle.checks.specs.declared.lines.Check.the-variants.{Pass, Stop}
-use Rattle.checks.specs.Checked.{checkOf, isPass, Stand, Named, Checks}
+use Rattle.checks.specs.declared.lines.Step.{Step}
+use Rattle.checks.specs.declared.lines.Step.the-variants.{Next, NoValue}
+use Rattle.checks.specs.Checked.{resultOf, outcomeOf, passed, isPass, Stand, Named, Checks}
 use Rattle.checks.specs.Items.{leftByItem, itemSlots, itemOperand, takesSlot, ChecksItems}
 use Rattle.checks.proofs.CheckLaws.{stays, goes-on, then-ok, then-gives, same-after, given}
 use Rattle.checks.proofs.OperandChecks.{slot-taken, slot-left}
@@ -50,11 +49,11 @@ still-absent vs a w gone = by-bool (takesSlot a (suc w)) (absent-if-taken vs a w
 
 -- ---- The answer of an operand, by its slot
 
-no-operand-there : (os : List Object) (vs : List Value) (w : ℕ) → slotAt vs (w / 2) ≡ Absent → Stop No.absent ≡ checkOf (itemOperand os vs (suc w))
+no-operand-there : (os : List Object) (vs : List Value) (w : ℕ) → slotAt vs (w / 2) ≡ Absent → resultOf NoValue ≡ outcomeOf (itemOperand os vs (suc w))
 unfolding operand present _>>=_ _>>_
 no-operand-there os vs w gone = by-bool (eqb (w % 2) 1) (λ t. rw (t, gone) refl) (λ t. rw (t, gone) refl)
 
-same-slot-same-answer : (os : List Object) (vs us : List Value) (w : Operand) → slotAt vs (slotOf w) ≡ slotAt us (slotOf w) → checkOf (operand os vs w) ≡ checkOf (operand os us w)
+same-slot-same-answer : (os : List Object) (vs us : List Value) (w : Operand) → slotAt vs (slotOf w) ≡ slotAt us (slotOf w) → outcomeOf (operand os vs w) ≡ outcomeOf (operand os us w)
 unfolding operand
 same-slot-same-answer os vs us (reads s) same =
     rw same (same-after (present (slotAt us s)) _ _ λ v. sym (then-ok (permit false (isIsoObject os v) false) (v, vs)) ∙ then-ok (permit false (isIsoObject os v) false) (v, us))
@@ -62,30 +61,30 @@ same-slot-same-answer os vs us (takes s) same = rw same (same-after (present (sl
 
 -- ---- One item e, after the items a, b and c
 
-abbrev pub ItemChecked : List ℕ → Here → (a b c e : ℕ) → Check → Type 0
+abbrev pub ItemChecked : List ℕ → Here → (a b c e : ℕ) → Step → Type 0
 ItemChecked s h a b c e k = Checks s h (itemSlots e) (λ P H. itemOperand (H .state .objects) (leftByItem (leftByItem (leftByItem (H .frame .slots) a) b) c) e) k
 
-pub no-item-passes : (s : List ℕ) (h : Here) (a b c : ℕ) {e : ℕ} → e ≡ 0 → ItemChecked s h a b c e Pass
+pub no-item-passes : (s : List ℕ) (h : Here) (a b c : ℕ) {e : ℕ} → e ≡ 0 → ItemChecked s h a b c e Next
 no-item-passes s h a b c none = record { checks = λ P n S f fs rest st named. rw none refl }
 
 module _ (s : List ℕ) (h : Here) (a b c : ℕ) where
-  pub first-took : (e : ℕ) → takesSlot a e ≡ true → ItemChecked s h a b c e (Stop No.absent)
+  pub first-took : (e : ℕ) → takesSlot a e ≡ true → ItemChecked s h a b c e NoValue
   first-took zero t = impossible cc
   first-took (suc w) t =
       record { checks = λ P n S f fs rest st named. no-operand-there (S .objects) _ w (still-absent _ c w (still-absent _ b w (absent-if-taken (f .slots) a w t))) }
 
-  pub second-took : (e : ℕ) → takesSlot b e ≡ true → ItemChecked s h a b c e (Stop No.absent)
+  pub second-took : (e : ℕ) → takesSlot b e ≡ true → ItemChecked s h a b c e NoValue
   second-took zero t = impossible cc
   second-took (suc w) t =
       record { checks = λ P n S f fs rest st named. no-operand-there (S .objects) _ w (still-absent _ c w (absent-if-taken (leftByItem (f .slots) a) b w t)) }
 
-  pub third-took : (e : ℕ) → takesSlot c e ≡ true → ItemChecked s h a b c e (Stop No.absent)
+  pub third-took : (e : ℕ) → takesSlot c e ≡ true → ItemChecked s h a b c e NoValue
   third-took zero t = impossible cc
   third-took (suc w) t =
       record { checks = λ P n S f fs rest st named. no-operand-there (S .objects) _ w (absent-if-taken (leftByItem (leftByItem (f .slots) a) b) c w t) }
 
   -- no earlier item took the slot: the operand of word e - 1 sees it as it stands
-  pub none-took : (e : ℕ) {k : Check} → (e ≡ 0 → ⊥) → takesSlot a e ≡ false → takesSlot b e ≡ false → takesSlot c e ≡ false → OperandChecked s h (e - 1) k → ItemChecked s h a b c e k
+  pub none-took : (e : ℕ) {k : Step} → (e ≡ 0 → ⊥) → takesSlot a e ≡ false → takesSlot b e ≡ false → takesSlot c e ≡ false → OperandChecked s h (e - 1) k → ItemChecked s h a b c e k
   none-took zero some ta tb tc first = absurd (some refl)
   none-took (suc w) {k} some ta tb tc first =
       let word : suc w - 1 ≡ w = omega arith in
@@ -111,14 +110,14 @@ no-items-pass os vs (suc n) (suc m) = no-items-pass os vs n m
 
 -- an operand first: where it passes, the rest goes on from its value and the slots that it leaves
 operand-first : {B C : Type 0} (os : List Object) (vs : List Value) (w : Operand) (g : Value × List Value → Res B) (y : Res C)
-    → checkOf (g (slotAt vs (slotOf w), leftBy vs w)) ≡ checkOf y → checkOf (operand os vs w >>= g) ≡ checkOf ((operand os vs w >> ok (tt {0})) >> y)
+    → outcomeOf (g (slotAt vs (slotOf w), leftBy vs w)) ≡ outcomeOf y → outcomeOf (operand os vs w >>= g) ≡ outcomeOf ((operand os vs w >> ok (tt {0})) >> y)
 unfolding _>>_ _>>=_
-operand-first os vs w g y same = by-bool (isPass (checkOf (operand os vs w)))
+operand-first os vs w g y same = by-bool (passed (outcomeOf (operand os vs w)))
     (λ passes. rw (given os vs w passes refl) same)
     (λ fails. sym (stays (operand os vs w) g fails refl) ∙ stays (operand os vs w >> ok (tt {0})) (λ _. y) fails (then-ok (operand os vs w) tt))
 
 operands-are-items : (os : List Object) (vs : List Value) (n m : ℕ) (ws : List Operand) → length ws ≤ n
-    → checkOf (operands os vs ws) ≡ checkOf (itemsInOrder os vs (take n (map operandItem ws ++ replicate m 0)))
+    → outcomeOf (operands os vs ws) ≡ outcomeOf (itemsInOrder os vs (take n (map operandItem ws ++ replicate m 0)))
 unfolding operands
 operands-are-items os vs n m [] few = rw (no-items-pass os vs n m) refl
 operands-are-items os vs zero m (w ∷ ws) few = absurd (omega arith)
@@ -127,9 +126,9 @@ operands-are-items os vs (suc n) m (w ∷ ws) few =
     (operand-first os vs w _ _ (then-gives (operands os (leftBy vs w) ws) _ ∙ operands-are-items os (leftBy vs w) n m ws (omega arith)))
 
 -- where each item's slot is filled, the items answer k
-pub record ItemsChecked (s : List ℕ) (h : Here) (items : List ℕ) (k : Check) : Type 0 where
+pub record ItemsChecked (s : List ℕ) (h : Here) (items : List ℕ) (k : Step) : Type 0 where
   pub checks : (P : Program) (n : ℕ) (S : State) (f : Frame) (fs : List Frame) (rest : List ℕ) → Stand s h P n S f fs rest → Every (λ e. Named (itemSlots e) f) items
-      → k ≡ checkOf (itemsInOrder (S .objects) (f .slots) items)
+      → resultOf k ≡ outcomeOf (itemsInOrder (S .objects) (f .slots) items)
 
 -- what the operands name, their items do
 pub items-named : {items : List ℕ} (f : Frame) (ws : List Operand) → items ≡ pad 4 0 (map operandItem ws) → Named (map slotOf ws) f → Every (λ e. Named (itemSlots e) f) items
@@ -138,23 +137,23 @@ items-named f ws items named =
     (every-pad _ 4 0 (map operandItem ws) tt
     (every-image (λ e. Named (itemSlots e) f) operandItem ws (every-map (λ w filled. (rw (half-of-word w) filled, tt)) ws (every-mapped (λ i. i < length (f .slots)) slotOf ws named))))
 
-pub items-for-operands : {s : List ℕ} {h : Here} {items : List ℕ} {k : Check} → ItemsChecked s h items k → ChecksItems s h items k
+pub items-for-operands : {s : List ℕ} {h : Here} {items : List ℕ} {k : Step} → ItemsChecked s h items k → ChecksItems s h items k
 unfolding pad
 items-for-operands all =
     record {
       checks = λ ws items few. record {
         checks = λ P n S f fs rest st named.
             all .checks P n S f fs rest st (items-named f ws items named)
-            ∙ ap (λ es. checkOf (itemsInOrder (S .objects) (f .slots) es)) items ∙ sym (operands-are-items (S .objects) (f .slots) 4 4 ws few);
+            ∙ ap (λ es. outcomeOf (itemsInOrder (S .objects) (f .slots) es)) items ∙ sym (operands-are-items (S .objects) (f .slots) 4 4 ws few);
       };
     }
 
-module _ {s : List ℕ} {h : Here} (a b c d : ℕ) {ka : Check} (first : ItemChecked s h 0 0 0 a ka) where
+module _ {s : List ℕ} {h : Here} (a b c d : ℕ) {ka : Step} (first : ItemChecked s h 0 0 0 a ka) where
   pub first-ends : isPass ka ≡ false → ItemsChecked s h (a ∷ b ∷ c ∷ d ∷ []) ka
   unfolding _>>_
   first-ends fails = record { checks = λ P n S f fs rest st named. stays (itemOperand (S .objects) (f .slots) a) _ fails (first .checks P n S f fs rest st (named .0)) }
 
-  module _ {kb : Check} (a-passes : isPass ka ≡ true) (second : ItemChecked s h a 0 0 b kb) where
+  module _ {kb : Step} (a-passes : isPass ka ≡ true) (second : ItemChecked s h a 0 0 b kb) where
     pub second-ends : isPass kb ≡ false → ItemsChecked s h (a ∷ b ∷ c ∷ d ∷ []) kb
     unfolding _>>_
     second-ends fails =
@@ -164,9 +163,9 @@ module _ {s : List ℕ} {h : Here} (a b c d : ℕ) {ka : Check} (first : ItemChe
               ∙ sym (goes-on (itemOperand (S .objects) (f .slots) a) _ a-passes (first .checks P n S f fs rest st (named .0)));
         }
 
-    module _ {kc : Check} (b-passes : isPass kb ≡ true) (third : ItemChecked s h a b 0 c kc) where
+    module _ {kc : Step} (b-passes : isPass kb ≡ true) (third : ItemChecked s h a b 0 c kc) where
       module _ {P : Program} {n : ℕ} {S : State} {f : Frame} {fs : List Frame} {rest : List ℕ} (st : Stand s h P n S f fs rest) (named : Every (λ e. Named (itemSlots e) f) (a ∷ b ∷ c ∷ d ∷ [])) where
-        past-two : checkOf (itemsInOrder (S .objects) (f .slots) (a ∷ b ∷ c ∷ d ∷ [])) ≡ checkOf (itemsInOrder (S .objects) (leftByItem (leftByItem (f .slots) a) b) (c ∷ d ∷ []))
+        past-two : outcomeOf (itemsInOrder (S .objects) (f .slots) (a ∷ b ∷ c ∷ d ∷ [])) ≡ outcomeOf (itemsInOrder (S .objects) (leftByItem (leftByItem (f .slots) a) b) (c ∷ d ∷ []))
         past-two =
             goes-on (itemOperand (S .objects) (f .slots) a) _ a-passes (first .checks P n S f fs rest st (named .0))
             ∙ goes-on (itemOperand (S .objects) (leftByItem (f .slots) a) b) _ b-passes (second .checks P n S f fs rest st (named .1 .0))
@@ -179,7 +178,7 @@ module _ {s : List ℕ} {h : Here} (a b c d : ℕ) {ka : Check} (first : ItemChe
                 stays (itemOperand (S .objects) (leftByItem (leftByItem (f .slots) a) b) c) _ fails (third .checks P n S f fs rest st (named .1 .1 .0)) ∙ sym (past-two st named);
           }
 
-      pub fourth-ends : {kd : Check} → isPass kc ≡ true → ItemChecked s h a b c d kd → ItemsChecked s h (a ∷ b ∷ c ∷ d ∷ []) kd
+      pub fourth-ends : {kd : Step} → isPass kc ≡ true → ItemChecked s h a b c d kd → ItemsChecked s h (a ∷ b ∷ c ∷ d ∷ []) kd
       fourth-ends c-passes fourth =
           record {
             checks = λ P n S f fs rest st named.

@@ -4,9 +4,9 @@ pub mod CheckLaws
 pub mod Standing
 -- operands and casts; fields and swaps; channels; calls
 mod OperandChecks
-mod ObjectChecks
-mod ChannelChecks
-mod CallChecks
+pub mod ObjectChecks
+pub mod ChannelChecks
+pub mod CallChecks
 -- the items of a new; the values that it would hold; both
 pub mod ItemChecks
 mod HeldChecks

@@ -20,8 +20,8 @@ use Rattle.rules.proofs.ListLaws.{by-bool, every-map, every-image, every-mapped
 use Rattle.rules.proofs.TableWords.{half-of-word}
 use Rattle.table.specs.declared.state.Here.{Here}
 use Rattle.table.specs.State.{InTable, Sees, frameAt}
-use Rattle.checks.specs.declared.lines.Check.{Check}
-use Rattle.checks.specs.Checked.{checkOf, isPass, InObjects, hereAt, Stand, Named}
+use Rattle.checks.specs.declared.lines.Step.{Step}
+use Rattle.checks.specs.Checked.{outcomeOf, passed, isPass, InObjects, hereAt, Stand, Named}
 use Rattle.checks.specs.Items.{holdAll, itemSlots, itemValue, AllInObjects, ChecksItems, ChecksHeld, ChecksNew}
 use Rattle.checks.proofs.CheckLaws.{stays, then-ok, then-gives, same-after, given, left-was-there, no-both}
 use Rattle.checks.proofs.Standing.{SlotSeen, frame-is, slots-few, slot-in-table, slot-in-objects}
@@ -30,14 +30,14 @@ use Rattle.checks.proofs.HeldChecks.{AllThere}
 
 -- ---- What the operands give
 
-past-present : {B : Type 0} (v : Value) (g : Value → Res B) {k : Check} → isPass k ≡ true → k ≡ checkOf (present v >>= g) → isAbsent v ≡ false
+past-present : {B : Type 0} (v : Value) (g : Value → Res B) {k : Res (Unit {0})} → passed k ≡ true → k ≡ outcomeOf (present v >>= g) → isAbsent v ≡ false
 unfolding present isAbsent _>>=_
-past-present Absent g {k = k} passes e = no-both k passes (ap isPass e)
+past-present Absent g {k = k} passes e = no-both k passes (ap passed e)
 past-present (Obj n) g passes e = refl
 past-present (Chan c) g passes e = refl
 
 -- an operand that passes finds its slot filled
-found-there : (os : List Object) (vs : List Value) (w : Operand) {k : Check} → isPass k ≡ true → k ≡ checkOf (operand os vs w) → isAbsent (slotAt vs (slotOf w)) ≡ false
+found-there : (os : List Object) (vs : List Value) (w : Operand) {k : Res (Unit {0})} → passed k ≡ true → k ≡ outcomeOf (operand os vs w) → isAbsent (slotAt vs (slotOf w)) ≡ false
 unfolding operand
 found-there os vs (reads s) passes e = past-present (slotAt vs s) _ passes e
 found-there os vs (takes s) passes e = past-present (slotAt vs s) _ passes e
@@ -64,13 +64,13 @@ one-more os vs w ws gave there rest =
     let same = were-there vs w ws (rest .there) in
     record { left = rest .left; gives = rw (gave, rest .gives, same) refl; there = (there, subst AllThere same (rest .there)) }
 
-all-given : (os : List Object) (vs : List Value) (ws : List Operand) {k : Check} → isPass k ≡ true → k ≡ checkOf (operands os vs ws) → AllGiven os vs ws
+all-given : (os : List Object) (vs : List Value) (ws : List Operand) {k : Res (Unit {0})} → passed k ≡ true → k ≡ outcomeOf (operands os vs ws) → AllGiven os vs ws
 unfolding operands _>>=_
 all-given os vs [] passes e = record { left = vs; gives = refl; there = tt }
-all-given os vs (w ∷ ws) {k} passes e = by-bool (isPass (checkOf (operand os vs w)))
+all-given os vs (w ∷ ws) {k} passes e = by-bool (passed (outcomeOf (operand os vs w)))
     (λ first. let gave = given os vs w first refl in
     one-more os vs w ws gave (found-there os vs w first refl) (all-given os (leftBy vs w) ws passes ((rw gave at e) ∙ then-gives (operands os (leftBy vs w) ws) _)))
-    (λ fails. no-both k passes (ap isPass e ∙ ap isPass (sym (stays (operand os vs w) _ fails refl)) ∙ fails))
+    (λ fails. no-both k passes (ap passed e ∙ ap passed (sym (stays (operand os vs w) _ fails refl)) ∙ fails))
 
 -- ---- An item's value, as it is seen
 
@@ -105,11 +105,11 @@ items-values vs (w ∷ ws) = rw (half-of-word w, items-values vs ws) refl
 
 -- past its operands it is the checks of its values, and then it cannot fail
 new-checks-values : (H : R.Here) (k : Cap) (kind : ℕ) (ws : List Operand) (us left : List Value) → operands (objectsOf H) (H .frame .slots) ws ≡ ok (us, left)
-    → checkOf (holdAll (H .self) k (H .state) us) ≡ checkOf (newLine mosts H k kind ws)
+    → outcomeOf (holdAll (H .self) k (H .state) us) ≡ outcomeOf (newLine mosts H k kind ws)
 unfolding newLine holdAll object _>>=_ _>>_
 new-checks-values H k kind ws us left gives = rw gives (same-after (allObjects us) _ _ λ ns. same-after (permit _ _ _) _ _ λ _. then-ok (check _ _) _)
 
-module _ {s : List ℕ} {h : Here} (k : Cap) {a b c d : ℕ} {first : Check} (checked : ChecksItems s h (a ∷ b ∷ c ∷ d ∷ []) first) where
+module _ {s : List ℕ} {h : Here} (k : Cap) {a b c d : ℕ} {first : Step} (checked : ChecksItems s h (a ∷ b ∷ c ∷ d ∷ []) first) where
   pub new-no-operands : isPass first ≡ false → ChecksNew s h k (a ∷ b ∷ c ∷ d ∷ []) first
   unfolding newLine
   new-no-operands fails =
@@ -117,7 +117,7 @@ module _ {s : List ℕ} {h : Here} (k : Cap) {a b c d : ℕ} {first : Check} (ch
         checks = λ ws is few kind. record { checks = λ P n S f fs rest st named. stays _ _ fails (checked .checks ws is few .checks P n S f fs rest st named) };
       }
 
-  pub new-of-values : {va vb vc vd : Value} {r : Check} → isPass first ≡ true → ItemSeen s h a va → ItemSeen s h b vb → ItemSeen s h c vc → ItemSeen s h d vd
+  pub new-of-values : {va vb vc vd : Value} {r : Step} → isPass first ≡ true → ItemSeen s h a va → ItemSeen s h b vb → ItemSeen s h c vc → ItemSeen s h d vd
       → ChecksHeld s (h .thread) k (va ∷ vb ∷ vc ∷ vd ∷ []) r → ChecksNew s h k (a ∷ b ∷ c ∷ d ∷ []) r
   new-of-values {va} {vb} {vc} {vd} passes seen-a seen-b seen-c seen-d held =
       record {

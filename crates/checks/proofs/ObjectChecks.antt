@@ -9,7 +9,6 @@ use borrow.Author.Tests.{ltb-false, eq-eqb, ne-eqb}
 use Rattle.rules.specs.declared.Value.{Value}
 use Rattle.rules.specs.declared.Value.the-variants.{Absent, Obj, Chan}
 use Rattle.rules.specs.Numbers as No
-use Rattle.rules.specs.Numbers.{foreign, alias, other}
 use Rattle.rules.specs.Lists.{Every}
 use Rattle.rules.specs.Script.{Program}
 use Rattle.rules.specs.State.{Object, Frame, State, objectAt, slotAt}
@@ -19,9 +18,9 @@ use Rattle.rules.specs.Fits.{IsObject}
 use Rattle.rules.proofs.ListLaws.{by-bool, below, every-at}
 use Rattle.table.specs.declared.state.Here.{Here}
 use Rattle.table.specs.State.{Sees, FieldIn}
-use Rattle.checks.specs.Checked.{checkOf, isPass, Made, Fielded, InObjects, swapInto, hereAt, Stand, Named, Checks}
-use Rattle.checks.specs.declared.lines.Check.{Check}
-use Rattle.checks.specs.declared.lines.Check.the-variants.{Pass, Stop}
+use Rattle.checks.specs.Checked.{resultOf, outcomeOf, isPass, Made, Fielded, InObjects, swapInto, hereAt, Stand, Named, Checks}
+use Rattle.checks.specs.declared.lines.Step.{Step}
+use Rattle.checks.specs.declared.lines.Step.the-variants.{Next, NoValue, NoField, WrongThing, Foreign, Alias, Other}
 use Rattle.checks.proofs.CheckLaws.{stays, then-ok, same-after}
 use Rattle.checks.proofs.Standing.{SlotSeen, TargetSeen, OperandChecked, field-in, slot-in-objects, slot-object, fielded, field-in-objects, slot-read, target-read, target-object, operand-goes}
 
@@ -43,11 +42,11 @@ has-field vs j h = by-bool (ltb j (length vs))
 -- ---- field: the target x in slot i
 
 module _ {s : List ℕ} {h : Here} (i j : ℕ) {x : Value} (target : SlotSeen s h (i % 16) x) where
-  pub field-no-target : x ≡ Absent → Checks s h (i ∷ []) (λ P H. fieldLine H i j) (Stop No.absent)
+  pub field-no-target : x ≡ Absent → Checks s h (i ∷ []) (λ P H. fieldLine H i j) NoValue
   unfolding fieldLine asObject _>>=_
   field-no-target is = record { checks = λ P n S f fs rest st named. rw (slot-read st i _ refl target (named .0) ∙ is) refl }
 
-  pub field-of-channel : {c : ℕ} → x ≡ Chan c → Checks s h (i ∷ []) (λ P H. fieldLine H i j) (Stop No.wrongThing)
+  pub field-of-channel : {c : ℕ} → x ≡ Chan c → Checks s h (i ∷ []) (λ P H. fieldLine H i j) WrongThing
   unfolding fieldLine asObject _>>=_
   field-of-channel is = record { checks = λ P n S f fs rest st named. rw (slot-read st i _ refl target (named .0) ∙ is) refl }
 
@@ -64,24 +63,24 @@ module _ {s : List ℕ} {h : Here} (i j : ℕ) {x : Value} (target : SlotSeen s 
       field-there = rw field-is (field-in-objects st o j made)
 
       -- the answer by what the code reads: the field, whether the target is another thread's, whether the field holds an iso
-      field-answer : checkOf (check (not (isAbsent v)) No.noField >> permit (isForeign (h .thread) (objectAt (S .objects) o)) (isIsoObject (S .objects) v) false)
-          ≡ checkOf (fieldLine (hereAt S (h .thread) f fs) i j)
+      field-answer : outcomeOf (check (not (isAbsent v)) No.noField >> permit (isForeign (h .thread) (objectAt (S .objects) o)) (isIsoObject (S .objects) v) false)
+          ≡ outcomeOf (fieldLine (hereAt S (h .thread) f fs) i j)
       unfolding fieldLine asObject object _>>=_ _>>_
       field-answer =
           rw (slot-read st i _ refl target (named .0) ∙ is, field-is, has-field (objectAt (S .objects) o .fields) j (fielded st o made .fields))
           (same-after (check _ No.noField) _ _ λ _. then-ok (permit _ _ false) _)
 
-    pub field-missing : isAbsent v ≡ true → Checks s h (i ∷ []) (λ P H. fieldLine H i j) (Stop No.noField)
+    pub field-missing : isAbsent v ≡ true → Checks s h (i ∷ []) (λ P H. fieldLine H i j) NoField
     unfolding check _>>_ _>>=_
     field-missing missing = record { checks = λ P n S f fs rest st named. let answer = field-answer st named in rw missing at answer }
 
     module _ {b : Bool} (there : isAbsent v ≡ false) (away : Sees s (Made o) (λ S. isForeign (h .thread) (objectAt (S .objects) o)) b) where
-      pub field-of-foreign : b ≡ true → Checks s h (i ∷ []) (λ P H. fieldLine H i j) (Stop (No.permission foreign))
+      pub field-of-foreign : b ≡ true → Checks s h (i ∷ []) (λ P H. fieldLine H i j) Foreign
       unfolding check permit _>>_ _>>=_
       field-of-foreign far = record { checks = λ P n S f fs rest st named. let answer = field-answer st named in rw (there, sym (away .sees S rest (st .held) (made st named)) ∙ far) at answer }
 
       module _ {a : Bool} (near : b ≡ false) (iso : Sees s (InObjects v) (λ S. isIsoObject (S .objects) v) a) where
-        pub field-iso : a ≡ true → Checks s h (i ∷ []) (λ P H. fieldLine H i j) (Stop (No.permission alias))
+        pub field-iso : a ≡ true → Checks s h (i ∷ []) (λ P H. fieldLine H i j) Alias
         unfolding check permit _>>_ _>>=_
         field-iso is-iso =
             record {
@@ -89,7 +88,7 @@ module _ {s : List ℕ} {h : Here} (i j : ℕ) {x : Value} (target : SlotSeen s 
                   let answer = field-answer st named in rw (there, sym (away .sees S rest (st .held) (made st named)) ∙ near, sym (iso .sees S rest (st .held) (field-there st named)) ∙ is-iso) at answer;
             }
 
-        pub field-passes : a ≡ false → Checks s h (i ∷ []) (λ P H. fieldLine H i j) Pass
+        pub field-passes : a ≡ false → Checks s h (i ∷ []) (λ P H. fieldLine H i j) Next
         unfolding check permit _>>_ _>>=_
         field-passes not-iso =
             record {
@@ -119,66 +118,66 @@ module _ (o u : Object) where
 
 -- object u into object o, by thread t
 module _ (t : ℕ) (o u : Object) where
-  pub into-foreign : isForeign t o ≡ true → Stop (No.permission foreign) ≡ checkOf (permitSwap t o u)
+  pub into-foreign : isForeign t o ≡ true → resultOf Foreign ≡ outcomeOf (permitSwap t o u)
   unfolding permitSwap permit check _>>_ _>>=_
   into-foreign far = rw far
 
   module _ (near : isForeign t o ≡ false) where
-    pub into-apart : areApart o u ≡ true → Stop (No.permission foreign) ≡ checkOf (permitSwap t o u)
+    pub into-apart : areApart o u ≡ true → resultOf Foreign ≡ outcomeOf (permitSwap t o u)
     unfolding permitSwap permit check _>>_ _>>=_
     into-apart h = rw (near, h)
 
     module _ (together : areApart o u ≡ false) where
-      pub into-imm : isImm (o .cap) ≡ true → Stop (No.permission other) ≡ checkOf (permitSwap t o u)
+      pub into-imm : isImm (o .cap) ≡ true → resultOf Other ≡ outcomeOf (permitSwap t o u)
       unfolding permitSwap permit check _>>_ _>>=_
       into-imm imm = rw (near, together, imm)
 
-      pub into-passes : isImm (o .cap) ≡ false → mayHold (o .cap) (u .cap) ≡ true → Pass ≡ checkOf (permitSwap t o u)
+      pub into-passes : isImm (o .cap) ≡ false → mayHold (o .cap) (u .cap) ≡ true → resultOf Next ≡ outcomeOf (permitSwap t o u)
       unfolding permitSwap permit check _>>_ _>>=_
       into-passes not-imm holds = rw (near, together, not-imm, holds)
 
-      pub into-above : isImm (o .cap) ≡ false → mayHold (o .cap) (u .cap) ≡ false → Stop (No.permission other) ≡ checkOf (permitSwap t o u)
+      pub into-above : isImm (o .cap) ≡ false → mayHold (o .cap) (u .cap) ≡ false → resultOf Other ≡ outcomeOf (permitSwap t o u)
       unfolding permitSwap permit check _>>_ _>>=_
       into-above not-imm above = rw (near, together, not-imm, above)
 
 -- into field j of object n
 module _ (t : ℕ) (os : List Object) (n j : ℕ) where
-  pub into-absent : Stop No.absent ≡ checkOf (swapInto t os n j Absent)
+  pub into-absent : resultOf NoValue ≡ outcomeOf (swapInto t os n j Absent)
   unfolding swapInto asObject _>>=_
   into-absent = refl
 
-  pub into-channel : (c : ℕ) → Stop No.wrongThing ≡ checkOf (swapInto t os n j (Chan c))
+  pub into-channel : (c : ℕ) → resultOf WrongThing ≡ outcomeOf (swapInto t os n j (Chan c))
   unfolding swapInto asObject _>>=_
   into-channel c = refl
 
   module _ (m : ℕ) (fields : Every (IsObject 256) (objectAt os n .fields)) where
-    pub into-missing : isAbsent (slotAt (objectAt os n .fields) j) ≡ true → Stop No.noField ≡ checkOf (swapInto t os n j (Obj m))
+    pub into-missing : isAbsent (slotAt (objectAt os n .fields) j) ≡ true → resultOf NoField ≡ outcomeOf (swapInto t os n j (Obj m))
     unfolding swapInto asObject check _>>=_ _>>_
     into-missing missing = rw (has-field (objectAt os n .fields) j fields, missing)
 
-    pub into-field : isAbsent (slotAt (objectAt os n .fields) j) ≡ false → checkOf (permitSwap t (objectAt os n) (objectAt os m)) ≡ checkOf (swapInto t os n j (Obj m))
+    pub into-field : isAbsent (slotAt (objectAt os n .fields) j) ≡ false → outcomeOf (permitSwap t (objectAt os n) (objectAt os m)) ≡ outcomeOf (swapInto t os n j (Obj m))
     unfolding swapInto asObject check _>>=_ _>>_
     into-field there = rw (has-field (objectAt os n .fields) j fields, there)
 
 -- ---- swap: the operand's word w, the target x in slot i as the operand leaves it
 
-module _ {s : List ℕ} {h : Here} (i j w : ℕ) {k : Check} (first : OperandChecked s h w k) where
+module _ {s : List ℕ} {h : Here} (i j w : ℕ) {k : Step} (first : OperandChecked s h w k) where
   pub swap-no-operand : isPass k ≡ false → Checks s h (i ∷ w / 2 ∷ []) (λ P H. swapLine H i j (operandOf w)) k
   unfolding swapLine
   swap-no-operand fails = record { checks = λ P n S f fs rest st named. stays _ _ fails (first .checks P n S f fs rest st (named .1)) }
 
   module _ {x : Value} (passed : isPass k ≡ true) (target : TargetSeen s h i w x) where
-    pub swap-no-target : x ≡ Absent → Checks s h (i ∷ w / 2 ∷ []) (λ P H. swapLine H i j (operandOf w)) (Stop No.absent)
+    pub swap-no-target : x ≡ Absent → Checks s h (i ∷ w / 2 ∷ []) (λ P H. swapLine H i j (operandOf w)) NoValue
     unfolding swapLine asObject _>>=_
     swap-no-target is = record { checks = λ P n S f fs rest st named. rw (operand-goes st w first passed (named .1 .0), target-read st i w target (named .0) ∙ is) refl }
 
-    pub swap-of-channel : {c : ℕ} → x ≡ Chan c → Checks s h (i ∷ w / 2 ∷ []) (λ P H. swapLine H i j (operandOf w)) (Stop No.wrongThing)
+    pub swap-of-channel : {c : ℕ} → x ≡ Chan c → Checks s h (i ∷ w / 2 ∷ []) (λ P H. swapLine H i j (operandOf w)) WrongThing
     unfolding swapLine asObject _>>=_
     swap-of-channel is = record { checks = λ P n S f fs rest st named. rw (operand-goes st w first passed (named .1 .0), target-read st i w target (named .0) ∙ is) refl }
 
     -- the value v, read at the place r; nothing after its own checks can stop
-    pub swap-of-object : {o r : ℕ} {v : Value} {a : Check} → x ≡ Obj o → r ≡ w / 2 % 16 → SlotSeen s h r v
-        → Sees s (λ S. Fielded o S × InObjects v S) (λ S. checkOf (swapInto (h .thread) (S .objects) o j v)) a → Checks s h (i ∷ w / 2 ∷ []) (λ P H. swapLine H i j (operandOf w)) a
+    pub swap-of-object : {o r : ℕ} {v : Value} {a : Step} → x ≡ Obj o → r ≡ w / 2 % 16 → SlotSeen s h r v
+        → Sees s (λ S. Fielded o S × InObjects v S) (λ S. outcomeOf (swapInto (h .thread) (S .objects) o j v)) (resultOf a) → Checks s h (i ∷ w / 2 ∷ []) (λ P H. swapLine H i j (operandOf w)) a
     unfolding swapLine swapInto object asObject _>>=_ _>>_
     swap-of-object {o} {r} {v} is place value into =
         record {

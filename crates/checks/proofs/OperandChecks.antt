@@ -12,7 +12,6 @@ use borrow.Author.Tests.{eqb-true, eq-eqb, ne-eqb}
 use Rattle.rules.specs.declared.Cap.{Cap}
 use Rattle.rules.specs.declared.Value.{Value}
 use Rattle.rules.specs.declared.Value.the-variants.{Absent, Obj, Chan}
-use Rattle.rules.specs.Numbers as No
 use Rattle.rules.specs.Script.{Program, rank}
 use Rattle.rules.specs.State.{Frame, State, objectAt, slotAt}
 use Rattle.rules.specs.Tables.{operandOf}
@@ -20,8 +19,8 @@ use Rattle.rules.specs.Turn.{_>>=_, _>>_, check, permit, isIso, isLocal, sameCa
 use Rattle.rules.proofs.ListLaws.{by-bool}
 use Rattle.table.specs.declared.state.Here.{Here}
 use Rattle.table.specs.State.{InTable, Sees, frameAt}
-use Rattle.checks.specs.declared.lines.Check.{Check}
-use Rattle.checks.specs.declared.lines.Check.the-variants.{Pass, Stop}
+use Rattle.checks.specs.declared.lines.Step.{Step}
+use Rattle.checks.specs.declared.lines.Step.the-variants.{Next, NoValue, WrongThing, Alias, WrongCap}
 use Rattle.checks.specs.Checked.{isPass, Made, InObjects, Stand, Checks}
 use Rattle.checks.proofs.CheckLaws.{stays}
 use Rattle.checks.proofs.Standing.{SlotSeen, TargetSeen, OperandChecked, slot-object, slot-read, operand-goes}
@@ -29,7 +28,7 @@ use Rattle.checks.proofs.Standing.{SlotSeen, TargetSeen, OperandChecked
 -- ---- An operand: its word w, its slot's value v
 
 module _ {s : List ℕ} {h : Here} {r : ℕ} {v : Value} (w : ℕ) (place : r ≡ w / 2 % 16) (slot : SlotSeen s h r v) where
-  pub operand-absent : v ≡ Absent → OperandChecked s h w (Stop No.absent)
+  pub operand-absent : v ≡ Absent → OperandChecked s h w NoValue
   unfolding operand present _>>=_
   operand-absent is =
       record {
@@ -38,7 +37,7 @@ module _ {s : List ℕ} {h : Here} {r : ℕ} {v : Value} (w : ℕ) (place : r �
             by-bool (eqb (w % 2) 1) (λ t. rw (t, value) refl) (λ t. rw (t, value) refl);
       }
 
-  pub operand-channel : {c : ℕ} → v ≡ Chan c → OperandChecked s h w Pass
+  pub operand-channel : {c : ℕ} → v ≡ Chan c → OperandChecked s h w Next
   unfolding operand present permit check isIsoObject _>>=_ _>>_
   operand-channel is =
       record {
@@ -48,7 +47,7 @@ module _ {s : List ℕ} {h : Here} {r : ℕ} {v : Value} (w : ℕ) (place : r �
       }
 
   module _ {o : ℕ} (is : v ≡ Obj o) where
-    pub operand-taken : w % 2 ≡ 1 → OperandChecked s h w Pass
+    pub operand-taken : w % 2 ≡ 1 → OperandChecked s h w Next
     unfolding operand present _>>=_
     operand-taken takes =
         record { checks = λ P n S f fs rest st named. rw (eq-eqb (w % 2) 1 takes, slot-read st (w / 2) _ place slot (named .0) ∙ is) refl }
@@ -58,12 +57,12 @@ module _ {s : List ℕ} {h : Here} {r : ℕ} {v : Value} (w : ℕ) (place : r �
           → isIso (objectAt (S .objects) o .cap) ≡ isIso k
       iso-is {S = S} {rest = rest} st filled = ap isIso (sym (cap .sees S rest (st .held) (slot-object st (w / 2) o (slot-read st (w / 2) _ place slot filled ∙ is))))
 
-      pub operand-alias : isIso k ≡ true → OperandChecked s h w (Stop (No.permission No.alias))
+      pub operand-alias : isIso k ≡ true → OperandChecked s h w Alias
       unfolding operand present permit check isIsoObject _>>=_ _>>_
       operand-alias iso =
           record { checks = λ P n S f fs rest st named. rw (ne-eqb (w % 2) 1 reads, slot-read st (w / 2) _ place slot (named .0) ∙ is, iso-is st (named .0) ∙ iso) refl }
 
-      pub operand-read : isIso k ≡ false → OperandChecked s h w Pass
+      pub operand-read : isIso k ≡ false → OperandChecked s h w Next
       unfolding operand present permit check isIsoObject _>>=_ _>>_
       operand-read not-iso =
           record { checks = λ P n S f fs rest st named. rw (ne-eqb (w % 2) 1 reads, slot-read st (w / 2) _ place slot (named .0) ∙ is, iso-is st (named .0) ∙ not-iso) refl }
@@ -103,8 +102,8 @@ module _ (s : List ℕ) (h : Here) (i w : ℕ) where
 
 -- ---- cast: the operand's word w, its value v
 
-module _ {s : List ℕ} {h : Here} {k : Check} (w : ℕ) (c : Cap) (first : OperandChecked s h w k) where
-  abbrev CastGives : Check → Type 0
+module _ {s : List ℕ} {h : Here} {k : Step} (w : ℕ) (c : Cap) (first : OperandChecked s h w k) where
+  abbrev CastGives : Step → Type 0
   CastGives j = Checks s h (w / 2 ∷ []) (λ P H. castLine H c (operandOf w)) j
 
   pub cast-no-operand : isPass k ≡ false → CastGives k
@@ -112,11 +111,11 @@ module _ {s : List ℕ} {h : Here} {k : Check} (w : ℕ) (c : Cap) (first : Oper
   cast-no-operand fails = record { checks = λ P n S f fs rest st named. stays _ _ fails (first .checks P n S f fs rest st named) }
 
   module _ {r : ℕ} {v : Value} (passed : isPass k ≡ true) (place : r ≡ w / 2 % 16) (slot : SlotSeen s h r v) where
-    pub cast-of-absent : v ≡ Absent → CastGives (Stop No.absent)
+    pub cast-of-absent : v ≡ Absent → CastGives NoValue
     unfolding castLine asObject _>>=_
     cast-of-absent is = record { checks = λ P n S f fs rest st named. rw (operand-goes st w first passed (named .0), slot-read st (w / 2) _ place slot (named .0) ∙ is) refl }
 
-    pub cast-of-channel : {d : ℕ} → v ≡ Chan d → CastGives (Stop No.wrongThing)
+    pub cast-of-channel : {d : ℕ} → v ≡ Chan d → CastGives WrongThing
     unfolding castLine asObject _>>=_
     cast-of-channel is = record { checks = λ P n S f fs rest st named. rw (operand-goes st w first passed (named .0), slot-read st (w / 2) _ place slot (named .0) ∙ is) refl }
 
@@ -127,7 +126,7 @@ module _ {s : List ℕ} {h : Here} {k : Check} (w : ℕ) (c : Cap) (first : Oper
       same-is {S = S} {rest = rest} st filled =
           ap (λ (b : Cap). sameCap b c) (sym (cap .sees S rest (st .held) (slot-object st (w / 2) o (slot-read st (w / 2) _ place slot filled ∙ is))))
 
-      pub cast-same : rank a ≡ rank c → CastGives Pass
+      pub cast-same : rank a ≡ rank c → CastGives Next
       unfolding castLine asObject object check _>>=_ _>>_
       cast-same same =
           record {
@@ -135,7 +134,7 @@ module _ {s : List ℕ} {h : Here} {k : Check} (w : ℕ) (c : Cap) (first : Oper
                 rw (operand-goes st w first passed (named .0), slot-read st (w / 2) _ place slot (named .0) ∙ is, same-is st (named .0) ∙ eq-eqb (rank a) (rank c) same) refl;
           }
 
-      pub cast-other : (rank a ≡ rank c → ⊥) → CastGives (Stop No.cast)
+      pub cast-other : (rank a ≡ rank c → ⊥) → CastGives WrongCap
       unfolding castLine asObject object check _>>=_ _>>_
       cast-other other =
           record {

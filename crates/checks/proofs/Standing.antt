@@ -20,7 +20,7 @@ use Rattle.rules.proofs.Keeps.{HereFits, here-fits, is-object-more, object-in-r
 use Rattle.table.specs.declared.state.Here.{Here}
 use Rattle.table.specs.State.{InTable, Sees, FieldIn, frameAt}
 use Rattle.table.proofs.StateEdits.{innermost-frame}
-use Rattle.checks.specs.declared.lines.Check.{Check}
+use Rattle.checks.specs.declared.lines.Step.{Step}
 use Rattle.checks.specs.Checked.{isPass, Fielded, InObjects, hereAt, Stand, Checks}
 use Rattle.checks.proofs.CheckLaws.{operand-gives, left-was-there}
 
@@ -38,7 +38,7 @@ abbrev pub MessageSeen : List ℕ → ℕ → Value → Type 0
 MessageSeen s c v = Sees s (λ S. InTable (channelAt S c .message)) (λ S. channelAt S c .message) v
 
 -- the check of the operand of word w is k
-abbrev pub OperandChecked : List ℕ → Here → ℕ → Check → Type 0
+abbrev pub OperandChecked : List ℕ → Here → ℕ → Step → Type 0
 OperandChecked s h w k = Checks s h (w / 2 ∷ []) (λ P H. operand (H .state .objects) (H .frame .slots) (operandOf w)) k
 
 -- ---- Values in range
@@ -157,6 +157,6 @@ module _ {s : List ℕ} {h : Here} {P : Program} {n : ℕ} {S : State} {f : Fram
   message-read c read = sym (read .sees S rest (st .held) (message-in-table c))
 
   -- the operand of word w, whose check k passes
-  pub operand-goes : (w : ℕ) {k : Check} → OperandChecked s h w k → isPass k ≡ true → w / 2 < length (f .slots)
+  pub operand-goes : (w : ℕ) {k : Step} → OperandChecked s h w k → isPass k ≡ true → w / 2 < length (f .slots)
       → operand (S .objects) (f .slots) (operandOf w) ≡ ok (slotAt (f .slots) (w / 2), leftBy (f .slots) (operandOf w))
   operand-goes w first passes filled = operand-gives (S .objects) (f .slots) w passes (first .checks P n S f fs rest st (filled, tt))

@@ -10,6 +10,7 @@ use Rattle.rules.specs.declared.Value.the-variants.{Absent, Obj, Chan}
 use Rattle.rules.specs.Mosts as Most
 use Rattle.rules.specs.Mosts.{mosts}
 use Rattle.rules.specs.Numbers as No
+use Rattle.rules.specs.Numbers.{foreign, alias, other}
 use Rattle.rules.specs.Lists.{Every}
 use Rattle.rules.specs.Script.{Program, linesOf, kindAt}
 use Rattle.rules.specs.Valid.{Valid}
@@ -21,29 +22,51 @@ use Rattle.rules.specs.Fits.{IsObject, Fits}
 use Rattle.table.specs.declared.state.Here.{Here}
 use Rattle.table.specs.Program.{Filled}
 use Rattle.table.specs.State.{Held}
-use Rattle.checks.specs.declared.lines.Check.{Check}
-use Rattle.checks.specs.declared.lines.Check.the-variants.{Pass, Wait, Stop}
+use Rattle.checks.specs.declared.lines.Step.{Step}
+use Rattle.checks.specs.declared.lines.Step.the-variants.{Next, Stay, Turned, Waits, NoValue, NoField, NoMethod, WrongThing, Foreign, Alias, Other, WrongCap, UsedUp}
 
--- a result of the rules as a check
-abbrev pub checkOf : {A : Type 0} → Res A → Check
-checkOf (ok a) = Pass
-checkOf wait = Wait
-checkOf (stop n) = Stop n
+-- a step as a result of the rules: each ground has its number there
+abbrev pub resultOf : Step → Res (Unit {0})
+resultOf Next = ok tt
+resultOf Stay = ok tt
+resultOf Turned = ok tt
+resultOf Waits = wait
+resultOf NoValue = stop No.absent
+resultOf NoField = stop No.noField
+resultOf NoMethod = stop No.noMethod
+resultOf WrongThing = stop No.wrongThing
+resultOf Foreign = stop (No.permission foreign)
+resultOf Alias = stop (No.permission alias)
+resultOf Other = stop (No.permission other)
+resultOf WrongCap = stop No.cast
+resultOf UsedUp = stop No.usedUp
 
-abbrev pub isPass : Check → Bool
-isPass Pass = true
-isPass Wait = false
-isPass (Stop n) = false
+-- a result of the rules, its value aside
+abbrev pub outcomeOf : {A : Type 0} → Res A → Res (Unit {0})
+outcomeOf (ok a) = ok tt
+outcomeOf wait = wait
+outcomeOf (stop n) = stop n
 
-abbrev pub isWait : Check → Bool
-isWait Pass = false
-isWait Wait = true
-isWait (Stop n) = false
+abbrev pub passed : Res (Unit {0}) → Bool
+passed (ok a) = true
+passed wait = false
+passed (stop n) = false
 
-abbrev pub numberOf : Value → ℕ
-numberOf Absent = 0
-numberOf (Obj n) = n
-numberOf (Chan c) = c
+abbrev pub waited : Res (Unit {0}) → Bool
+waited (ok a) = false
+waited wait = true
+waited (stop n) = false
+
+abbrev pub stopNumber : Res (Unit {0}) → ℕ
+stopNumber (ok a) = 0
+stopNumber wait = 0
+stopNumber (stop n) = n
+
+abbrev pub isPass : Step → Bool
+isPass k = passed (resultOf k)
+
+abbrev pub isWait : Step → Bool
+isWait k = waited (resultOf k)
 
 -- ---- What is asked of the state
 
@@ -98,15 +121,11 @@ abbrev pub Named : List ℕ → Frame → Type 0
 Named is f = Every (λ i. i < length (f .slots)) is
 
 -- a check of a line that names these slots answers what the rule does
-pub record Checks {A : Type 0} (s : List ℕ) (h : Here) (is : List ℕ) (line : Program → R.Here → Res A) (k : Check) : Type 0 where
+pub record Checks {A : Type 0} (s : List ℕ) (h : Here) (is : List ℕ) (line : Program → R.Here → Res A) (k : Step) : Type 0 where
   pub checks : (P : Program) (n : ℕ) (S : State) (f : Frame) (fs : List Frame) (rest : List ℕ) → Stand s h P n S f fs rest → Named is f
-      → k ≡ checkOf (line P (hereAt S (h .thread) f fs))
+      → resultOf k ≡ outcomeOf (line P (hereAt S (h .thread) f fs))
 
 -- method j of object n's kind, as an item
 pub record MethodItem (p s : List ℕ) (n j r : ℕ) : Type 0 where
   pub is : (P : Program) (S : State) (counts rest₁ rest₂ : List ℕ) → Filled p counts (linesOf P) rest₁ → Held s S rest₂ → Valid mosts P → n < length (S .objects)
       → objectAt (S .objects) n .kind < length (P .kinds) → r ≡ getD (map suc (kindAt P (objectAt (S .objects) n .kind) .methods)) j 0
-
-pub record ChecksCall (p s : List ℕ) (h : Here) (i j w : ℕ) (k : Check) : Type 0 where
-  pub checks : (P : Program) (n : ℕ) (S : State) (f : Frame) (fs : List Frame) (counts rest₁ rest₂ : List ℕ) → Filled p counts (linesOf P) rest₁
-      → Stand s h P n S f fs rest₂ → Named (i ∷ w / 2 ∷ []) f → k ≡ checkOf (R.callLine P (hereAt S (h .thread) f fs) i j (operandOf w))

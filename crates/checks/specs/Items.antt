@@ -19,8 +19,8 @@ use Rattle.rules.specs.Turn as R
 use Rattle.rules.specs.Turn.{Res, ok, _>>=_, _>>_, check, permit, mayHold, isForeign, isAbsent, operand, leftBy, operands, allObjects}
 use Rattle.table.specs.declared.state.Here.{Here}
 use Rattle.table.specs.State.{Sees}
-use Rattle.checks.specs.declared.lines.Check.{Check}
-use Rattle.checks.specs.Checked.{checkOf, InObjects, Checks}
+use Rattle.checks.specs.declared.lines.Step.{Step}
+use Rattle.checks.specs.Checked.{resultOf, outcomeOf, InObjects, Checks}
 
 -- new, past its operands, which give the values us
 unfoldable pub holdAll : ℕ → Cap → State → List Value → Res (Unit {0})
@@ -71,14 +71,14 @@ abbrev pub AllInObjects : List Value → State → Type 0
 AllInObjects vs S = Every (λ v. InObjects v S) vs
 
 -- the operands of a new; the values that they gave
-pub record ChecksItems (s : List ℕ) (h : Here) (items : List ℕ) (k : Check) : Type 0 where
+pub record ChecksItems (s : List ℕ) (h : Here) (items : List ℕ) (k : Step) : Type 0 where
   pub checks : (ws : List Operand) → items ≡ pad 4 0 (map operandItem ws) → length ws ≤ 4
       → Checks s h (map slotOf ws) (λ P H. operands (H .state .objects) (H .frame .slots) ws) k
 
-pub record ChecksHeld (s : List ℕ) (t : ℕ) (c : Cap) (values : List Value) (k : Check) : Type 0 where
+pub record ChecksHeld (s : List ℕ) (t : ℕ) (c : Cap) (values : List Value) (k : Step) : Type 0 where
   pub checks : (us : List Value) → values ≡ pad 4 Absent us → length us ≤ 4 → Every (λ u. isAbsent u ≡ false) us
-      → Sees s (AllInObjects us) (λ S. checkOf (holdAll t c S us)) k
+      → Sees s (AllInObjects us) (λ S. outcomeOf (holdAll t c S us)) (resultOf k)
 
-pub record ChecksNew (s : List ℕ) (h : Here) (c : Cap) (items : List ℕ) (k : Check) : Type 0 where
+pub record ChecksNew (s : List ℕ) (h : Here) (c : Cap) (items : List ℕ) (k : Step) : Type 0 where
   pub checks : (ws : List Operand) → items ≡ pad 4 0 (map operandItem ws) → length ws ≤ 4
       → (kind : ℕ) → Checks s h (map slotOf ws) (λ P H. R.newLine mosts H c kind ws) k

@@ -1,16 +1,11 @@
 // The checks of new. Its operands are items, each one more than an operand's word, 0 where there is none.
-use super::lines::Check;
+use super::lines::Step;
 use super::lines::is_foreign;
 use super::lines::operand_check;
 use super::lines::passes;
 use super::lines::slot_of;
 use rules::Cap;
 use rules::Value;
-use rules::numbers::ABSENT;
-use rules::numbers::FOREIGN;
-use rules::numbers::OTHER;
-use rules::numbers::USED_UP;
-use rules::numbers::WRONG_THING;
 use table::Here;
 ghost use mathlib.Core.Path.{_≡_};
 ghost use mathlib.Core.Bool.{_||_};
@@ -34,27 +29,27 @@ fn takes_slot(a: u16, e: u16) -> bool
 }
 
 // The operand of item e, which sees what the items a, b and c before it took.
-fn item_check(s: &[u16], h: Here, a: u16, b: u16, c: u16, e: u16) -> Check
+fn item_check(s: &[u16], h: Here, a: u16, b: u16, c: u16, e: u16) -> Step
     requires { ⌜ (8192 ≤ length (now s)) × Placed h ⌝ }
     ensures { λ r. ⌜ Checks (now (s .entry)) h (itemSlots e) (λ P H. itemOperand (H .state .objects) (leftByItem (leftByItem (leftByItem (H .frame .slots) a) b) c) e) r ⌝ }
 {
     if e == 0 {
-        return Check::Pass;
+        return Step::Next;
     }
     if takes_slot(a, e) {
-        return Check::Stop(ABSENT);
+        return Step::NoValue;
     }
     if takes_slot(b, e) {
-        return Check::Stop(ABSENT);
+        return Step::NoValue;
     }
     if takes_slot(c, e) {
-        return Check::Stop(ABSENT);
+        return Step::NoValue;
     }
     operand_check(s, h, e - 1)
 }
 
 // "All operands come first, left to right, each seeing what the earlier ones took."
-fn items_check(s: &[u16], h: Here, a: u16, b: u16, c: u16, d: u16) -> Check
+fn items_check(s: &[u16], h: Here, a: u16, b: u16, c: u16, d: u16) -> Step
     requires { ⌜ (8192 ≤ length (now s)) × Placed h ⌝ }
     ensures { λ r. ⌜ ChecksItems (now (s .entry)) h (a ∷ b ∷ c ∷ d ∷ []) r ⌝ }
 {
@@ -165,27 +160,27 @@ fn any_above(s: &[u16], k: Cap, a: Value, b: Value, c: Value, d: Value) -> bool
 }
 
 // "any value a channel 13; any value above K, or local with another creator, 14; objects used up 16".
-fn hold_check(s: &[u16], t: usize, k: Cap, a: Value, b: Value, c: Value, d: Value) -> Check
+fn hold_check(s: &[u16], t: usize, k: Cap, a: Value, b: Value, c: Value, d: Value) -> Step
     requires { ⌜ (8192 ≤ length (now s)) × InTable a × InTable b × InTable c × InTable d ⌝ }
     ensures { λ r. ⌜ ChecksHeld (now (s .entry)) t k (a ∷ b ∷ c ∷ d ∷ []) r ⌝ }
 {
     if any_channel(a, b, c, d) {
-        return Check::Stop(WRONG_THING);
+        return Step::WrongThing;
     }
     if any_foreign(s, t, a, b, c, d) {
-        return Check::Stop(FOREIGN);
+        return Step::Foreign;
     }
     if any_above(s, k, a, b, c, d) {
-        return Check::Stop(OTHER);
+        return Step::Other;
     }
     if table::object_count(s) < 256 {
-        return Check::Pass;
+        return Step::Next;
     }
-    Check::Stop(USED_UP)
+    Step::UsedUp
 }
 
 // "new: any value a channel 13; any value above K, or local with another creator, 14; objects used up 16."
-pub fn new_check(s: &[u16], h: Here, k: Cap, a: u16, b: u16, c: u16, d: u16) -> Check
+pub fn new_check(s: &[u16], h: Here, k: Cap, a: u16, b: u16, c: u16, d: u16) -> Step
     requires { ⌜ (8192 ≤ length (now s)) × Placed h ⌝ }
     ensures { λ r. ⌜ ChecksNew (now (s .entry)) h k (a ∷ b ∷ c ∷ d ∷ []) r ⌝ }
 {

@@ -2,15 +2,6 @@
 // checks say whether a thread would wait.
 use rules::Cap;
 use rules::Value;
-use rules::numbers::ABSENT;
-use rules::numbers::ALIAS;
-use rules::numbers::CAST;
-use rules::numbers::FOREIGN;
-use rules::numbers::NO_FIELD;
-use rules::numbers::NO_METHOD;
-use rules::numbers::OTHER;
-use rules::numbers::USED_UP;
-use rules::numbers::WRONG_THING;
 use table::Here;
 ghost use mathlib.Core.Path.{_≡_};
 ghost use mathlib.Core.List.{[], _∷_};
@@ -21,34 +12,86 @@ ghost use Rattle.rules.specs.Mosts.{mosts};
 ghost use Rattle.rules.specs.Numbers as No;
 ghost use Rattle.rules.specs.State.{objectAt, channelAt, slotAt};
 ghost use Rattle.rules.specs.Tables.{operandOf};
-ghost use Rattle.rules.specs.Turn.{check, isImm, isIso, isLocal, isForeign, isAbsent, isIsoObject, operand, leftBy, permitSwap, fieldLine, swapLine, castLine, putLine, sentLine, recvLine};
+ghost use Rattle.rules.specs.Turn.{check, isImm, isIso, isLocal, isForeign, isAbsent, isIsoObject, operand, leftBy, permitSwap, castLine, putLine, sentLine, recvLine};
 ghost use Rattle.table.specs.State.{InTable, Sees, Placed, frameAt};
-ghost use Rattle.checks.specs.Checked.{isPass, isWait, checkOf, numberOf, Made, Fielded, InObjects, Few, swapInto, putInto, MethodItem, Checks, ChecksCall};
+ghost use Rattle.checks.specs.Checked.{resultOf, outcomeOf, stopNumber, isPass, isWait, Made, Fielded, InObjects, Few, swapInto, putInto, MethodItem, Checks};
 
-// What the checks come to: the turn moves, it waits, or it stops with a number.
-pub enum Check {
-    Pass,
-    Wait,
-    Stop(u16),
+// What a line comes to. It moves, and the thread is then at the frame's next line, at the same line, or in another frame or finished; it waits; or
+// it stops on one of the grounds. A check that passes answers that the line moves, by Next.
+pub enum Step {
+    Next,
+    Stay,
+    Turned,
+    Waits,
+    NoValue, // a slot that holds nothing
+    NoField,
+    NoMethod,
+    WrongThing, // a channel where an object is wanted, or an object where a channel is
+    Foreign, // something local to another thread
+    Alias, // a second reference to an iso
+    Other, // any other ground of a permission stop
+    WrongCap, // a cast to another capability
+    UsedUp,
 }
 
-pub fn passes(k: Check) -> bool
+pub fn passes(k: Step) -> bool
     ensures { λ r. ⌜ r ≡ isPass k ⌝ }
 {
     match k {
-        Check::Pass => true,
-        Check::Wait => false,
-        Check::Stop(_) => false,
+        Step::Next => true,
+        Step::Stay => true,
+        Step::Turned => true,
+        Step::Waits => false,
+        Step::NoValue => false,
+        Step::NoField => false,
+        Step::NoMethod => false,
+        Step::WrongThing => false,
+        Step::Foreign => false,
+        Step::Alias => false,
+        Step::Other => false,
+        Step::WrongCap => false,
+        Step::UsedUp => false,
     }
 }
 
-pub fn waits(k: Check) -> bool
+pub fn waits(k: Step) -> bool
     ensures { λ r. ⌜ r ≡ isWait k ⌝ }
 {
     match k {
-        Check::Pass => false,
-        Check::Wait => true,
-        Check::Stop(_) => false,
+        Step::Next => false,
+        Step::Stay => false,
+        Step::Turned => false,
+        Step::Waits => true,
+        Step::NoValue => false,
+        Step::NoField => false,
+        Step::NoMethod => false,
+        Step::WrongThing => false,
+        Step::Foreign => false,
+        Step::Alias => false,
+        Step::Other => false,
+        Step::WrongCap => false,
+        Step::UsedUp => false,
+    }
+}
+
+// Document 01's number of a stop; 0 of any other step.
+pub fn stop_number(k: Step) -> u16
+    ensures { λ r. ⌜ r ≡ stopNumber (resultOf k) ⌝ }
+{
+    match k {
+        Step::Next => 0,
+        Step::Stay => 0,
+        Step::Turned => 0,
+        Step::Waits => 0,
+        Step::NoValue => rules::numbers::ABSENT,
+        Step::NoField => rules::numbers::NO_FIELD,
+        Step::NoMethod => rules::numbers::NO_METHOD,
+        Step::WrongThing => rules::numbers::WRONG_THING,
+        Step::Foreign => rules::numbers::FOREIGN,
+        Step::Alias => rules::numbers::ALIAS,
+        Step::Other => rules::numbers::OTHER,
+        Step::WrongCap => rules::numbers::CAST,
+        Step::UsedUp => rules::numbers::USED_UP,
     }
 }
 
@@ -61,25 +104,13 @@ pub fn slot_of(w: u16) -> usize
     w as usize / 2 % 16
 }
 
-fn is_absent(v: Value) -> bool
+pub fn is_absent(v: Value) -> bool
     ensures { λ r. ⌜ r ≡ isAbsent v ⌝ }
 {
     match v {
         Value::Absent => true,
         Value::Obj(_) => false,
         Value::Chan(_) => false,
-    }
-}
-
-// The number of an object or a channel; 0 where there is none.
-pub fn number_of(v: Value) -> u16
-    requires { ⌜ InTable v ⌝ }
-    ensures { λ r. ⌜ (r ≡ numberOf v) × (r < 256) ⌝ }
-{
-    match v {
-        Value::Absent => 0,
-        Value::Obj(n) => n,
-        Value::Chan(c) => c,
     }
 }
 
@@ -128,7 +159,7 @@ pub fn is_foreign(s: &[u16], t: usize, n: u16) -> bool
 }
 
 // Whether a value is an iso object.
-fn is_iso_object(s: &[u16], v: Value) -> bool
+pub fn is_iso_object(s: &[u16], v: Value) -> bool
     requires { ⌜ (8192 ≤ length (now s)) × InTable v ⌝ }
     ensures { λ r. ⌜ Sees (now (s .entry)) (InObjects v) (λ S. isIsoObject (S .objects) v) r ⌝ }
 {
@@ -142,22 +173,22 @@ fn is_iso_object(s: &[u16], v: Value) -> bool
 // ---- Operands
 
 // "operand: absent 10; a read of an iso object 14."
-pub fn operand_check(s: &[u16], h: Here, w: u16) -> Check
+pub fn operand_check(s: &[u16], h: Here, w: u16) -> Step
     requires { ⌜ (8192 ≤ length (now s)) × Placed h ⌝ }
     ensures { λ r. ⌜ Checks (now (s .entry)) h (w / 2 ∷ []) (λ P H. operand (H .state .objects) (H .frame .slots) (operandOf w)) r ⌝ }
 {
     let v = table::slot(s, h, slot_of(w));
     match v {
-        Value::Absent => Check::Stop(ABSENT),
-        Value::Chan(_) => Check::Pass,
+        Value::Absent => Step::NoValue,
+        Value::Chan(_) => Step::Next,
         Value::Obj(n) => {
             if w % 2 == 1 {
-                return Check::Pass;
+                return Step::Next;
             }
             if is_iso(table::cap(s, n)) {
-                return Check::Stop(ALIAS);
+                return Step::Alias;
             }
-            Check::Pass
+            Step::Next
         }
     }
 }
@@ -177,7 +208,7 @@ pub fn seen(s: &[u16], h: Here, i: u16, w: u16) -> Value
 // ---- The forms
 
 // "cast: a channel 13; capability not K 15; else gives the value."
-pub fn cast_check(s: &[u16], h: Here, k: Cap, w: u16) -> Check
+pub fn cast_check(s: &[u16], h: Here, k: Cap, w: u16) -> Step
     requires { ⌜ (8192 ≤ length (now s)) × Placed h ⌝ }
     ensures { λ r. ⌜ Checks (now (s .entry)) h (w / 2 ∷ []) (λ P H. castLine H k (operandOf w)) r ⌝ }
 {
@@ -187,100 +218,57 @@ pub fn cast_check(s: &[u16], h: Here, k: Cap, w: u16) -> Check
     }
     let v = table::slot(s, h, slot_of(w));
     match v {
-        Value::Absent => Check::Stop(ABSENT),
-        Value::Chan(_) => Check::Stop(WRONG_THING),
+        Value::Absent => Step::NoValue,
+        Value::Chan(_) => Step::WrongThing,
         Value::Obj(n) => {
             if rules::cap_rank(table::cap(s, n)) == rules::cap_rank(k) {
-                return Check::Pass;
+                return Step::Next;
             }
-            Check::Stop(CAST)
-        }
-    }
-}
-
-// "field: target slot absent 10; a channel 13; no such field 11; target local to another thread 14; field holds an iso 14."
-pub fn field_check(s: &[u16], h: Here, i: u16, j: u16) -> Check
-    requires { ⌜ (8192 ≤ length (now s)) × Placed h ⌝ }
-    ensures { λ r. ⌜ Checks (now (s .entry)) h (i ∷ []) (λ P H. fieldLine H i j) r ⌝ }
-{
-    let x = table::slot(s, h, i as usize % 16);
-    match x {
-        Value::Absent => Check::Stop(ABSENT),
-        Value::Chan(_) => Check::Stop(WRONG_THING),
-        Value::Obj(n) => {
-            let v = table::field(s, n, j);
-            if is_absent(v) {
-                return Check::Stop(NO_FIELD);
-            }
-            if is_foreign(s, h.thread, n) {
-                return Check::Stop(FOREIGN);
-            }
-            if is_iso_object(s, v) {
-                return Check::Stop(ALIAS);
-            }
-            Check::Pass
+            Step::WrongCap
         }
     }
 }
 
 // "target imm, or local to another thread, or value above the target, or both local with other creators, 14": object m into object n.
-fn swap_permission(s: &[u16], t: usize, n: u16, m: u16) -> Check
+fn swap_permission(s: &[u16], t: usize, n: u16, m: u16) -> Step
     requires { ⌜ (8192 ≤ length (now s)) × (n < 256) × (m < 256) ⌝ }
-    ensures { λ r. ⌜ Sees (now (s .entry)) (λ S. Made n S × Made m S) (λ S. checkOf (permitSwap t (objectAt (S .objects) n) (objectAt (S .objects) m))) r ⌝ }
+    ensures { λ r. ⌜ Sees (now (s .entry)) (λ S. Made n S × Made m S) (λ S. outcomeOf (permitSwap t (objectAt (S .objects) n) (objectAt (S .objects) m))) (resultOf r) ⌝ }
 {
     if is_foreign(s, t, n) {
-        return Check::Stop(FOREIGN);
+        return Step::Foreign;
     }
     let a = table::cap(s, n);
     let b = table::cap(s, m);
     if is_local(a) {
         if is_local(b) {
             if table::creator(s, n) != table::creator(s, m) {
-                return Check::Stop(FOREIGN);
+                return Step::Foreign;
             }
         }
     }
     if is_imm(a) {
-        return Check::Stop(OTHER);
+        return Step::Other;
     }
     if rules::may_hold(a, b) {
-        return Check::Pass;
+        return Step::Next;
     }
-    Check::Stop(OTHER)
+    Step::Other
 }
 
 // The value into field j of object n: "value a channel 13; no such field 11; .. 14".
-fn swap_into(s: &[u16], t: usize, n: u16, j: u16, v: Value) -> Check
+pub fn swap_into(s: &[u16], t: usize, n: u16, j: u16, v: Value) -> Step
     requires { ⌜ (8192 ≤ length (now s)) × (n < 256) × InTable v ⌝ }
-    ensures { λ r. ⌜ Sees (now (s .entry)) (λ S. Fielded n S × InObjects v S) (λ S. checkOf (swapInto t (S .objects) n j v)) r ⌝ }
+    ensures { λ r. ⌜ Sees (now (s .entry)) (λ S. Fielded n S × InObjects v S) (λ S. outcomeOf (swapInto t (S .objects) n j v)) (resultOf r) ⌝ }
 {
     match v {
-        Value::Absent => Check::Stop(ABSENT),
-        Value::Chan(_) => Check::Stop(WRONG_THING),
+        Value::Absent => Step::NoValue,
+        Value::Chan(_) => Step::WrongThing,
         Value::Obj(m) => {
             if is_absent(table::field(s, n, j)) {
-                return Check::Stop(NO_FIELD);
+                return Step::NoField;
             }
             swap_permission(s, t, n, m)
         }
-    }
-}
-
-// "swap: target absent 10; target a channel 13; value a channel 13; no such field 11; .. 14."
-pub fn swap_check(s: &[u16], h: Here, i: u16, j: u16, w: u16) -> Check
-    requires { ⌜ (8192 ≤ length (now s)) × Placed h × (i < 256) ⌝ }
-    ensures { λ r. ⌜ Checks (now (s .entry)) h (i ∷ w / 2 ∷ []) (λ P H. swapLine H i j (operandOf w)) r ⌝ }
-{
-    let k = operand_check(s, h, w);
-    if !passes(k) {
-        return k;
-    }
-    let v = table::slot(s, h, slot_of(w));
-    let x = seen(s, h, i, w);
-    match x {
-        Value::Absent => Check::Stop(ABSENT),
-        Value::Chan(_) => Check::Stop(WRONG_THING),
-        Value::Obj(n) => swap_into(s, h.thread, n, j, v),
     }
 }
 
@@ -295,106 +283,78 @@ pub fn method_item(p: &[u16], s: &[u16], n: u16, j: u16) -> u16
     table::kind_method(p, table::kind(s, n) as usize % 32, j as usize)
 }
 
-// "call: target absent 10; a channel 13; no such method 12; target local to another thread 14; frames used up 16."
-pub fn call_check(p: &[u16], s: &[u16], h: Here, i: u16, j: u16, w: u16) -> Check
-    requires { ⌜ (8192 ≤ length (now p)) × (8192 ≤ length (now s)) × Placed h × (i < 256) ⌝ }
-    ensures { λ r. ⌜ ChecksCall (now (p .entry)) (now (s .entry)) h i j w r ⌝ }
-{
-    let k = operand_check(s, h, w);
-    if !passes(k) {
-        return k;
-    }
-    let x = seen(s, h, i, w);
-    match x {
-        Value::Absent => Check::Stop(ABSENT),
-        Value::Chan(_) => Check::Stop(WRONG_THING),
-        Value::Obj(n) => {
-            if method_item(p, s, n, j) == 0 {
-                return Check::Stop(NO_METHOD);
-            }
-            if is_foreign(s, h.thread, n) {
-                return Check::Stop(FOREIGN);
-            }
-            if 15 <= h.depth {
-                return Check::Stop(USED_UP);
-            }
-            Check::Pass
-        }
-    }
-}
-
 // "spawn: threads used up 16".
-pub fn spawn_check(s: &[u16]) -> Check
+pub fn spawn_check(s: &[u16]) -> Step
     requires { ⌜ 8192 ≤ length (now s) ⌝ }
-    ensures { λ r. ⌜ Sees (now (s .entry)) (λ S. Few S) (λ S. checkOf (check (ltb (length (S .threads)) (mosts .threads)) No.usedUp)) r ⌝ }
+    ensures { λ r. ⌜ Sees (now (s .entry)) (λ S. Few S) (λ S. outcomeOf (check (ltb (length (S .threads)) (mosts .threads)) No.usedUp)) (resultOf r) ⌝ }
 {
     if table::thread_count(s) < 16 {
-        return Check::Pass;
+        return Step::Next;
     }
-    Check::Stop(USED_UP)
+    Step::UsedUp
 }
 
 // "recv: target absent 10; an object 13; empty: waits."
-pub fn recv_check(s: &[u16], h: Here, i: u16) -> Check
+pub fn recv_check(s: &[u16], h: Here, i: u16) -> Step
     requires { ⌜ (8192 ≤ length (now s)) × Placed h ⌝ }
     ensures { λ r. ⌜ Checks (now (s .entry)) h (i ∷ []) (λ P H. recvLine H i) r ⌝ }
 {
     let x = table::slot(s, h, i as usize % 16);
     match x {
-        Value::Absent => Check::Stop(ABSENT),
-        Value::Obj(_) => Check::Stop(WRONG_THING),
+        Value::Absent => Step::NoValue,
+        Value::Obj(_) => Step::WrongThing,
         Value::Chan(c) => {
             if is_absent(table::message(s, c)) {
-                return Check::Wait;
+                return Step::Waits;
             }
-            Check::Pass
+            Step::Next
         }
     }
 }
 
 // "waits while the channel still holds the message with that number": the sender's word is d.
-pub fn sent_check(s: &[u16], h: Here, i: u16, d: u16) -> Check
+pub fn sent_check(s: &[u16], h: Here, i: u16, d: u16) -> Step
     requires { ⌜ (8192 ≤ length (now s)) × Placed h × (1 ≤ d) ⌝ }
     ensures { λ r. ⌜ Checks (now (s .entry)) h (i ∷ []) (λ P H. sentLine H i (d - 1)) r ⌝ }
 {
     let x = table::slot(s, h, i as usize % 16);
     match x {
-        Value::Absent => Check::Stop(ABSENT),
-        Value::Obj(_) => Check::Stop(WRONG_THING),
+        Value::Absent => Step::NoValue,
+        Value::Obj(_) => Step::WrongThing,
         Value::Chan(c) => {
             if is_absent(table::message(s, c)) {
-                return Check::Pass;
+                return Step::Next;
             }
             if table::message_number(s, c) == d - 1 {
-                return Check::Wait;
+                return Step::Waits;
             }
-            Check::Pass
+            Step::Next
         }
     }
 }
 
 // The value into channel c: "value a channel 13; value local 14; channel full: waits".
-fn put_into(s: &[u16], c: u16, v: Value) -> Check
+pub fn put_into(s: &[u16], c: u16, v: Value) -> Step
     requires { ⌜ (8192 ≤ length (now s)) × (c < 16) × InTable v ⌝ }
-    ensures { λ r. ⌜ Sees (now (s .entry)) (λ S. InObjects v S × InTable (channelAt S c .message)) (λ S. checkOf (putInto S c v)) r ⌝ }
+    ensures { λ r. ⌜ Sees (now (s .entry)) (λ S. InObjects v S × InTable (channelAt S c .message)) (λ S. outcomeOf (putInto S c v)) (resultOf r) ⌝ }
 {
     match v {
-        Value::Absent => Check::Stop(ABSENT),
-        Value::Chan(_) => Check::Stop(WRONG_THING),
+        Value::Absent => Step::NoValue,
+        Value::Chan(_) => Step::WrongThing,
         Value::Obj(n) => {
             if is_local(table::cap(s, n)) {
-                return Check::Stop(OTHER);
+                return Step::Other;
             }
             if is_absent(table::message(s, c)) {
-                return Check::Pass;
+                return Step::Next;
             }
-            Check::Wait
+            Step::Waits
         }
     }
 }
 
 // "send: target absent 10; an object 13; value a channel 13; value local 14; channel full: waits."
-pub fn put_check(s: &[u16], h: Here, i: u16, w: u16) -> Check
+pub fn put_check(s: &[u16], h: Here, i: u16, w: u16) -> Step
     requires { ⌜ (8192 ≤ length (now s)) × Placed h × (i < 256) ⌝ }
     ensures { λ r. ⌜ Checks (now (s .entry)) h (i ∷ w / 2 ∷ []) (λ P H. putLine H i (operandOf w)) r ⌝ }
 {
@@ -405,8 +365,8 @@ pub fn put_check(s: &[u16], h: Here, i: u16, w: u16) -> Check
     let v = table::slot(s, h, slot_of(w));
     let x = seen(s, h, i, w);
     match x {
-        Value::Absent => Check::Stop(ABSENT),
-        Value::Obj(_) => Check::Stop(WRONG_THING),
+        Value::Absent => Step::NoValue,
+        Value::Obj(_) => Step::WrongThing,
         Value::Chan(c) => put_into(s, c, v),
     }
 }

@@ -8,6 +8,8 @@ use lib.Dec.{eqb}
 use lib.ListN.{length, getD, set, drop, replicate, length-set, drop-of-length-le}
 use lib.Seq.{drop-cons, getD-set-same, getD-set-other}
 use borrow.Author.Tests.{eqb-true, eqb-false}
+use types.Run.{OneOf, miss}
+use denote.Enum.Declared.{tagOf}
 use Rattle.rules.specs.Mosts as Most
 use Rattle.rules.specs.Mosts.{mosts}
 use Rattle.rules.specs.Script.{Program, blockAt}
@@ -22,14 +24,15 @@ use Rattle.rules.proofs.Keeps.{here-fits, keeps-turn, keeps-run}
 use Rattle.table.specs.declared.state.Here.{Here}
 use Rattle.table.specs.State.{Held, Sees, Any, Placed, OnLine, Stands, frameAt}
 use Rattle.table.proofs.StateFrames.{next-on-line, row-past-counts}
-use Rattle.checks.specs.Checked.{Stand}
+use Rattle.checks.specs.Checked.{resultOf, stopNumber, Stand}
+use Rattle.checks.proofs.lines.Step.{the-type}
 use Rattle.checks.proofs.Standing.{frame-is}
 use Rattle.turn.proofs.Located as Place
-use Rattle.turn.proofs.Located.{no-frames, no-frame-waits, turn-performs}
-use Rattle.turn.specs.declared.lines.Step.{Step}
-use Rattle.turn.specs.declared.lines.Step.the-variants.{Next, Stay, Turned, Waits, Stops}
+use Rattle.turn.proofs.Located.{no-frames, no-frame-waits, turn-performs, went-moves}
+use Rattle.checks.specs.declared.lines.Step.{Step}
+use Rattle.checks.specs.declared.lines.Step.the-variants.{Next, Stay, Turned, Waits, NoValue, NoField, NoMethod, WrongThing, Foreign, Alias, Other, WrongCap, UsedUp}
 use Rattle.run.specs.declared.playing.Played.the-variants.{Through, Stopped}
-use Rattle.turn.specs.Performed.{StandsAt, Went, to-next, to-same, Performed, moved, waited, stopped, IsMove, Loaded, PerformsHere}
+use Rattle.turn.specs.Performed.{StandsAt, Went, to-next, to-same, Performed, moved, waited, stopped, Loaded, PerformsHere}
 use Rattle.run.specs.Played.{Plays}
 use Rattle.run.proofs.OtherThreads.{turn-keeps}
 
@@ -168,16 +171,35 @@ record MovedTo (t : ℕ) (f : Frame) (fs : List Frame) (s₁ rest : List ℕ) (r
   went : Went t f fs state r
 
 module _ {t : ℕ} {f : Frame} {fs : List Frame} {s rest : List ℕ} where
-  has-moved : {r : Step} {s₁ : List ℕ} {x : Res State} → Performed t f fs s rest r s₁ x → IsMove r → MovedTo t f fs s₁ rest r x
+  has-moved : {r : Step} {s₁ : List ℕ} {x : Res State} → Performed t f fs s rest r s₁ x → resultOf r ≡ ok tt → MovedTo t f fs s₁ rest r x
   has-moved (moved {S = S} held went) move = record { state = S; is = refl; held = held; went = went }
-  has-moved waited move = absurd move
-  has-moved stopped move = absurd move
+  has-moved waited move = impossible cc
+  has-moved (stopped is) move = impossible cc
 
   has-waited : {s₁ : List ℕ} {x : Res State} → Performed t f fs s rest Waits s₁ x → (x ≡ wait) × (s₁ ≡ s)
   has-waited waited = (refl, refl)
+  has-waited (stopped is) = impossible cc
 
-  has-stopped : {k : ℕ} {s₁ : List ℕ} {x : Res State} → Performed t f fs s rest (Stops k) s₁ x → (x ≡ stop k) × (s₁ ≡ s)
-  has-stopped stopped = (refl, refl)
+  has-stopped : {r : Step} {k : ℕ} {s₁ : List ℕ} {x : Res State} → Performed t f fs s rest r s₁ x → resultOf r ≡ stop k → (x ≡ stop k) × (s₁ ≡ s)
+  has-stopped (moved held went) stops = let move = went-moves went in impossible cc
+  has-stopped waited stops = impossible cc
+  has-stopped {k = k} (stopped {k = n} is) stops = let same : n ≡ k = cc in (ap stop same, refl)
+
+-- the steps past the fourth stop
+pub other-steps-stop : (r : Step) → OneOf (4 ∷ 5 ∷ 6 ∷ 7 ∷ 8 ∷ 9 ∷ 10 ∷ 11 ∷ 12 ∷ []) (tagOf the-type r) → resultOf r ≡ stop (stopNumber (resultOf r))
+other-steps-stop Next one = absurd (miss (4 ∷ 5 ∷ 6 ∷ 7 ∷ 8 ∷ 9 ∷ 10 ∷ 11 ∷ 12 ∷ []) 0 tt one)
+other-steps-stop Stay one = absurd (miss (4 ∷ 5 ∷ 6 ∷ 7 ∷ 8 ∷ 9 ∷ 10 ∷ 11 ∷ 12 ∷ []) 1 tt one)
+other-steps-stop Turned one = absurd (miss (4 ∷ 5 ∷ 6 ∷ 7 ∷ 8 ∷ 9 ∷ 10 ∷ 11 ∷ 12 ∷ []) 2 tt one)
+other-steps-stop Waits one = absurd (miss (4 ∷ 5 ∷ 6 ∷ 7 ∷ 8 ∷ 9 ∷ 10 ∷ 11 ∷ 12 ∷ []) 3 tt one)
+other-steps-stop NoValue one = refl
+other-steps-stop NoField one = refl
+other-steps-stop NoMethod one = refl
+other-steps-stop WrongThing one = refl
+other-steps-stop Foreign one = refl
+other-steps-stop Alias one = refl
+other-steps-stop Other one = refl
+other-steps-stop WrongCap one = refl
+other-steps-stop UsedUp one = refl
 
 module _ {t : ℕ} {f : Frame} {fs : List Frame} {S : State} where
   went-next : Went t f fs S Next → StandsAt t (f .block) (f .line + 1) (length fs) S
@@ -385,7 +407,7 @@ module _ {p s₀ turns s rows frames depths : List ℕ} {moves i t : ℕ} (playi
     turn-performed does loaded valid so = performed-turn valid (so .reached) (so .knows t some) loaded few-moves does
 
     -- a turn that moves, and the place that it leaves to keep
-    moves-turn : {r : Step} {s₁ rows₁ : List ℕ} → PerformsHere p s (keptAt rows frames depths t) r s₁ → IsMove r → length s₁ ≡ length s → Others t rows rows₁
+    moves-turn : {r : Step} {s₁ rows₁ : List ℕ} → PerformsHere p s (keptAt rows frames depths t) r s₁ → resultOf r ≡ ok tt → length s₁ ≡ length s → Others t rows rows₁
         → ((getD rows₁ t 0 ≡ 0 → ⊥) → Placed (keptAt rows₁ frames depths t))
         → ((P : Program) (S S₁ : State) (k : Knows p P S (keptAt rows frames depths t)) → Loaded p P → Fits mosts P (moves + 1) S₁ → Went t (k .frame) (k .callers) S₁ r
         → (getD rows₁ t 0 ≡ 0 → ⊥) → Knows p P S₁ (keptAt rows₁ frames depths t))
@@ -417,20 +439,20 @@ module _ {p s₀ turns s rows frames depths : List ℕ} {moves i t : ℕ} (playi
     turn-goes-next {h = h} e does long placed row =
         let here = playing .placed t some in
         let stored : getD (set rows t (h .row)) t 0 ≡ h .row = getD-set-same rows t (h .row) 0 (omega (arith, here .thread, playing .arrays .rows-long)) in
-        moves-turn (same-step e does) tt long (row-set t (h .row))
+        moves-turn (same-step e does) refl long (row-set t (h .row))
         (λ kept. record { thread = here .thread; depth = here .depth; frame = here .frame; row = rw stored (placed .row); aligned = rw stored (placed .aligned) })
         (λ P S S₁ k loaded fits went kept. knows-next k loaded fits (went-next went) (stored ∙ row))
 
     pub turn-stays : {r : Step} {s₁ : List ℕ} → r ≡ Stay → PerformsHere p s (keptAt rows frames depths t) r s₁ → length s₁ ≡ length s
         → Playing p s₀ turns s₁ rows frames depths (moves + 1) (i + 1)
     turn-stays e does long =
-        moves-turn (same-step e does) tt long (row-same t) (playing .placed t) (λ P S S₁ k loaded fits went kept. knows-same k (went-same went))
+        moves-turn (same-step e does) refl long (row-same t) (playing .placed t) (λ P S S₁ k loaded fits went kept. knows-same k (went-same went))
 
     pub turn-leaves-frame : {r : Step} {s₁ : List ℕ} → r ≡ Turned → PerformsHere p s (keptAt rows frames depths t) r s₁ → length s₁ ≡ length s
         → Playing p s₀ turns s₁ (set rows t 0) frames depths (moves + 1) (i + 1)
     turn-leaves-frame e does long =
         let none = getD-set-same rows t 0 0 (omega (arith, playing .placed t some .thread, playing .arrays .rows-long)) in
-        moves-turn (same-step e does) tt long (row-set t 0) (λ kept. absurd (kept none)) (λ P S S₁ k loaded fits went kept. absurd (kept none))
+        moves-turn (same-step e does) refl long (row-set t 0) (λ kept. absurd (kept none)) (λ P S S₁ k loaded fits went kept. absurd (kept none))
 
     pub turn-waits : {r : Step} {s₁ : List ℕ} → r ≡ Waits → PerformsHere p s (keptAt rows frames depths t) r s₁ → length s₁ ≡ length s
         → Playing p s₀ turns s₁ rows frames depths moves (i + 1)
@@ -447,14 +469,14 @@ module _ {p s₀ turns s rows frames depths : List ℕ} {moves i t : ℕ} (playi
         }
 
     -- a stop: block and line are those of the innermost frame
-    module _ {s₁ : List ℕ} {k b l : ℕ} (does : PerformsHere p s (keptAt rows frames depths t) (Stops k) s₁)
+    module _ {r : Step} {s₁ : List ℕ} {k b l : ℕ} (does : PerformsHere p s (keptAt rows frames depths t) r s₁) (stops : resultOf r ≡ stop k)
         (block : Sees s₁ Any (λ S. frameAt S t (getD depths t 0) .block) b) (line : Sees s₁ Any (λ S. frameAt S t (getD depths t 0) .line) l) where
       stopped-at : {P : Program} {rest : List ℕ} → Loaded p P → Valid mosts P → Sofar p turns P s rest rows frames depths moves i → StoppedAt turns P rest s₁ k t b l moves
       unfolding blockOf lineNow
       stopped-at {P} {rest} loaded valid so =
           let S = so .state in
           let known = so .knows t some in
-          let did = has-stopped (turn-performed does loaded valid so) in
+          let did = has-stopped (turn-performed does loaded valid so) stops in
           let held : Held s₁ S rest = rw (did .1) (so .reached .held) in
           let frame = frame-is (stand valid (so .reached) known) in
           record {
@@ -473,9 +495,9 @@ module _ {p s₀ turns s rows frames depths : List ℕ} {moves i t : ℕ} (playi
             leaves = λ P rest loaded valid held. let at = stopped-at loaded valid (playing .sofar P rest loaded valid held) in rw (at .run-is) (at .held);
           }
 
-    pub turn-stops : {r : Step} {s₁ : List ℕ} {k b l : ℕ} → r ≡ Stops k → PerformsHere p s (keptAt rows frames depths t) r s₁
+    pub turn-stops : {r : Step} {s₁ : List ℕ} {k b l : ℕ} → resultOf r ≡ stop k → PerformsHere p s (keptAt rows frames depths t) r s₁
         → Sees s₁ Any (λ S. frameAt S t (getD depths t 0) .block) b → Sees s₁ Any (λ S. frameAt S t (getD depths t 0) .line) l → Plays p s₀ turns (Stopped k t b l moves) s₁
-    turn-stops e does block line = stops-run (same-step e does) block line
+    turn-stops stops does block line = stops-run does stops block line
 
 -- the thread has no frame
 pub turn-idles : {p s₀ turns s rows frames depths : List ℕ} {moves i t : ℕ} → Looked p s₀ turns s rows frames depths moves i t → i < length turns → t ≡ getD turns i 0

@@ -1,6 +1,6 @@
 // A list of turns, played on the tables.
+use checks::Step;
 use table::Here;
-use turn::Step;
 ghost use Prim.Native.Nat.{_≤_};
 ghost use lib.ListN.{length};
 ghost use Rattle.run.specs.Played.{Plays};
@@ -54,7 +54,8 @@ pub fn play(p: &[u16], s: &mut [u16], turns: &[u8]) -> Played
                         moves += 1;
                     }
                     Step::Waits => {}
-                    Step::Stops(number) => {
+                    _ => {
+                        let number = checks::stop_number(step);
                         let b = table::frame_block(s, here.thread, here.depth);
                         let l = table::frame_line(s, here.thread, here.depth);
                         return Played::Stopped(number, t as u16, b, l, moves);

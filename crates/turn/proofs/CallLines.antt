@@ -21,12 +21,12 @@ use Rattle.rules.proofs.TableWords.{length-outermost, slot-of-word}
 use Rattle.table.specs.declared.state.Here.{Here}
 use Rattle.table.specs.State.{Held, Becomes, frameAt, onFrame, editFrame, HasFrame, HasRoom, HasSlot, Innermost, given, callee, called, left}
 use Rattle.table.proofs.StateEdits.{thread-put, put-put}
-use Rattle.checks.specs.declared.lines.Check.{Check}
-use Rattle.checks.specs.Checked.{numberOf, hereAt, Stand, MethodItem, ChecksCall}
-use Rattle.checks.proofs.CheckLaws.{then-gives, left-was-there}
-use Rattle.checks.proofs.Standing.{SlotSeen, fits-here, slots-few, OperandChecked, slot-found, slot-read, slot-object, kind-is-there}
-use Rattle.turn.specs.declared.lines.Step as C
-use Rattle.turn.specs.declared.lines.Step.the-variants.{Turned}
+use Rattle.checks.specs.Checked.{hereAt, Stand, MethodItem}
+use Rattle.checks.proofs.CheckLaws.{numberOf, then-gives, left-was-there}
+use Rattle.checks.proofs.CallChecks.{ChecksCall}
+use Rattle.checks.proofs.Standing.{TargetSeen, fits-here, slots-few, OperandChecked, slot-found, target-read, slot-object, kind-is-there}
+use Rattle.checks.specs.declared.lines.Step as C
+use Rattle.checks.specs.declared.lines.Step.the-variants.{Turned}
 use Rattle.turn.specs.Performed.{emptied, Went, to-other, Always, Loaded}
 use Rattle.turn.proofs.Steps.{Answers, Writes, word-names, let-names, give-names}
 use Rattle.turn.proofs.Frames.{Inside, inside, inside-put, innermost, left-inside}
@@ -59,7 +59,7 @@ called-by {S = S} in-frame g = inside-put S ready (in-frame .thread) (ap suc (in
 
 -- ---- give: the operand's word w
 
-pub give-answers : {s : List ℕ} {h : Here} {k : Check} (w : ℕ) → OperandChecked s h w k → Answers Always s h (give (operandOf w)) k
+pub give-answers : {s : List ℕ} {h : Here} {k : C.Step} (w : ℕ) → OperandChecked s h w k → Answers Always s h (give (operandOf w)) k
 unfolding perform giveLine
 give-answers w first = record { answers = λ P n S f fs rest q st at-line. first .checks P n S f fs rest st (word-names st w (give-names st at-line), tt) ∙ sym (then-gives _ _) }
 
@@ -128,7 +128,7 @@ module _ {s s₁ s₂ : List ℕ} {h : Here} {i : ℕ} (w : ℕ) (inner : h .dep
 
 -- ---- call: the operand's word w, the target in slot i, method j
 
-pub call-answers : {p s : List ℕ} {h : Here} {k : Check} (i j w : ℕ) → ChecksCall p s h i j w k → Answers (λ P S. Loaded p P) s h (bind (call i j (operandOf w))) k
+pub call-answers : {p s : List ℕ} {h : Here} {k : C.Step} (i j w : ℕ) → ChecksCall p s h i j w k → Answers (λ P S. Loaded p P) s h (bind (call i j (operandOf w))) k
 unfolding perform letLine
 call-answers i j w all =
     record {
@@ -153,16 +153,19 @@ called-then-emptied {t} {k} {f} {fs} {S} in-frame g w =
 item-there : (ms : List ℕ) (j : ℕ) → j < length ms → getD (map suc ms) j 0 ≡ suc (getD ms j 0)
 item-there ms j there = get-there (map suc ms) j 0 1 (rw (length-map ms suc) there) ∙ List·getD-map suc ms j 0
 
--- the target a, its number o, the method's item m
-module _ {p s : List ℕ} {h : Here} {o m : ℕ} {a : Value} (i j : ℕ) (target : SlotSeen s h (i % 16) a) (number : o ≡ numberOf a) (method : MethodItem p s o j m) where
-  module _ {P : Program} {n : ℕ} {S : State} {f : Frame} {fs : List Frame} {rest : List ℕ} {w : Operand} {b : ℕ} {v : Value} {vs : List Value} (loaded : Loaded p P)
-      (st : Stand s h P n S f fs rest) (named : i < length (f .slots)) (passed : MethodCalled P (hereAt S (h .thread) f fs) i j w b v vs) where
+-- the target is object o, the method's item m
+module _ {p s : List ℕ} {h : Here} {o m : ℕ} {a : Value} (i j w : ℕ) (target : TargetSeen s h i w a) (is : a ≡ Obj o) (method : MethodItem p s o j m) where
+  module _ {P : Program} {n : ℕ} {S : State} {f : Frame} {fs : List Frame} {rest : List ℕ} {b : ℕ} {v : Value} {vs : List Value} (loaded : Loaded p P)
+      (st : Stand s h P n S f fs rest) (named : i < length (f .slots)) (passed : MethodCalled P (hereAt S (h .thread) f fs) i j (operandOf w) b v vs) where
+    target-left : slotAt (leftBy (f .slots) (operandOf w)) i ≡ Obj b
+    target-left = ap (λ (us : List Value). slotAt us i) (sym (passed .gave .slots)) ∙ passed .target
+
     target-was-there : slotAt (f .slots) i ≡ Obj b
     unfolding isAbsent
-    target-was-there = left-was-there (f .slots) w i refl (ap (λ (us : List Value). slotAt us i) (sym (passed .gave .slots)) ∙ passed .target)
+    target-was-there = left-was-there (f .slots) (operandOf w) i refl target-left
 
     number-is : o ≡ b
-    number-is = number ∙ ap numberOf (sym (slot-read st i _ refl target named) ∙ target-was-there)
+    number-is = ap numberOf (sym (target-read st i w target named ∙ is) ∙ target-left)
 
     item-is : m ≡ suc (getD (kindAt P (objectAt (S .objects) b .kind) .methods) j 0)
     unfolding object
@@ -172,17 +175,8 @@ module _ {p s : List ℕ} {h : Here} {o m : ℕ} {a : Value} (i j : ℕ) (target
         is .is P S (loaded .counts) (loaded .rest) rest (loaded .filled) (st .held) (st .valid) made (kind-is-there st b made)
         ∙ item-there (kindAt P (objectAt (S .objects) b .kind) .methods) j (passed .has-method)
 
-  -- a call of no method does not move
-  module _ {s₁ : List ℕ} {w : Operand} {x : C.Step} (none : m ≡ 0) where
-    no-method : {P : Program} {n : ℕ} {S : State} {f : Frame} {fs : List Frame} {rest : List ℕ} → Loaded p P → Stand s h P n S f fs rest → i < length (f .slots) → (S₁ : State)
-        → Step mosts P (hereAt S (h .thread) f fs) (bind (call i j w)) S₁ → Held s₁ S₁ rest × Went (h .thread) f fs S₁ x
-    no-method loaded st named S₁ (by-call _ _ u b v vs passed) = impossible (omega (arith, item-is loaded st named passed, none))
-
-    pub call-needs-method : Writes (λ P S. Loaded p P) s h (bind (call i j w)) x s₁
-    call-needs-method = record { writes = λ P n S f fs rest q st few at-line S₁ step. no-method q st (let-names st at-line .0) S₁ step }
-
   -- the frame is pushed with the target and the value of slot l, then the operand's slot is left
-  module _ {s₁ s₂ : List ℕ} {l : ℕ} (w : ℕ) (value-place : l ≡ w / 2 % 16)
+  module _ {s₁ s₂ : List ℕ} {l : ℕ} (value-place : l ≡ w / 2 % 16)
       (pushes : Becomes s (Innermost (h .thread) (h .depth))
       (λ S. called (h .thread) (callee (m - 1) (slotAt (frameAt S (h .thread) (h .depth) .slots) (i % 16)) (slotAt (frameAt S (h .thread) (h .depth) .slots) l)) S) s₁)
       (leaves : Becomes s₁ (λ S. (w / 2 < 16) × HasSlot (h .thread) (h .depth) (w / 2) S) (emptied (h .thread) (h .depth) (operandOf w)) s₂) where
@@ -214,12 +208,3 @@ module _ {p s : List ℕ} {h : Here} {o m : ℕ} {a : Value} (i j : ℕ) (target
               let names = let-names st at-line in
               call-moved q st (names .0) (word-names st w (names .2)) S₁ step;
         }
-
--- nor does one with no room for its frame
-module _ {s s₁ : List ℕ} {h : Here} {i j : ℕ} {w : Operand} {x : C.Step} (deep : 15 ≤ h .depth) where
-  too-deep : {P : Program} {n : ℕ} {S : State} {f : Frame} {fs : List Frame} {rest : List ℕ} → Stand s h P n S f fs rest → (S₁ : State)
-      → Step mosts P (hereAt S (h .thread) f fs) (bind (call i j w)) S₁ → Held s₁ S₁ rest × Went (h .thread) f fs S₁ x
-  too-deep st S₁ (by-call _ _ u b v vs passed) = impossible (omega (arith, passed .room, st .depth, deep))
-
-  pub call-needs-room : {p : List ℕ} → Writes (λ P S. Loaded p P) s h (bind (call i j w)) x s₁
-  call-needs-room = record { writes = λ P n S f fs rest q st few at-line S₁ step. too-deep st S₁ step }

@@ -17,12 +17,12 @@ use Rattle.rules.proofs.ListLaws.{length-snoc}
 use Rattle.rules.proofs.Moves.{Step, by-spawn, by-recv}
 use Rattle.table.specs.declared.state.Here.{Here}
 use Rattle.table.specs.State as T
-use Rattle.table.specs.State.{InTable, Held, Sees, Becomes, Any, HasRoom, given, channelled}
-use Rattle.checks.specs.declared.lines.Check.{Check}
-use Rattle.checks.specs.Checked.{checkOf, numberOf, Few, hereAt, Stand, Checks}
-use Rattle.checks.proofs.CheckLaws.{then-ok}
-use Rattle.checks.proofs.Standing.{SlotSeen, slot-in-table, slot-channel, slot-read}
-use Rattle.turn.specs.declared.lines.Step.the-variants.{Next}
+use Rattle.table.specs.State.{Held, Sees, Becomes, Any, HasRoom, given, channelled}
+use Rattle.checks.specs.declared.lines.Step as C
+use Rattle.checks.specs.Checked.{resultOf, outcomeOf, Few, hereAt, Stand, Checks}
+use Rattle.checks.proofs.CheckLaws.{numberOf, then-ok}
+use Rattle.checks.proofs.Standing.{SlotSeen, slot-channel, slot-read}
+use Rattle.checks.specs.declared.lines.Step.the-variants.{Next}
 use Rattle.turn.specs.Performed.{Went, to-next, Always}
 use Rattle.turn.proofs.Steps.{Answers, Writes, let-names, let-room, line-few}
 use Rattle.turn.proofs.Frames.{Inside, inside, has-room, stands-put, given-inside}
@@ -43,7 +43,7 @@ started-inside b {t} S here =
     }
 
 module _ {s : List ℕ} {h : Here} (b : ℕ) where
-  pub spawn-answers : {k : Check} → Sees s (λ S. Few S) (λ S. checkOf (check (ltb (length (S .threads)) (mosts .threads)) No.usedUp)) k → Answers Always s h (bind (spawn b)) k
+  pub spawn-answers : {k : C.Step} → Sees s (λ S. Few S) (λ S. outcomeOf (check (ltb (length (S .threads)) (mosts .threads)) No.usedUp)) (resultOf k) → Answers Always s h (bind (spawn b)) k
   unfolding perform letLine spawnLine
   spawn-answers room = record { answers = λ P n S f fs rest q st at-line. room .sees S rest (st .held) (st .fits .few-threads) ∙ then-ok _ _ }
 
@@ -68,32 +68,22 @@ module _ {s : List ℕ} {h : Here} (b : ℕ) where
     pub spawn-writes : Writes Always s h (bind (spawn b)) Next s₂
     spawn-writes = record { writes = λ P n S f fs rest q st few at-line S₁ step. spawn-moved st at-line step }
 
--- ---- The channel in slot i: what is read there is the value v, whose number is m
-
-module _ {s : List ℕ} {h : Here} {P : Program} {n : ℕ} {S : State} {f : Frame} {fs : List Frame} {rest : List ℕ} (st : Stand s h P n S f fs rest) where
-  -- there are at most 16, so that its number read back is the rule's
-  pub number-read : {v : Value} {m : ℕ} (i c : ℕ) → SlotSeen s h (i % 16) v → m ≡ numberOf v → i < length (f .slots) → slotAt (f .slots) i ≡ Chan c → m % 16 ≡ c
-  number-read i c target number there is =
-      let small : c < 16 = subst InTable is (slot-in-table st i) in
-      let value-is = sym (slot-read st i (i % 16) refl target there) ∙ is in
-      ap (_% 16) (number ∙ ap numberOf value-is) ∙ mod-eq-of-lt small
-
 -- ---- recv
 
 module _ {s : List ℕ} {h : Here} (i : ℕ) where
-  pub recv-answers : {k : Check} → Checks s h (i ∷ []) (λ P H. recvLine H i) k → Answers Always s h (bind (recv i)) k
+  pub recv-answers : {k : C.Step} → Checks s h (i ∷ []) (λ P H. recvLine H i) k → Answers Always s h (bind (recv i)) k
   unfolding perform letLine
   recv-answers all = record { answers = λ P n S f fs rest q st at-line. all .checks P n S f fs rest st (let-names st at-line, tt) }
 
   -- the message is given, then the channel is emptied
-  module _ {s₁ s₂ : List ℕ} {v : Value} {m : ℕ} (target : SlotSeen s h (i % 16) v) (number : m ≡ numberOf v)
-      (gives-message : Becomes s (HasRoom (h .thread) (h .depth)) (λ S. given (h .thread) (h .depth) (channelAt S (m % 16) .message) S) s₁)
-      (empties : Becomes s₁ (λ S. m % 16 < length (S .channels)) (λ S. channelled (m % 16) Absent (channelAt S (m % 16) .number) S) s₂) where
+  module _ {s₁ s₂ : List ℕ} {v : Value} {m : ℕ} (target : SlotSeen s h (i % 16) v) (is : v ≡ Chan m)
+      (gives-message : Becomes s (HasRoom (h .thread) (h .depth)) (λ S. given (h .thread) (h .depth) (channelAt S m .message) S) s₁)
+      (empties : Becomes s₁ (λ S. m < length (S .channels)) (λ S. channelled m Absent (channelAt S m .number) S) s₂) where
     recv-moved : {P : Program} {n : ℕ} {S : State} {f : Frame} {fs : List Frame} {rest : List ℕ} {S₁ : State} → Stand s h P n S f fs rest
         → lineAt P (f .block) (f .line) ≡ bind (recv i) → Step mosts P (hereAt S (h .thread) f fs) (bind (recv i)) S₁ → Held s₂ S₁ rest × Went (h .thread) f fs S₁ Next
     unfolding gives filled channelled putThread putChannel channelAt
     recv-moved {S = S} {f = f} {fs = fs} {rest = rest} st at-line (by-recv _ c received) =
-        let same = number-read st i c target number (let-names st at-line) (received .target) in
+        let same : m ≡ c = ap numberOf (sym (slot-read st i (i % 16) refl target (let-names st at-line) ∙ is) ∙ received .target) in
         let here = inside st in
         let u = channelAt S c .message in
         let first : Held s₁ (given (h .thread) (h .depth) u S) rest =

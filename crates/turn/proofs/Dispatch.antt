@@ -15,7 +15,7 @@ use Rattle.table.specs.declared.state.Here.{Here}
 use Rattle.table.specs.State.{OnLine}
 use Rattle.checks.specs.Checked.{Stand}
 use Rattle.checks.proofs.Standing.{slot-place}
-use Rattle.turn.specs.declared.lines.Step.{Step}
+use Rattle.checks.specs.declared.lines.Step.{Step}
 use Rattle.turn.specs.Performed.{Always, Loaded, Performs, PerformsNew, PerformsHere}
 use Rattle.turn.proofs.Steps.{let-names}
 

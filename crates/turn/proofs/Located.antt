@@ -9,16 +9,16 @@ use Rattle.rules.specs.Script.{Program, lineAt}
 use Rattle.rules.specs.Valid.{Valid}
 use Rattle.rules.specs.State.{Frame, Sender, Thread, noThread, State, threadAt}
 use Rattle.rules.specs.Turn as R
-use Rattle.rules.specs.Turn.{Res, wait, turnOf, turn}
+use Rattle.rules.specs.Turn.{Res, ok, wait, turnOf, turn}
 use Rattle.rules.specs.Fits.{Fits}
 use Rattle.rules.proofs.Keeps.{here-fits}
 use Rattle.table.specs.declared.state.Here.{Here}
 use Rattle.table.specs.State.{Held, Sees, Any, OnLine, Stands}
-use Rattle.checks.specs.Checked.{hereAt, Stand}
+use Rattle.checks.specs.Checked.{resultOf, hereAt, Stand}
 use Rattle.checks.proofs.Standing.{frame-is}
-use Rattle.turn.specs.declared.lines.Step.{Step}
-use Rattle.turn.specs.declared.lines.Step.the-variants.{Waits}
-use Rattle.turn.specs.Performed.{Loaded, Performed, PerformsHere, Went, to-next, to-same, to-other, IsMove, Taken, moved, waited, stopped, TakesTurn}
+use Rattle.checks.specs.declared.lines.Step.{Step}
+use Rattle.checks.specs.declared.lines.Step.the-variants.{Waits}
+use Rattle.turn.specs.Performed.{Loaded, Performed, PerformsHere, Went, to-next, to-same, to-other, Taken, moved, waited, stopped, TakesTurn}
 
 -- ---- No frame
 
@@ -93,15 +93,15 @@ locates {p} {s} {t} {d} {h} seen some same stands =
 
 -- ---- The turn
 
-went-moves : {t : ℕ} {f : Frame} {fs : List Frame} {S : State} {r : Step} → Went t f fs S r → IsMove r
-went-moves (to-next stands) = tt
-went-moves (to-same stands) = tt
-went-moves to-other = tt
+pub went-moves : {t : ℕ} {f : Frame} {fs : List Frame} {S : State} {r : Step} → Went t f fs S r → resultOf r ≡ ok tt
+went-moves (to-next stands) = refl
+went-moves (to-same stands) = refl
+went-moves to-other = refl
 
 taken : {t : ℕ} {f : Frame} {fs : List Frame} {s rest s₁ : List ℕ} {r : Step} {x : Res State} → Performed t f fs s rest r s₁ x → Taken s rest r s₁ x
 taken (moved held went) = moved (went-moves went) held
 taken waited = waited
-taken stopped = stopped
+taken (stopped is) = stopped is
 
 pub idle-takes : {p s : List ℕ} {t : ℕ} → Idles s t → TakesTurn p s t Waits s
 idle-takes idle = record { takes = λ P n S rest loaded held valid fits few. rw (idle .idles P n S rest held fits) waited }

@@ -3,7 +3,7 @@ use Prim.Native.Nat.{ℕ, zero, suc, _-_, _/_, _%_, _≤_, _<_}
 use native.Mathlib.Nat.{mod-eq-of-lt}
 use native.Mathlib.Omega.{arith}
 use mathlib.Core.Path.{_≡_, refl, ap, _∙_, subst}
-use mathlib.Core.Bool.{false}
+use mathlib.Core.Bool.{true, false}
 use mathlib.Core.List.{List, [], _∷_, _++_, map}
 use lib.ListN.{length, take, replicate}
 use Rattle.rules.specs.declared.Cap.{Cap}
@@ -23,14 +23,13 @@ use Rattle.rules.proofs.Keeps.{kind-ok}
 use Rattle.rules.proofs.TableWords.{operand-of-word, half-of-word}
 use Rattle.table.specs.declared.state.Here.{Here}
 use Rattle.table.specs.State.{Held, Sees, Any, Becomes, HasSlot, HasRoom, Makes, given, made}
-use Rattle.checks.specs.declared.lines.Check.{Check}
-use Rattle.checks.specs.declared.lines.Check.the-variants.{Pass, Wait, Stop}
-use Rattle.checks.specs.Checked.{hereAt, Stand, Named}
+use Rattle.checks.specs.declared.lines.Step as C
+use Rattle.checks.specs.Checked.{isPass, hereAt, Stand, Named}
 use Rattle.checks.specs.Items.{itemSlots, ChecksNew}
 use Rattle.checks.proofs.NewChecks.{slotsOf, were-there}
-use Rattle.turn.specs.declared.lines.Step.the-variants.{Next, Waits, Stops}
+use Rattle.checks.specs.declared.lines.Step.the-variants.{Next}
 use Rattle.turn.specs.Performed.{emptied, itemEmptied, Went, to-next, Always, PerformsNew}
-use Rattle.turn.proofs.Steps.{Answers, Writes, line-stops, line-waits, line-moves, operand-names, let-names, let-room, line-few}
+use Rattle.turn.proofs.Steps.{Answers, Writes, line-halts, line-moves, operand-names, let-names, let-room, line-few}
 use Rattle.turn.proofs.Frames.{Inside, inside, inside-objects, frame-inside, has-room, has-slot, stands-put, inside-put, given-inside, filled-then-emptied}
 
 -- ---- What an item leaves
@@ -115,7 +114,7 @@ module _ {s : List ℕ} {h : Here} {P : Program} {n : ℕ} {S : State} {f : Fram
 
 -- ---- The line whose operands are these items, whose check is k
 
-module _ {s : List ℕ} {h : Here} {c : Cap} {items : List ℕ} {k : Check} (kind : ℕ) (checked : ChecksNew s h c items k) where
+module _ {s : List ℕ} {h : Here} {c : Cap} {items : List ℕ} {k : C.Step} (kind : ℕ) (checked : ChecksNew s h c items k) where
   new-answers : (ws : List Operand) → items ≡ pad 4 0 (map operandItem ws) → Answers Always s h (bind (new c kind ws)) k
   unfolding perform letLine
   new-answers ws is =
@@ -125,11 +124,8 @@ module _ {s : List ℕ} {h : Here} {c : Cap} {items : List ℕ} {k : Check} (kin
             checked .checks ws is (operands-few st ws at-line) kind .checks P n S f fs rest st named;
       }
 
-  pub new-stops : {n : ℕ} → k ≡ Stop n → PerformsNew s h c kind items (Stops n) s
-  new-stops stops = record { performs = λ ws is. line-stops (new-answers ws is) stops }
-
-  pub new-waits : k ≡ Wait → PerformsNew s h c kind items Waits s
-  new-waits waits = record { performs = λ ws is. line-waits (new-answers ws is) waits }
+  pub new-halts : isPass k ≡ false → PerformsNew s h c kind items k s
+  new-halts fails = record { performs = λ ws is. line-halts (new-answers ws is) fails }
 
 -- object n is made, it is given, then the slots of the items are left
 module _ {s s₁ s₂ s₃ : List ℕ} {h : Here} {c : Cap} {kind count n cap : ℕ} {items : List ℕ}
@@ -180,5 +176,5 @@ module _ {s s₁ s₂ s₃ : List ℕ} {h : Here} {c : Cap} {kind count n cap : 
   new-writes : (ws : List Operand) → items ≡ pad 4 0 (map operandItem ws) → Writes Always s h (bind (new c kind ws)) Next s₃
   new-writes ws is = record { writes = λ P n S f fs rest q st few at-line S₁ step. new-moved st ws is at-line step }
 
-  pub new-moves : {k : Check} → ChecksNew s h c items k → k ≡ Pass → PerformsNew s h c kind items Next s₃
+  pub new-moves : {k : C.Step} → ChecksNew s h c items k → isPass k ≡ true → PerformsNew s h c kind items Next s₃
   new-moves checked passes = record { performs = λ ws is. line-moves (new-answers kind checked ws is) passes (new-writes ws is) }

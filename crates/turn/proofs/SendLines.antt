@@ -17,16 +17,14 @@ use Rattle.rules.proofs.TableWords.{slot-of-word, sender-tells}
 use Rattle.table.specs.declared.state.Here.{Here}
 use Rattle.table.specs.State.{Held, Sees, Becomes, Any, HasSlot, HasRoom, frameAt, given, channelled, sending, Puts}
 use Rattle.table.proofs.StateEdits.{thread-put, put-put}
-use Rattle.checks.specs.declared.lines.Check.{Check}
-use Rattle.checks.specs.Checked.{checkOf, numberOf, hereAt, Stand, Checks}
-use Rattle.checks.proofs.CheckLaws.{left-was-there}
-use Rattle.checks.proofs.Standing.{SlotSeen, slot-channel, messages-few, slot-found}
-use Rattle.turn.specs.declared.lines.Step as C
-use Rattle.turn.specs.declared.lines.Step.the-variants.{Next, Stay}
+use Rattle.checks.specs.Checked.{outcomeOf, hereAt, Stand, Checks}
+use Rattle.checks.proofs.CheckLaws.{numberOf, left-was-there}
+use Rattle.checks.proofs.Standing.{TargetSeen, slot-channel, messages-few, slot-found, target-read}
+use Rattle.checks.specs.declared.lines.Step as C
+use Rattle.checks.specs.declared.lines.Step.the-variants.{Next, Stay}
 use Rattle.turn.specs.Performed.{emptied, Went, to-next, to-same, Performs, Always}
 use Rattle.turn.proofs.Steps.{Answers, Writes, always-performs, word-names, let-names, let-room, line-few}
 use Rattle.turn.proofs.Frames.{Inside, inside, has-room, has-slot, stands-put, inside-put, given-inside, emptied-inside}
-use Rattle.turn.proofs.ChannelLines.{number-read}
 
 -- ---- send by a thread that is ready
 
@@ -58,20 +56,20 @@ abbrev Ready : ℕ → Program → State → Type 0
 Ready t P S = threadAt S t .sender ≡ ready
 
 module _ {s : List ℕ} {h : Here} (i w : ℕ) where
-  pub put-answers : {k : Check} → Checks s h (i ∷ w / 2 ∷ []) (λ P H. putLine H i (operandOf w)) k → Answers (Ready (h .thread)) s h (bind (send i (operandOf w))) k
+  pub put-answers : {k : C.Step} → Checks s h (i ∷ w / 2 ∷ []) (λ P H. putLine H i (operandOf w)) k → Answers (Ready (h .thread)) s h (bind (send i (operandOf w))) k
   unfolding perform letLine sendLine
   put-answers all =
       record {
         answers = λ P n S f fs rest q st at-line.
             let names = let-names st at-line in
             all .checks P n S f fs rest st (names .0, (word-names st w (names .1), tt))
-            ∙ ap (λ (x : Sender). checkOf (sendLine (hereAt S (h .thread) f fs) x i (operandOf w))) (sym q);
+            ∙ ap (λ (x : Sender). outcomeOf (sendLine (hereAt S (h .thread) f fs) x i (operandOf w))) (sym q);
       }
 
   -- the value of slot j is put, then the operand's slot is left
-  module _ {s₁ s₂ : List ℕ} {v : Value} {m j : ℕ} (target : SlotSeen s h (i % 16) v) (number : m ≡ numberOf v) (place : j ≡ w / 2 % 16)
-      (puts : Becomes s (Puts (h .thread) (m % 16))
-      (λ S. sending (h .thread) (channelAt S (m % 16) .number + 1) (channelled (m % 16) (slotAt (frameAt S (h .thread) (h .depth) .slots) j) (channelAt S (m % 16) .number + 1) S)) s₁)
+  module _ {s₁ s₂ : List ℕ} {v : Value} {m j : ℕ} (target : TargetSeen s h i w v) (is : v ≡ Chan m) (place : j ≡ w / 2 % 16)
+      (puts : Becomes s (Puts (h .thread) m)
+      (λ S. sending (h .thread) (channelAt S m .number + 1) (channelled m (slotAt (frameAt S (h .thread) (h .depth) .slots) j) (channelAt S m .number + 1) S)) s₁)
       (leaves : Becomes s₁ (λ S. (w / 2 < 16) × HasSlot (h .thread) (h .depth) (w / 2) S) (emptied (h .thread) (h .depth) (operandOf w)) s₂) where
     put-moved : {P : Program} {n : ℕ} {S : State} {f : Frame} {fs : List Frame} {rest : List ℕ} {S₁ : State} → Ready (h .thread) P S → Stand s h P n S f fs rest → n < Most.turns
         → lineAt P (f .block) (f .line) ≡ bind (send i (operandOf w)) → Step mosts P (hereAt S (h .thread) f fs) (bind (send i (operandOf w))) S₁
@@ -84,12 +82,13 @@ module _ {s : List ℕ} {h : Here} (i w : ℕ) where
         let names = let-names st at-line in
         let named = word-names st w (names .1) in
         let room = let-room st at-line in
-        let is-channel = left-was-there (f .slots) (operandOf w) i refl (rw (put .gave .slots) at (put .target)) in
-        let same = number-read st i c target number (names .0) is-channel in
+        let target-left = rw (put .gave .slots) at (put .target) in
+        let is-channel = left-was-there (f .slots) (operandOf w) i refl target-left in
+        let same : m ≡ c = ap numberOf (sym (target-read st i w target (names .0) ∙ is) ∙ target-left) in
         let is-value : slotAt (frameAt S t k .slots) j ≡ Obj o = slot-found st (w / 2) j place named ∙ ap (slotAt (f .slots)) (sym (slot-of-word w)) ∙ put .gave .value in
         let next = channelAt S c .number + 1 in
         let few-messages : channelAt S c .number < Most.turns = omega (arith, messages-few st c, few) in
-        let put-there : Puts t (m % 16) S = record { thread = here .thread; channel = rw same (slot-channel st i c is-channel); number = rw same few-messages } in
+        let put-there : Puts t m S = record { thread = here .thread; channel = rw same (slot-channel st i c is-channel); number = rw same few-messages } in
         let first : Held s₁ (sending t next (channelled c (slotAt (frameAt S t k .slots) j) next S)) rest =
         subst (λ (d : ℕ). Held s₁ (sending t (channelAt S d .number + 1) (channelled d (slotAt (frameAt S t k .slots) j) (channelAt S d .number + 1) S)) rest) same
         (puts .becomes S rest (st .held) put-there) in
@@ -110,13 +109,13 @@ abbrev Waiting : ℕ → ℕ → Program → State → Type 0
 Waiting t d P S = senderWord (threadAt S t .sender) ≡ d
 
 module _ {s : List ℕ} {h : Here} (i : ℕ) {d : ℕ} (some : 1 ≤ d) (w : Operand) where
-  pub sent-answers : {k : Check} → Checks s h (i ∷ []) (λ P H. sentLine H i (d - 1)) k → Answers (Waiting (h .thread) d) s h (bind (send i w)) k
+  pub sent-answers : {k : C.Step} → Checks s h (i ∷ []) (λ P H. sentLine H i (d - 1)) k → Answers (Waiting (h .thread) d) s h (bind (send i w)) k
   unfolding perform letLine sendLine
   sent-answers all =
       record {
         answers = λ P n S f fs rest q st at-line.
             all .checks P n S f fs rest st (let-names st at-line .0, tt)
-            ∙ ap (λ (x : Sender). checkOf (sendLine (hereAt S (h .thread) f fs) x i w)) (sym (sender-tells (threadAt S (h .thread) .sender) (waiting (d - 1)) (omega (arith, q, some))));
+            ∙ ap (λ (x : Sender). outcomeOf (sendLine (hereAt S (h .thread) f fs) x i w)) (sym (sender-tells (threadAt S (h .thread) .sender) (waiting (d - 1)) (omega (arith, q, some))));
       }
 
   -- the channel's slot is given

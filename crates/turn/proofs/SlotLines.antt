@@ -22,11 +22,11 @@ use Rattle.rules.proofs.Moves.{Step, by-value, by-cast}
 use Rattle.rules.proofs.TableWords.{slot-of-word}
 use Rattle.table.specs.declared.state.Here.{Here}
 use Rattle.table.specs.State.{Held, Becomes, HasSlot, HasRoom, frameAt, onFrame, editFrame, cleared, given}
-use Rattle.checks.specs.declared.lines.Check.{Check}
+use Rattle.checks.specs.declared.lines.Step as C
 use Rattle.checks.specs.Checked.{hereAt, Stand, Checks}
 use Rattle.checks.proofs.CheckLaws.{then-gives}
 use Rattle.checks.proofs.Standing.{OperandChecked, slot-found}
-use Rattle.turn.specs.declared.lines.Step.the-variants.{Next}
+use Rattle.checks.specs.declared.lines.Step.the-variants.{Next}
 use Rattle.turn.specs.Performed.{emptied, Went, to-next, Always}
 use Rattle.turn.proofs.Steps.{Answers, Writes, word-names, let-names, let-room, line-few}
 use Rattle.turn.proofs.Frames.{Inside, inside, has-room, has-slot, stands-put, inside-put, given-inside, given-then-emptied}
@@ -61,7 +61,7 @@ module _ {s : List ℕ} (t k w : ℕ) where
 
 -- ---- The operand of word w, whose check is k
 
-module _ {s : List ℕ} {h : Here} {k : Check} (w : ℕ) where
+module _ {s : List ℕ} {h : Here} {k : C.Step} (w : ℕ) where
   pub value-answers : OperandChecked s h w k → Answers Always s h (bind (value (operandOf w))) k
   unfolding perform letLine valueLine
   value-answers first = record { answers = λ P n S f fs rest q st at-line. first .checks P n S f fs rest st (word-names st w (let-names st at-line), tt) ∙ sym (then-gives _ _) }

@@ -1,7 +1,8 @@
--- A rule's result as the step taken: where the check stops or waits the table is as it was; where it passes the rule has moved.
+-- A rule's result as the step taken: where the check waits or stops the table is as it was; where it passes the rule has moved.
 use Prim.Native.Nat.{ℕ, _/_, _<_}
 use native.Mathlib.Omega.{arith}
-use mathlib.Core.Path.{_≡_, refl}
+use mathlib.Core.Path.{_≡_, refl, ap}
+use mathlib.Core.Bool.{true, false}
 use mathlib.Core.List.{List}
 use lib.ListN.{length}
 use Rattle.rules.specs.Mosts as Most
@@ -20,58 +21,65 @@ use Rattle.rules.proofs.Keeps.{let-below, let-ok, give-ok, block-ok}
 use Rattle.rules.proofs.TableWords.{slot-of-word}
 use Rattle.table.specs.declared.state.Here.{Here}
 use Rattle.table.specs.State.{Held}
-use Rattle.checks.specs.declared.lines.Check.{Check}
-use Rattle.checks.specs.declared.lines.Check.the-variants.{Pass, Wait, Stop}
-use Rattle.checks.specs.Checked.{checkOf, hereAt, Stand}
+use Rattle.checks.specs.declared.lines.Step as C
+use Rattle.checks.specs.declared.lines.Step.the-variants.{Next, Stay, Turned, Waits, NoValue, NoField, NoMethod, WrongThing, Foreign, Alias, Other, WrongCap, UsedUp}
+use Rattle.checks.specs.Checked.{resultOf, outcomeOf, passed, isPass, hereAt, Stand}
+use Rattle.checks.proofs.CheckLaws.{no-both}
 use Rattle.checks.proofs.Standing.{fits-here}
-use Rattle.turn.specs.declared.lines.Step as C
-use Rattle.turn.specs.declared.lines.Step.the-variants.{Waits, Stops}
 use Rattle.turn.specs.Performed.{Went, Performed, moved, waited, stopped, Performs, Always}
 
 -- ---- A result
 
+-- one step alone waits
+only-waits : (k : C.Step) → resultOf k ≡ wait → k ≡ Waits
+only-waits Next e = impossible cc
+only-waits Stay e = impossible cc
+only-waits Turned e = impossible cc
+only-waits Waits e = refl
+only-waits NoValue e = impossible cc
+only-waits NoField e = impossible cc
+only-waits NoMethod e = impossible cc
+only-waits WrongThing e = impossible cc
+only-waits Foreign e = impossible cc
+only-waits Alias e = impossible cc
+only-waits Other e = impossible cc
+only-waits WrongCap e = impossible cc
+only-waits UsedUp e = impossible cc
+
 module _ {t : ℕ} {f : Frame} {fs : List Frame} {s rest : List ℕ} where
-  performed-stop : (x : Res State) {k : Check} {n : ℕ} → k ≡ checkOf x → k ≡ Stop n → Performed t f fs s rest (Stops n) s x
-  performed-stop (ok S) e is = impossible cc
-  performed-stop wait e is = impossible cc
-  performed-stop (stop m) {n = n} e is = let same : n ≡ m = cc in rw same stopped
+  performed-halt : (x : Res State) {k : C.Step} → resultOf k ≡ outcomeOf x → isPass k ≡ false → Performed t f fs s rest k s x
+  performed-halt (ok S) {k} e fails = no-both (resultOf k) (ap passed e) fails
+  performed-halt wait {k} e fails = rw (only-waits k e) waited
+  performed-halt (stop m) e fails = stopped e
 
-  performed-wait : (x : Res State) {k : Check} → k ≡ checkOf x → k ≡ Wait → Performed t f fs s rest Waits s x
-  performed-wait (ok S) e is = impossible cc
-  performed-wait wait e is = waited
-  performed-wait (stop m) e is = impossible cc
-
-  performed-pass : (x : Res State) {k : Check} {r : C.Step} {s₁ : List ℕ} → k ≡ checkOf x → k ≡ Pass → ((S : State) → x ≡ ok S → Performed t f fs s rest r s₁ (ok S))
+  performed-pass : (x : Res State) (k : C.Step) {r : C.Step} {s₁ : List ℕ} → resultOf k ≡ outcomeOf x → isPass k ≡ true → ((S : State) → x ≡ ok S → Performed t f fs s rest r s₁ (ok S))
       → Performed t f fs s rest r s₁ x
-  performed-pass (ok S) e is go = go S refl
-  performed-pass wait e is go = impossible cc
-  performed-pass (stop m) e is go = impossible cc
+  performed-pass (ok S) k e passes go = go S refl
+  performed-pass wait k e passes go = no-both (resultOf k) passes (ap passed e)
+  performed-pass (stop m) k e passes go = no-both (resultOf k) passes (ap passed e)
 
 -- ---- A line, by its check
 
 -- the check k is the answer of line x
-pub record Answers (Q : Program → State → Type 0) (s : List ℕ) (h : Here) (x : Line) (k : Check) : Type 0 where
+pub record Answers (Q : Program → State → Type 0) (s : List ℕ) (h : Here) (x : Line) (k : C.Step) : Type 0 where
   pub answers : (P : Program) (n : ℕ) (S : State) (f : Frame) (fs : List Frame) (rest : List ℕ) → Q P S → Stand s h P n S f fs rest
-      → lineAt P (f .block) (f .line) ≡ x → k ≡ checkOf (R.perform mosts P (hereAt S (h .thread) f fs) x)
+      → lineAt P (f .block) (f .line) ≡ x → resultOf k ≡ outcomeOf (R.perform mosts P (hereAt S (h .thread) f fs) x)
 
 -- each way to move is one that the writes make
 pub record Writes (Q : Program → State → Type 0) (s : List ℕ) (h : Here) (x : Line) (r : C.Step) (s₁ : List ℕ) : Type 0 where
   pub writes : (P : Program) (n : ℕ) (S : State) (f : Frame) (fs : List Frame) (rest : List ℕ) → Q P S → Stand s h P n S f fs rest → n < Most.turns
       → lineAt P (f .block) (f .line) ≡ x → (S₁ : State) → Step mosts P (hereAt S (h .thread) f fs) x S₁ → Held s₁ S₁ rest × Went (h .thread) f fs S₁ r
 
-module _ {Q : Program → State → Type 0} {s : List ℕ} {h : Here} {x : Line} {k : Check} (told : Answers Q s h x k) where
-  pub line-stops : {n : ℕ} → k ≡ Stop n → Performs Q s h x (Stops n) s
-  line-stops is = record { performs = λ P n S f fs rest q st few at-line. performed-stop _ (told .answers P n S f fs rest q st at-line) is }
+module _ {Q : Program → State → Type 0} {s : List ℕ} {h : Here} {x : Line} {k : C.Step} (told : Answers Q s h x k) where
+  pub line-halts : isPass k ≡ false → Performs Q s h x k s
+  line-halts fails = record { performs = λ P n S f fs rest q st few at-line. performed-halt _ (told .answers P n S f fs rest q st at-line) fails }
 
-  pub line-waits : k ≡ Wait → Performs Q s h x Waits s
-  line-waits is = record { performs = λ P n S f fs rest q st few at-line. performed-wait _ (told .answers P n S f fs rest q st at-line) is }
-
-  pub line-moves : {r : C.Step} {s₁ : List ℕ} → k ≡ Pass → Writes Q s h x r s₁ → Performs Q s h x r s₁
-  line-moves is does =
+  pub line-moves : {r : C.Step} {s₁ : List ℕ} → isPass k ≡ true → Writes Q s h x r s₁ → Performs Q s h x r s₁
+  line-moves passes does =
       record {
         performs = λ P n S f fs rest q st few at-line.
             let H = hereAt S (h .thread) f fs in
-            performed-pass (R.perform mosts P H x) (told .answers P n S f fs rest q st at-line) is
+            performed-pass (R.perform mosts P H x) k (told .answers P n S f fs rest q st at-line) passes
             λ S₁ e. let done = does .writes P n S f fs rest q st few at-line S₁ (stepped mosts P H x S₁ e) in moved (done .0) (done .1);
       }
 

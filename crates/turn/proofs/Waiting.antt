@@ -17,8 +17,8 @@ use Rattle.rules.specs.Turn.{Res, ok, wait, stop, _>>=_, _>>_, check, permit, p
 use Rattle.rules.specs.Run.{waits}
 use Rattle.table.specs.declared.state.Here.{Here}
 use Rattle.table.specs.State.{Held, Sees, Any}
-use Rattle.checks.specs.declared.lines.Check.{Check}
-use Rattle.checks.specs.Checked.{checkOf, isWait, hereAt, Checks}
+use Rattle.checks.specs.declared.lines.Step.{Step}
+use Rattle.checks.specs.Checked.{resultOf, outcomeOf, waited, isWait, hereAt, Checks}
 use Rattle.turn.specs.Performed.{WaitsHere, WouldWait}
 use Rattle.turn.proofs.Steps.{Answers}
 use Rattle.turn.proofs.ChannelLines.{recv-answers}
@@ -28,22 +28,22 @@ use Rattle.turn.proofs.Located.{Idles, Finds}
 
 -- ---- A send and a recv, by their checks
 
-answer-waits : (x : Res State) {k : Check} → k ≡ checkOf x → isWait k ≡ waits x
+answer-waits : (x : Res State) (k : Step) → resultOf k ≡ outcomeOf x → isWait k ≡ waits x
 unfolding waits
-answer-waits (ok S) e = ap isWait e
-answer-waits wait e = ap isWait e
-answer-waits (stop n) e = ap isWait e
+answer-waits (ok S) k e = ap waited e
+answer-waits wait k e = ap waited e
+answer-waits (stop n) k e = ap waited e
 
 -- r says whether the check k waits
-module _ {s : List ℕ} {h : Here} {k : Check} {r : Bool} (is : r ≡ isWait k) where
+module _ {s : List ℕ} {h : Here} {k : Step} {r : Bool} (is : r ≡ isWait k) where
   -- where Q holds of each state that the table holds
   answered-waits : {Q : Program → State → Type 0} {x : Line} → ((P : Program) (S : State) (rest : List ℕ) → Held s S rest → Q P S) → Answers Q s h x k → WaitsHere s h x r
-  answered-waits holds told = record { is = λ P n S f fs rest st at-line. is ∙ answer-waits _ (told .answers P n S f fs rest (holds P S rest (st .held)) st at-line) }
+  answered-waits holds told = record { is = λ P n S f fs rest st at-line. is ∙ answer-waits _ k (told .answers P n S f fs rest (holds P S rest (st .held)) st at-line) }
 
   pub recv-waits : (i : ℕ) → Checks s h (i ∷ []) (λ P H. recvLine H i) k → WaitsHere s h (bind (recv i)) r
   recv-waits i checked = answered-waits (λ P S rest held. tt) (recv-answers i checked)
 
-module _ {s : List ℕ} {h : Here} {k : Check} {r : Bool} (is : r ≡ isWait k) {d : ℕ} (seen : Sees s Any (λ S. senderWord (threadAt S (h .thread) .sender)) d) (i w : ℕ) where
+module _ {s : List ℕ} {h : Here} {k : Step} {r : Bool} (is : r ≡ isWait k) {d : ℕ} (seen : Sees s Any (λ S. senderWord (threadAt S (h .thread) .sender)) d) (i w : ℕ) where
   pub put-waits : d ≡ 0 → Checks s h (i ∷ w / 2 ∷ []) (λ P H. putLine H i (operandOf w)) k → WaitsHere s h (bind (send i (operandOf w))) r
   put-waits none checked = answered-waits is (seen-ready (h .thread) seen none) (put-answers i w checked)
 

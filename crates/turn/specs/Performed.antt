@@ -19,9 +19,9 @@ use Rattle.rules.specs.Fits.{Fits}
 use Rattle.table.specs.declared.state.Here.{Here}
 use Rattle.table.specs.Program.{Filled}
 use Rattle.table.specs.State.{Held, OnLine, editFrame}
-use Rattle.checks.specs.Checked.{hereAt, Stand}
-use Rattle.turn.specs.declared.lines.Step.{Step}
-use Rattle.turn.specs.declared.lines.Step.the-variants.{Next, Stay, Turned, Waits, Stops}
+use Rattle.checks.specs.declared.lines.Step.{Step}
+use Rattle.checks.specs.declared.lines.Step.the-variants.{Next, Stay, Turned, Waits}
+use Rattle.checks.specs.Checked.{resultOf, hereAt, Stand}
 
 -- ---- What operands leave
 
@@ -55,7 +55,7 @@ pub data Went (t : ℕ) (f : Frame) (fs : List Frame) (S : State) : Step → Typ
 pub data Performed (t : ℕ) (f : Frame) (fs : List Frame) (s rest : List ℕ) : Step → List ℕ → Res State → Type 0 where
   moved : {r : Step} {s₁ : List ℕ} {S : State} → Held s₁ S rest → Went t f fs S r → Performed t f fs s rest r s₁ (ok S)
   waited : Performed t f fs s rest Waits s wait
-  stopped : {k : ℕ} → Performed t f fs s rest (Stops k) s (stop k)
+  stopped : {r : Step} {k : ℕ} → resultOf r ≡ stop k → Performed t f fs s rest r s (stop k)
 
 -- ---- The lines
 
@@ -94,18 +94,11 @@ pub record WaitsHere (s : List ℕ) (h : Here) (x : Line) (r : Bool) : Type 0 wh
 
 -- ---- The turn
 
--- a step that moved
-abbrev pub IsMove : Step → Type 0
-IsMove Next = Unit {0}
-IsMove Stay = Unit {0}
-IsMove Turned = Unit {0}
-IsMove Waits = ⊥
-IsMove (Stops k) = ⊥
-
+-- the same without the place
 pub data Taken (s rest : List ℕ) : Step → List ℕ → Res State → Type 0 where
-  moved : {r : Step} {s₁ : List ℕ} {S : State} → IsMove r → Held s₁ S rest → Taken s rest r s₁ (ok S)
+  moved : {r : Step} {s₁ : List ℕ} {S : State} → resultOf r ≡ ok tt → Held s₁ S rest → Taken s rest r s₁ (ok S)
   waited : Taken s rest Waits s wait
-  stopped : {k : ℕ} → Taken s rest (Stops k) s (stop k)
+  stopped : {r : Step} {k : ℕ} → resultOf r ≡ stop k → Taken s rest r s (stop k)
 
 -- of any program and any state of a run of it: what the turn of thread t does
 pub record TakesTurn (p s : List ℕ) (t : ℕ) (r : Step) (s₁ : List ℕ) : Type 0 where

@@ -2,7 +2,6 @@
 mod lines;
 mod turns;
 
-pub use lines::Step;
 pub use turns::perform;
 pub use turns::turn;
 pub use turns::would_wait;

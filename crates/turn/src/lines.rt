@@ -1,6 +1,5 @@
-// Each line form: its checks, then its writes. A line that waits or stops has written nothing.
-use checks::Check;
-use checks::number_of;
+// Each line form: its checks in document 01's order, then its writes. A line that waits or stops has written nothing.
+use checks::Step;
 use checks::slot_of;
 use rules::Cap;
 use rules::Value;
@@ -16,16 +15,6 @@ ghost use Rattle.rules.specs.Tables.{operandOf};
 ghost use Rattle.table.specs.State.{Becomes, HasSlot, Placed};
 ghost use Rattle.checks.specs.Items.{itemSlots};
 ghost use Rattle.turn.specs.Performed.{emptied, itemEmptied, Always, Loaded, Performs, PerformsNew, PerformsSent};
-
-// What a line does: it moves, and the thread is then at the frame's next line, at the same line, or in another frame or finished; it waits;
-// or it stops with a number.
-pub enum Step {
-    Next,
-    Stay,
-    Turned,
-    Waits,
-    Stops(u16),
-}
 
 // ---- Operands
 
@@ -56,73 +45,94 @@ pub fn value_line(s: &mut [u16], h: Here, w: u16) -> Step
     ensures { λ r. ⌜ Performs Always (now (s .entry)) h (bind (value (operandOf w))) r (now (s .exit)) ⌝ }
 {
     let k = checks::operand_check(s, h, w);
-    match k {
-        Check::Stop(n) => Step::Stops(n),
-        Check::Wait => Step::Waits,
-        Check::Pass => {
-            table::give_slot(s, h, slot_of(w));
-            leave(s, h, w);
-            Step::Next
-        }
+    if !checks::passes(k) {
+        return k;
     }
+    table::give_slot(s, h, slot_of(w));
+    leave(s, h, w);
+    Step::Next
 }
 
+// "field: target slot absent 10; a channel 13; no such field 11; target local to another thread 14; field holds an iso 14."
 pub fn field_line(s: &mut [u16], h: Here, i: u16, j: u16) -> Step
     requires { ⌜ (8192 ≤ length (now s)) × Placed h ⌝ }
     ensures { λ r. ⌜ Performs Always (now (s .entry)) h (bind (field i j)) r (now (s .exit)) ⌝ }
 {
-    let k = checks::field_check(s, h, i, j);
-    match k {
-        Check::Stop(n) => Step::Stops(n),
-        Check::Wait => Step::Waits,
-        Check::Pass => {
-            let o = number_of(table::slot(s, h, i as usize % 16));
-            table::give_field(s, h, o, j % 4);
+    let x = table::slot(s, h, i as usize % 16);
+    match x {
+        Value::Absent => Step::NoValue,
+        Value::Chan(_) => Step::WrongThing,
+        Value::Obj(n) => {
+            let v = table::field(s, n, j);
+            if checks::is_absent(v) {
+                return Step::NoField;
+            }
+            if checks::is_foreign(s, h.thread, n) {
+                return Step::Foreign;
+            }
+            if checks::is_iso_object(s, v) {
+                return Step::Alias;
+            }
+            table::give_field(s, h, n, j % 4);
             Step::Next
         }
     }
 }
 
-// "It stores the value and gives the old one."
+// "swap: target absent 10; target a channel 13; ... It stores the value and gives the old one."
 pub fn swap_line(s: &mut [u16], h: Here, i: u16, j: u16, w: u16) -> Step
     requires { ⌜ (8192 ≤ length (now s)) × Placed h × (i < 256) ⌝ }
     ensures { λ r. ⌜ Performs Always (now (s .entry)) h (bind (swap i j (operandOf w))) r (now (s .exit)) ⌝ }
 {
-    let k = checks::swap_check(s, h, i, j, w);
-    match k {
-        Check::Stop(n) => Step::Stops(n),
-        Check::Wait => Step::Waits,
-        Check::Pass => {
-            let o = number_of(table::slot(s, h, i as usize % 16));
-            table::give_field(s, h, o, j % 4); // the old value
-            table::store_field(s, h, o, j % 4, slot_of(w));
+    let first = checks::operand_check(s, h, w);
+    if !checks::passes(first) {
+        return first;
+    }
+    let v = table::slot(s, h, slot_of(w));
+    let x = checks::seen(s, h, i, w);
+    match x {
+        Value::Absent => Step::NoValue,
+        Value::Chan(_) => Step::WrongThing,
+        Value::Obj(n) => {
+            let k = checks::swap_into(s, h.thread, n, j, v);
+            if !checks::passes(k) {
+                return k;
+            }
+            table::give_field(s, h, n, j % 4); // the old value
+            table::store_field(s, h, n, j % 4, slot_of(w));
             leave(s, h, w);
             Step::Next
         }
     }
 }
 
-// "The new frame holds target and value; the caller's slot keeps the target."
+// "call: target absent 10; a channel 13; no such method 12; target local to another thread 14; frames used up 16. The new frame holds target and
+// value; the caller's slot keeps the target."
 pub fn call_line(p: &[u16], s: &mut [u16], h: Here, i: u16, j: u16, w: u16) -> Step
     requires { ⌜ (8192 ≤ length (now p)) × (8192 ≤ length (now s)) × Placed h × (i < 256) ⌝ }
     ensures { λ r. ⌜ Performs (λ P S. Loaded (now (p .entry)) P) (now (s .entry)) h (bind (call i j (operandOf w))) r (now (s .exit)) ⌝ }
 {
-    let k = checks::call_check(p, s, h, i, j, w);
-    match k {
-        Check::Stop(n) => Step::Stops(n),
-        Check::Wait => Step::Waits,
-        Check::Pass => {
-            let o = number_of(table::slot(s, h, i as usize % 16));
-            let m = checks::method_item(p, s, o, j);
-            // the check has passed, so neither can be
+    let first = checks::operand_check(s, h, w);
+    if !checks::passes(first) {
+        return first;
+    }
+    let x = checks::seen(s, h, i, w);
+    match x {
+        Value::Absent => Step::NoValue,
+        Value::Chan(_) => Step::WrongThing,
+        Value::Obj(n) => {
+            let m = checks::method_item(p, s, n, j);
             if m == 0 {
-                return Step::Waits;
+                return Step::NoMethod;
+            }
+            if checks::is_foreign(s, h.thread, n) {
+                return Step::Foreign;
             }
             if 15 <= h.depth {
-                return Step::Waits;
+                return Step::UsedUp;
             }
             table::push_frame(s, h, m - 1, i as usize % 16, slot_of(w));
-            leave(s, h, w);
+            leave(s, h, w); // the caller's slot keeps the target
             Step::Turned
         }
     }
@@ -133,20 +143,17 @@ pub fn new_line(s: &mut [u16], h: Here, k: Cap, kind: u16, a: u16, b: u16, c: u1
     ensures { λ r. ⌜ PerformsNew (now (s .entry)) h k kind (a ∷ b ∷ c ∷ d ∷ []) r (now (s .exit)) ⌝ }
 {
     let check = checks::new_check(s, h, k, a, b, c, d);
-    match check {
-        Check::Stop(n) => Step::Stops(n),
-        Check::Wait => Step::Waits,
-        Check::Pass => {
-            let n = table::object_count(s) % 256;
-            table::add_object(s, h, n, rules::cap_rank(k) as u16, kind, a, b, c, d);
-            table::give_value(s, h, Value::Obj(n));
-            leave_item(s, h, a);
-            leave_item(s, h, b);
-            leave_item(s, h, c);
-            leave_item(s, h, d);
-            Step::Next
-        }
+    if !checks::passes(check) {
+        return check;
     }
+    let n = table::object_count(s) % 256;
+    table::add_object(s, h, n, rules::cap_rank(k) as u16, kind, a, b, c, d);
+    table::give_value(s, h, Value::Obj(n));
+    leave_item(s, h, a);
+    leave_item(s, h, b);
+    leave_item(s, h, c);
+    leave_item(s, h, d);
+    Step::Next
 }
 
 pub fn cast_line(s: &mut [u16], h: Here, k: Cap, w: u16) -> Step
@@ -154,15 +161,12 @@ pub fn cast_line(s: &mut [u16], h: Here, k: Cap, w: u16) -> Step
     ensures { λ r. ⌜ Performs Always (now (s .entry)) h (bind (cast k (operandOf w))) r (now (s .exit)) ⌝ }
 {
     let check = checks::cast_check(s, h, k, w);
-    match check {
-        Check::Stop(n) => Step::Stops(n),
-        Check::Wait => Step::Waits,
-        Check::Pass => {
-            table::give_slot(s, h, slot_of(w));
-            leave(s, h, w);
-            Step::Next
-        }
+    if !checks::passes(check) {
+        return check;
     }
+    table::give_slot(s, h, slot_of(w));
+    leave(s, h, w);
+    Step::Next
 }
 
 // "A spawn makes the next thread, with an empty channel of the same number."
@@ -171,29 +175,34 @@ pub fn spawn_line(s: &mut [u16], h: Here, b: u16) -> Step
     ensures { λ r. ⌜ Performs Always (now (s .entry)) h (bind (spawn b)) r (now (s .exit)) ⌝ }
 {
     let k = checks::spawn_check(s);
-    match k {
-        Check::Stop(n) => Step::Stops(n),
-        Check::Wait => Step::Waits,
-        Check::Pass => {
-            let n = table::thread_count(s) % 16;
-            table::start_thread(s, n, b);
-            table::give_value(s, h, Value::Chan(n));
-            Step::Next
-        }
+    if !checks::passes(k) {
+        return k;
     }
+    let n = table::thread_count(s) % 16;
+    table::start_thread(s, n, b);
+    table::give_value(s, h, Value::Chan(n));
+    Step::Next
 }
 
-// A send by a thread that is ready.
+// A send by a thread that is ready: "target absent 10; an object 13; ...".
 fn put_line(s: &mut [u16], h: Here, i: u16, w: u16) -> Step
     requires { ⌜ (8192 ≤ length (now s)) × Placed h × (i < 256) ⌝ }
     ensures { λ r. ⌜ Performs (λ P S. threadAt S (h .thread) .sender ≡ ready) (now (s .entry)) h (bind (send i (operandOf w))) r (now (s .exit)) ⌝ }
 {
-    let k = checks::put_check(s, h, i, w);
-    match k {
-        Check::Stop(n) => Step::Stops(n),
-        Check::Wait => Step::Waits,
-        Check::Pass => {
-            let c = number_of(table::slot(s, h, i as usize % 16)) % 16;
+    let first = checks::operand_check(s, h, w);
+    if !checks::passes(first) {
+        return first;
+    }
+    let v = table::slot(s, h, slot_of(w));
+    let x = checks::seen(s, h, i, w);
+    match x {
+        Value::Absent => Step::NoValue,
+        Value::Obj(_) => Step::WrongThing,
+        Value::Chan(c) => {
+            let k = checks::put_into(s, c, v);
+            if !checks::passes(k) {
+                return k;
+            }
             table::put_message(s, h, c, slot_of(w));
             leave(s, h, w);
             Step::Stay
@@ -207,14 +216,11 @@ fn sent_line(s: &mut [u16], h: Here, i: u16, d: u16) -> Step
     ensures { λ r. ⌜ PerformsSent (now (s .entry)) h i d r (now (s .exit)) ⌝ }
 {
     let k = checks::sent_check(s, h, i, d);
-    match k {
-        Check::Stop(n) => Step::Stops(n),
-        Check::Wait => Step::Waits,
-        Check::Pass => {
-            table::give_slot(s, h, i as usize % 16);
-            Step::Next
-        }
+    if !checks::passes(k) {
+        return k;
     }
+    table::give_slot(s, h, i as usize % 16);
+    Step::Next
 }
 
 pub fn send_line(s: &mut [u16], h: Here, i: u16, w: u16) -> Step
@@ -228,17 +234,19 @@ pub fn send_line(s: &mut [u16], h: Here, i: u16, w: u16) -> Step
     sent_line(s, h, i, d)
 }
 
-// "Otherwise it gives the value and empties the channel."
+// "recv: target absent 10; an object 13; empty: waits. Otherwise it gives the value and empties the channel."
 pub fn recv_line(s: &mut [u16], h: Here, i: u16) -> Step
     requires { ⌜ (8192 ≤ length (now s)) × Placed h ⌝ }
     ensures { λ r. ⌜ Performs Always (now (s .entry)) h (bind (recv i)) r (now (s .exit)) ⌝ }
 {
-    let k = checks::recv_check(s, h, i);
-    match k {
-        Check::Stop(n) => Step::Stops(n),
-        Check::Wait => Step::Waits, // the channel is empty
-        Check::Pass => {
-            let c = number_of(table::slot(s, h, i as usize % 16)) % 16;
+    let x = table::slot(s, h, i as usize % 16);
+    match x {
+        Value::Absent => Step::NoValue,
+        Value::Obj(_) => Step::WrongThing,
+        Value::Chan(c) => {
+            if checks::is_absent(table::message(s, c)) {
+                return Step::Waits;
+            }
             table::give_message(s, h, c);
             table::empty_channel(s, c);
             Step::Next
@@ -252,17 +260,14 @@ pub fn give_line(s: &mut [u16], h: Here, w: u16) -> Step
     ensures { λ r. ⌜ Performs Always (now (s .entry)) h (give (operandOf w)) r (now (s .exit)) ⌝ }
 {
     let k = checks::operand_check(s, h, w);
-    match k {
-        Check::Stop(n) => Step::Stops(n),
-        Check::Wait => Step::Waits,
-        Check::Pass => {
-            if h.depth == 0 {
-                table::drop_frame(s, h);
-                return Step::Turned;
-            }
-            table::return_slot(s, h, slot_of(w));
-            table::drop_frame(s, h);
-            Step::Turned
-        }
+    if !checks::passes(k) {
+        return k;
     }
+    if h.depth == 0 {
+        table::drop_frame(s, h);
+        return Step::Turned;
+    }
+    table::return_slot(s, h, slot_of(w));
+    table::drop_frame(s, h);
+    Step::Turned
 }

@@ -1,5 +1,5 @@
 // The line where a thread stands, by the number of its form; a turn; and whether a turn would wait.
-use super::lines::Step;
+use checks::Step;
 use table::Here;
 ghost use Prim.Native.Nat.{_≤_, _<_};
 ghost use lib.ListN.{length};
@@ -14,31 +14,47 @@ pub fn perform(p: &[u16], s: &mut [u16], h: Here) -> Step
     ensures { λ r. ⌜ PerformsHere (now (p .entry)) (now (s .entry)) h r (now (s .exit)) ⌝ }
 {
     let form = table::part(p, h, 0);
-    let a = table::part(p, h, 1);
-    let b = table::part(p, h, 2);
     match form {
         1 => Step::Waits,
         2 => Step::Waits,
         3 => Step::Waits,
-        4 => super::lines::give_line(s, h, a),
-        5 => super::lines::value_line(s, h, a),
-        6 => super::lines::field_line(s, h, a, b),
-        7 => super::lines::swap_line(s, h, a % 16, b, table::part(p, h, 3)),
-        8 => super::lines::call_line(p, s, h, a % 16, b, table::part(p, h, 3)),
+        4 => super::lines::give_line(s, h, table::part(p, h, 1)),
+        5 => super::lines::value_line(s, h, table::part(p, h, 1)),
+        6 => super::lines::field_line(s, h, table::part(p, h, 1), table::part(p, h, 2)),
+        7 => super::lines::swap_line(
+            s,
+            h,
+            table::part(p, h, 1) % 16,
+            table::part(p, h, 2),
+            table::part(p, h, 3),
+        ),
+        8 => super::lines::call_line(
+            p,
+            s,
+            h,
+            table::part(p, h, 1) % 16,
+            table::part(p, h, 2),
+            table::part(p, h, 3),
+        ),
         9 => super::lines::new_line(
             s,
             h,
-            table::cap_of(a),
-            b,
+            table::cap_of(table::part(p, h, 1)),
+            table::part(p, h, 2),
             table::part(p, h, 3),
             table::part(p, h, 4),
             table::part(p, h, 5),
             table::part(p, h, 6),
         ),
-        10 => super::lines::cast_line(s, h, table::cap_of(a), b),
-        11 => super::lines::spawn_line(s, h, a),
-        12 => super::lines::send_line(s, h, a % 16, b),
-        13 => super::lines::recv_line(s, h, a),
+        10 => super::lines::cast_line(
+            s,
+            h,
+            table::cap_of(table::part(p, h, 1)),
+            table::part(p, h, 2),
+        ),
+        11 => super::lines::spawn_line(s, h, table::part(p, h, 1)),
+        12 => super::lines::send_line(s, h, table::part(p, h, 1) % 16, table::part(p, h, 2)),
+        13 => super::lines::recv_line(s, h, table::part(p, h, 1)),
         _ => Step::Waits,
     }
 }

@@ -7,6 +7,7 @@ use second::machine;
 use second::numbers::TABLE_WORDS;
 use second::reading;
 
+use crate::chart::{self, Row};
 use crate::loads::{self, Load};
 use crate::{full, library};
 
@@ -31,11 +32,11 @@ fn medians(calls: usize, mut ours: impl FnMut(), mut theirs: impl FnMut()) -> (f
     (median(left), median(right))
 }
 
-/// Reading 16,384 bytes. The table is lent full of old words.
-fn reading_row(calls: usize) -> String {
+/// Reading 16,384 bytes, by the byte. The table is lent full of old words.
+fn reading_row(calls: usize) -> Row {
     let text = full::script(1);
     let mut table = vec![0xa5a5; TABLE_WORDS];
-    let (ours, theirs) = medians(
+    let (ours, second) = medians(
         calls,
         || {
             let _ = black_box(library::read(black_box(&text), &mut table));
@@ -44,18 +45,17 @@ fn reading_row(calls: usize) -> String {
             let _ = black_box(reading::read(black_box(&text)));
         },
     );
-    let speed = |time: f64| text.len() as f64 / time / 1e6;
-    format!(
-        "{:<26}{:>9.0} MB/s{:>9.0} MB/s{:>8.2}\n",
-        "reading 16,384 bytes",
-        speed(ours),
-        speed(theirs),
-        ours / theirs
-    )
+    let byte = |time: f64| time / text.len() as f64 * 1e9;
+    Row {
+        name: "reading, by the byte".to_string(),
+        ours: byte(ours),
+        second: byte(second),
+        lua: None,
+    }
 }
 
 /// The turns of a load: a whole run less the same run on no turns, by turn.
-fn run_row(calls: usize, load: &Load) -> Result<String, String> {
+fn run_row(calls: usize, load: &Load, lua: &str) -> Result<Row, String> {
     let (mut program, mut state) = (vec![0xa5a5; TABLE_WORDS], vec![0xa5a5; TABLE_WORDS]);
     let ours = library::run(&load.text, &load.turns, &mut program, &mut state)
         .map_err(|refusal| format!("{}: {:?}", load.name, refusal))?;
@@ -87,29 +87,25 @@ fn run_row(calls: usize, load: &Load) -> Result<String, String> {
     let (whole, whole_theirs) = part(&load.turns);
     let (none, none_theirs) = part(&[]);
     let turn = |time: f64| time / load.turns.len() as f64 * 1e9;
-    let (box_turn, second_turn) = (turn(whole - none), turn(whole_theirs - none_theirs));
-    Ok(format!(
-        "{:<26}{:>6.1} ns/turn{:>6.1} ns/turn{:>8.2}\n",
-        load.name,
-        box_turn,
-        second_turn,
-        box_turn / second_turn
-    ))
+    Ok(Row {
+        name: load.name.to_string(),
+        ours: turn(whole - none),
+        second: turn(whole_theirs - none_theirs),
+        lua: chart::lua_time(lua, load.name),
+    })
 }
 
-/// The table that a person reads.
-pub fn shown(calls: usize) -> Result<String, String> {
-    let mut text = format!(
-        "medians of {} calls (of {} for turns), turn about; the last column is the box's time against the second interpreter's\n{:<26}{:>14}{:>14}\n",
-        calls,
-        calls / 10,
-        "",
-        "the box",
-        "second"
-    );
-    text.push_str(&reading_row(calls));
+/// What a person reads; `lua` has the lines that the Lua side printed, if any.
+pub fn shown(calls: usize, lua: &str) -> Result<String, String> {
+    let mut rows = vec![reading_row(calls)];
     for load in loads::all() {
-        text.push_str(&run_row(calls / 10, &load)?);
+        rows.push(run_row(calls / 10, &load, lua)?);
     }
-    Ok(text)
+    let head = format!(
+        "ns a turn: the compiled box, the second interpreter and Lua 5.4 coroutines over plain tables, resumed at every turn; ratio: the box's time by theirs.\n\
+         Medians of {} calls (reading: {}), box and second turn about.\n\n",
+        calls / 10,
+        calls
+    );
+    Ok([head, chart::table(&rows), chart::bars(&rows)].concat())
 }

@@ -2,6 +2,7 @@
 
 pub mod agree;
 pub mod bench;
+pub mod chart;
 pub mod full;
 pub mod layout;
 pub mod library;

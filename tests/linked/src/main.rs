@@ -1,6 +1,8 @@
-//! The program `linked`: `read SEED COUNT` and `run SEED COUNT` hold the compiled box against the second interpreter; `bench` measures both.
+//! The program `linked`: `read SEED COUNT` and `run SEED COUNT` hold the compiled box against the second interpreter; `bench [FILE]` measures
+//! both, and shows the times of the file's lines, a load's name, a tab and its ns, beside them.
 
 use std::env;
+use std::fs;
 use std::process;
 
 use linked::{agree, bench, runs};
@@ -15,12 +17,10 @@ fn main() {
     let arguments: Vec<String> = env::args().skip(1).collect();
     let words: Vec<&str> = arguments.iter().map(String::as_str).collect();
     let status = match words.as_slice() {
-        ["bench"] => match bench::shown(CALLS) {
-            Ok(text) => out(text.as_bytes()),
-            Err(fault) => {
-                complain(&format!("{}\n", fault));
-                1
-            }
+        ["bench"] => measured(""),
+        ["bench", file] => match fs::read_to_string(file) {
+            Ok(lua) => measured(&lua),
+            Err(fault) => failed(&format!("{}: {}", file, fault)),
         },
         [what, seed, count] => match (*what, seed.parse(), count.parse()) {
             ("read", Ok(seed), Ok(count)) => {
@@ -37,8 +37,20 @@ fn main() {
 }
 
 fn usage() -> i32 {
-    complain("linked read SEED COUNT | run SEED COUNT | bench\n");
+    complain("linked read SEED COUNT | run SEED COUNT | bench [FILE]\n");
     2
+}
+
+fn failed(fault: &str) -> i32 {
+    complain(&format!("{}\n", fault));
+    1
+}
+
+fn measured(lua: &str) -> i32 {
+    match bench::shown(CALLS, lua) {
+        Ok(text) => out(text.as_bytes()),
+        Err(fault) => failed(&fault),
+    }
 }
 
 fn told(held: Held) -> i32 {
@@ -57,8 +69,7 @@ fn told(held: Held) -> i32 {
         }
         Err((text, fault)) => {
             out(&text);
-            complain(&format!("{}\n", fault));
-            1
+            failed(&fault)
         }
     }
 }

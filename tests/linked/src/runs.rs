@@ -6,8 +6,8 @@ use second::machine::{self, End};
 use second::numbers::*;
 use second::random::Random;
 use second::reading;
-use second::script::{Cap, Program};
-use second::stripped::strip;
+use second::script::Program;
+use second::stripped::{strip, strip_text};
 use second::{generate, turns};
 
 use crate::agree::{self, same_words};
@@ -110,18 +110,6 @@ fn lent(seed: u64, n: u64) -> Lent {
     }
 }
 
-/// The text with every K in it changed to `unsafe`: reading it is reading and then stripping.
-fn stripped_text(text: &[u8]) -> Vec<u8> {
-    let mut text = String::from_utf8_lossy(text).into_owned();
-    for cap in Cap::ALL {
-        for form in ["new", "cast"] {
-            let from = format!("({} {} ", form, cap.word());
-            text = text.replace(&from, &format!("({} unsafe ", form));
-        }
-    }
-    text.into_bytes()
-}
-
 /// The answer of both on one run, or how they differ; with the words that the box left in the state table.
 fn one(lent: &Lent, change: fn(&Program) -> Program) -> Result<Ran, String> {
     let (mut program, mut state) = (lent.program.clone(), lent.state.clone());
@@ -188,7 +176,7 @@ fn both(lent: &Lent, counts: &mut Counts) -> Result<(), String> {
         counts.lists[place] += 1;
     }
     let other = Lent {
-        text: stripped_text(&lent.text),
+        text: strip_text(&lent.text),
         ..lent.clone()
     };
     if guarded.answer.is_err() || other.text.len() > MOST_TEXT {

@@ -17,6 +17,18 @@ pub fn strip(program: &Program) -> Program {
     stripped
 }
 
+/// The same text with every K in it changed to `unsafe`: reading it is reading and then stripping.
+pub fn strip_text(text: &[u8]) -> Vec<u8> {
+    let mut text = String::from_utf8_lossy(text).into_owned();
+    for cap in Cap::ALL {
+        for form in ["new", "cast"] {
+            let from = format!("({} {} ", form, cap.word());
+            text = text.replace(&from, &format!("({} unsafe ", form));
+        }
+    }
+    text.into_bytes()
+}
+
 /// The same state with every object made unsafe.
 pub fn erase(state: &State) -> State {
     let mut erased = state.clone();

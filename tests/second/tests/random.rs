@@ -10,8 +10,9 @@ use second::histogram::Histogram;
 use second::input::{accepted, boxrun, boxrun_stripped};
 use second::machine::{run, End, Machine, Outcome};
 use second::reach::reach;
+use second::reading::read_lines;
 use second::script::{Cap, Expr};
-use second::stripped::{erase, strip};
+use second::stripped::{erase, strip, strip_text};
 
 const SEED: u64 = 20_260_117;
 
@@ -180,6 +181,21 @@ fn stripping_changes_only_capabilities() {
     assert_eq!(state.objects[0].cap, Cap::Iso);
     assert_eq!(erase(&state), run(&stripped, &[0]).state);
     assert_ne!(state, run(&stripped, &[0]).state);
+}
+
+/// A text that grew past the most is read all the same: the lengths are not looked at here.
+#[test]
+fn a_stripped_text_reads_as_the_stripped_program() {
+    let mut read = 0;
+    for n in 0..400 {
+        let input = generate::input(SEED, n);
+        if let Ok((program, _)) = accepted(&input) {
+            let script = second::input::parts(&input).unwrap().script.to_vec();
+            assert_eq!(read_lines(&strip_text(&script)), Ok(strip(&program)));
+            read += 1;
+        }
+    }
+    assert!(read > 200);
 }
 
 fn two_lines(first: &str, second: &str) -> second::script::Program {

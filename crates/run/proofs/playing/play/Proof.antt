@@ -1,13 +1,14 @@
 -- Before each turn the run so far is the rule's; where a thread's place is kept, it is the one where the thread stands. Each way through the body takes one turn.
 use Prim.Native.Nat.{_-_, _<_}
 use native.Mathlib.Omega.{arith}
-use mathlib.Core.Path.{refl}
+use mathlib.Core.Path.{refl, sym, ap, _∙_}
 use mathlib.Core.Logic.{⊎-elim}
 use lib.ListN.{length, getD}
 use denote.Ref.{now}
 use borrow.Author.Needs.{needs}
 use Rattle.table.specs.State.{Placed}
-use Rattle.run.proofs.TurnByTurn.{keptAt, Playing, Looked, at-start, at-end, is-kept, has-none, found, same-looked, same-playing, turn-idles, no-turn, turn-goes-next, turn-stays, turn-leaves-frame, turn-waits, turn-stops}
+use Rattle.run.proofs.TurnByTurn.{keptAt, Playing, Looked, at-start, at-end, is-kept, has-none, found, same-looked, same-playing, turn-idles, no-turn, turn-goes-next, turn-stays, turn-leaves-frame, turn-waits, turn-stops, other-steps-stop}
+use Rattle.rules.specs.Turn.{stop}
 use Rattle.run.proofs.playing.play.Statement.{statement}
 use Rattle.run.proofs.playing.play.Tie as tie
 
@@ -140,14 +141,14 @@ add-moves-3 c = search needs
 enum-told-4 : tie.Need-enum-told-4 Inv-loop μ-loop
 enum-told-4 c = search needs
 
-enum-known-step : tie.Need-enum-known-step Inv-loop μ-loop
-enum-known-step c = search needs
+stop-number-requires : tie.Need-stop-number-requires Inv-loop μ-loop
+stop-number-requires c κs = search needs
 
 frame-block-requires : tie.Need-frame-block-requires Inv-loop μ-loop
-frame-block-requires c κs = let placed = kept-placed (c .before .before .before .before .before .before .before .before) in (search needs, placed .thread, placed .depth)
+frame-block-requires c κs = let placed = kept-placed (c .before .before .before .before .before .before .before) in (search needs, placed .thread, placed .depth)
 
 frame-line-requires : tie.Need-frame-line-requires Inv-loop μ-loop
-frame-line-requires c κs = let placed = kept-placed (c .before .before .before .before .before .before .before .before .before .before) in (search needs, placed .thread, placed .depth)
+frame-line-requires c κs = let placed = kept-placed (c .before .before .before .before .before .before .before .before .before) in (search needs, placed .thread, placed .depth)
 
 cast-t65 : tie.Need-cast-t65 Inv-loop μ-loop
 cast-t65 c = search needs
@@ -157,10 +158,11 @@ same-length c = search needs
 
 returns : tie.Need-returns Inv-loop μ-loop
 returns c =
-    let kept = c .before .before .before .before .before .before .before .before .before .before .before in
+    let kept = c .before .before .before .before .before .before .before .before .before .before in
     let start = kept .before .before .before .before .before .before .before .before .before in
     turn-stops (looked (kept .before) .playing) (kept .before .before .before .before .loop-test .taken) refl (start .pre .2) (kept .if4 .taken)
-    (c .before .before .before .before .before .step .given .1) (c .before .before .before .before .before .before .before .before .before .perform .ensures) (c .before .before .frame-block .ensures .1) (c .frame-line .ensures .1)
+    (other-steps-stop (c .before .before .before .before .before .before .before .before .perform .result) (c .before .before .before .before .before .match .keys5) ∙ ap stop (sym (c .before .before .before .before .stop-number .ensures)))
+    (c .before .before .before .before .before .before .before .before .perform .ensures) (c .before .before .frame-block .ensures .1) (c .frame-line .ensures .1)
 
 add-i : tie.Need-add-i Inv-loop μ-loop
 add-i c = search needs
@@ -237,7 +239,7 @@ play-spec =
     array-write-rows-3
     add-moves-3
     enum-told-4
-    enum-known-step
+    stop-number-requires
     frame-block-requires
     frame-line-requires
     cast-t65

@@ -1,15 +1,28 @@
--- `turn::lines::call_line` meets its contract: the check is the line's, so there is a method and room for its frame; the frame is pushed, then the operand's slot is left.
-use Rattle.turn.proofs.Steps.{line-stops, line-waits, line-moves}
-use Rattle.turn.proofs.CallLines.{call-answers, call-needs-method, call-needs-room, call-writes}
+-- `turn::lines::call_line` meets its contract: each way out is one of the rule's; where it passes the frame is pushed, then the operand's slot is left.
+use borrow.Author.Tests.{not-true, not-false}
+use mathlib.Core.Path.{refl, sym, _∙_}
+use Rattle.table.proofs.StateReads.{object-in-table}
+use Rattle.checks.proofs.CallChecks.{call-no-operand, call-no-target, call-of-channel, call-no-method, call-foreign, call-used-up, call-passes}
+use Rattle.turn.proofs.Steps.{line-halts, line-moves}
+use Rattle.turn.proofs.CallLines.{call-answers, call-writes}
 use borrow.Author.Needs.{needs}
 use Rattle.turn.proofs.lines.call_line.Statement.{statement}
 use Rattle.turn.proofs.lines.call_line.Tie as tie
 
-call-check-requires : tie.Need-call-check-requires
-call-check-requires c κs = search needs
+operand-check-requires : tie.Need-operand-check-requires
+operand-check-requires c κs = search needs
 
-enum-known-k : tie.Need-enum-known-k
-enum-known-k c = search needs
+passes-requires : tie.Need-passes-requires
+passes-requires c κs = search needs
+
+same-length : tie.Need-same-length
+same-length c = search needs
+
+returns : tie.Need-returns
+returns c = line-halts (call-answers _ _ _ (call-no-operand _ _ _ (c .before .before .operand-check .ensures) (sym (c .before .passes .ensures) ∙ not-true _ (c .if1 .taken)))) (sym (c .before .passes .ensures) ∙ not-true _ (c .if1 .taken))
+
+seen-requires : tie.Need-seen-requires
+seen-requires c κs = search needs
 
 enum-told : tie.Need-enum-told
 enum-told c = search needs
@@ -17,32 +30,32 @@ enum-told c = search needs
 enum-told-2 : tie.Need-enum-told-2
 enum-told-2 c = search needs
 
-slot-requires : tie.Need-slot-requires
-slot-requires c κs = search needs
-
-number-of-requires : tie.Need-number-of-requires
-number-of-requires c κs = search needs
+enum-known-x : tie.Need-enum-known-x
+enum-known-x c = search needs
 
 method-item-requires : tie.Need-method-item-requires
-method-item-requires c κs = search needs
-
-same-length : tie.Need-same-length
-same-length c = search needs
-
-returns : tie.Need-returns
-returns c =
-    let arm = c .before in
-    line-moves (call-answers _ _ _ (arm .before .before .before .before .before .before .before .call-check .ensures)) (arm .before .before .before .before .before .enum-told2 .given .1)
-    (call-needs-method _ _ (arm .before .before .before .slot .ensures .1) (arm .before .before .number-of .ensures .0) (arm .method-item .ensures) (c .if1 .taken))
+method-item-requires c κs = (search needs, search needs, object-in-table _ _ (c .before .before .x .given .1) (c .before .before .before .before .seen .ensures .0))
 
 same-length-2 : tie.Need-same-length-2
 same-length-2 c = search needs
 
 returns-2 : tie.Need-returns-2
-returns-2 c =
-    let arm = c .before .before .before in
-    line-moves (call-answers _ _ _ (arm .before .before .before .before .before .before .before .call-check .ensures)) (arm .before .before .before .before .before .enum-told2 .given .1)
-    (call-needs-room (c .if2 .taken))
+returns-2 c = line-halts (call-answers _ _ _ (call-no-method _ _ _ (c .before .before .before .before .before .before .before .before .before .before .operand-check .ensures) (sym (c .before .before .before .before .before .before .before .before .before .passes .ensures) ∙ not-false _ (c .before .before .before .before .before .before .before .before .if1 .left)) (c .before .before .before .before .before .before .seen .ensures .1) (c .before .before .before .before .x .given .1) (c .before .method-item .ensures) (c .if2 .taken))) refl
+
+is-foreign-requires : tie.Need-is-foreign-requires
+is-foreign-requires c κs = (search needs, object-in-table _ _ (c .before .before .before .before .before .x .given .1) (c .before .before .before .before .before .before .before .seen .ensures .0))
+
+same-length-3 : tie.Need-same-length-3
+same-length-3 c = search needs
+
+returns-3 : tie.Need-returns-3
+returns-3 c = line-halts (call-answers _ _ _ (call-foreign _ _ _ (c .before .before .before .before .before .before .before .before .before .before .before .before .before .operand-check .ensures) (sym (c .before .before .before .before .before .before .before .before .before .before .before .before .passes .ensures) ∙ not-false _ (c .before .before .before .before .before .before .before .before .before .before .before .if1 .left)) (c .before .before .before .before .before .before .before .before .before .seen .ensures .1) (c .before .before .before .before .before .before .before .x .given .1) (c .before .before .before .before .method-item .ensures) (c .before .before .before .if2 .left) (c .before .is-foreign .ensures) (c .if3 .taken))) refl
+
+same-length-4 : tie.Need-same-length-4
+same-length-4 c = search needs
+
+returns-4 : tie.Need-returns-4
+returns-4 c = line-halts (call-answers _ _ _ (call-used-up _ _ _ (c .before .before .before .before .before .before .before .before .before .before .before .before .before .before .before .operand-check .ensures) (sym (c .before .before .before .before .before .before .before .before .before .before .before .before .before .before .passes .ensures) ∙ not-false _ (c .before .before .before .before .before .before .before .before .before .before .before .before .before .if1 .left)) (c .before .before .before .before .before .before .before .before .before .before .before .seen .ensures .1) (c .before .before .before .before .before .before .before .before .before .x .given .1) (c .before .before .before .before .before .before .method-item .ensures) (c .before .before .before .before .before .if2 .left) (c .before .before .before .is-foreign .ensures) (c .before .before .if3 .left) (c .if4 .taken))) refl
 
 sub-push-frame : tie.Need-sub-push-frame
 sub-push-frame c = search needs
@@ -56,50 +69,53 @@ push-frame-requires c κs = search needs
 leave-requires : tie.Need-leave-requires
 leave-requires c κs = search needs
 
-same-length-3 : tie.Need-same-length-3
-same-length-3 c = search needs
-
-returns-3 : tie.Need-returns-3
-returns-3 c = line-stops (call-answers _ _ _ (c .before .before .before .call-check .ensures)) (c .before .k .given .1)
-
-same-length-4 : tie.Need-same-length-4
-same-length-4 c = search needs
-
-returns-4 : tie.Need-returns-4
-returns-4 c = line-waits (call-answers _ _ _ (c .before .before .call-check .ensures)) (c .enum-told .given .1)
-
 same-length-5 : tie.Need-same-length-5
 same-length-5 c = search needs
 
 returns-5 : tie.Need-returns-5
-returns-5 c =
-    let arm = c .before .before .before .before .before .before .before .before .before .before .before .before in
-    line-moves (call-answers _ _ _ (arm .before .before .before .before .before .before .before .call-check .ensures)) (arm .before .before .before .before .before .enum-told2 .given .1)
-    (call-writes _ _ (arm .before .before .before .slot .ensures .1) (arm .before .before .number-of .ensures .0) (arm .method-item .ensures) _
-    (c .before .before .before .before .before .before .before .slot-of .ensures .0) (c .before .before .before .before .before .before .push-frame .ensures) (c .before .before .leave .ensures))
+returns-5 c = line-halts (call-answers _ _ _ (call-no-target _ _ _ (c .before .before .before .before .before .before .operand-check .ensures) (sym (c .before .before .before .before .before .passes .ensures) ∙ not-false _ (c .before .before .before .before .if1 .left)) (c .before .before .seen .ensures .1) (c .enum-told .given .1))) refl
+
+same-length-6 : tie.Need-same-length-6
+same-length-6 c = search needs
+
+returns-6 : tie.Need-returns-6
+returns-6 c = line-halts (call-answers _ _ _ (call-of-channel _ _ _ (c .before .before .before .before .before .before .operand-check .ensures) (sym (c .before .before .before .before .before .passes .ensures) ∙ not-false _ (c .before .before .before .before .if1 .left)) (c .before .before .seen .ensures .1) (c .enum-told2 .given .1))) refl
+
+same-length-7 : tie.Need-same-length-7
+same-length-7 c = search needs
+
+returns-7 : tie.Need-returns-7
+returns-7 c =
+    line-moves (call-answers _ _ _ (call-passes _ _ _ (c .before .before .before .before .before .before .before .before .before .before .before .before .before .before .before .before .before .before .before .before .before .before .before .before .operand-check .ensures) (sym (c .before .before .before .before .before .before .before .before .before .before .before .before .before .before .before .before .before .before .before .before .before .before .before .passes .ensures) ∙ not-false _ (c .before .before .before .before .before .before .before .before .before .before .before .before .before .before .before .before .before .before .before .before .before .before .if1 .left)) (c .before .before .before .before .before .before .before .before .before .before .before .before .before .before .before .before .before .before .before .before .seen .ensures .1) (c .before .before .before .before .before .before .before .before .before .before .before .before .before .before .before .before .before .before .x .given .1) (c .before .before .before .before .before .before .before .before .before .before .before .before .before .before .before .method-item .ensures) (c .before .before .before .before .before .before .before .before .before .before .before .before .before .before .if2 .left) (c .before .before .before .before .before .before .before .before .before .before .before .before .is-foreign .ensures) (c .before .before .before .before .before .before .before .before .before .before .before .if3 .left) (c .before .before .before .before .before .before .before .before .before .if4 .left))) refl
+    (call-writes _ _ _ (c .before .before .before .before .before .before .before .before .before .before .before .before .before .before .before .before .before .before .before .before .seen .ensures .1) (c .before .before .before .before .before .before .before .before .before .before .before .before .before .before .before .before .before .before .x .given .1) (c .before .before .before .before .before .before .before .before .before .before .before .before .before .before .before .method-item .ensures) (c .before .before .before .before .before .before .before .slot-of .ensures .0) (c .before .before .before .before .before .before .push-frame .ensures) (c .before .before .leave .ensures))
 
 pub call-line-spec : {M : Type 1} → statement M
 call-line-spec =
     tie.close
     (tie.spec
-    call-check-requires
-    enum-known-k
-    enum-told
-    enum-told-2
-    slot-requires
-    number-of-requires
-    method-item-requires
+    operand-check-requires
+    passes-requires
     same-length
     returns
+    seen-requires
+    enum-told
+    enum-told-2
+    enum-known-x
+    method-item-requires
     same-length-2
     returns-2
-    sub-push-frame
-    slot-of-requires
-    push-frame-requires
-    leave-requires
+    is-foreign-requires
     same-length-3
     returns-3
     same-length-4
     returns-4
+    sub-push-frame
+    slot-of-requires
+    push-frame-requires
+    leave-requires
     same-length-5
-    returns-5)
+    returns-5
+    same-length-6
+    returns-6
+    same-length-7
+    returns-7)

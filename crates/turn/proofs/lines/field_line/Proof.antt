@@ -1,15 +1,15 @@
--- `turn::lines::field_line` meets its contract: the check is the line's; the target's number is read from its slot, and its field's value is given.
-use Rattle.turn.proofs.Steps.{line-stops, line-waits, line-moves}
+-- `turn::lines::field_line` meets its contract: each way out is one of the rule's, with the target, its field and its object as read; where it passes the field's value is given.
+use mathlib.Core.Path.{refl, sym, _∙_}
+use Rattle.table.proofs.StateReads.{object-in-table}
+use Rattle.checks.proofs.ObjectChecks.{field-no-target, field-of-channel, field-missing, field-of-foreign, field-iso, field-passes}
+use Rattle.turn.proofs.Steps.{line-halts, line-moves}
 use Rattle.turn.proofs.ObjectLines.{field-answers, field-writes}
 use borrow.Author.Needs.{needs}
 use Rattle.turn.proofs.lines.field_line.Statement.{statement}
 use Rattle.turn.proofs.lines.field_line.Tie as tie
 
-field-check-requires : tie.Need-field-check-requires
-field-check-requires c κs = search needs
-
-enum-known-k : tie.Need-enum-known-k
-enum-known-k c = search needs
+slot-requires : tie.Need-slot-requires
+slot-requires c κs = search needs
 
 enum-told : tie.Need-enum-told
 enum-told c = search needs
@@ -17,49 +17,84 @@ enum-told c = search needs
 enum-told-2 : tie.Need-enum-told-2
 enum-told-2 c = search needs
 
-slot-requires : tie.Need-slot-requires
-slot-requires c κs = search needs
+enum-known-x : tie.Need-enum-known-x
+enum-known-x c = search needs
 
-number-of-requires : tie.Need-number-of-requires
-number-of-requires c κs = search needs
+field-requires : tie.Need-field-requires
+field-requires c κs = (search needs, object-in-table _ _ (c .before .before .x .given .1) (c .before .before .before .before .slot .ensures .0 .1))
 
-give-field-requires : tie.Need-give-field-requires
-give-field-requires c κs = search needs
+is-absent-requires : tie.Need-is-absent-requires
+is-absent-requires c κs = search needs
 
 same-length : tie.Need-same-length
 same-length c = search needs
 
 returns : tie.Need-returns
-returns c = line-stops (field-answers _ _ (c .before .before .before .field-check .ensures)) (c .before .k .given .1)
+returns c = line-halts (field-answers _ _ (field-missing _ _ (c .before .before .before .before .before .before .before .slot .ensures .1) (c .before .before .before .before .before .x .given .1) (c .before .before .field .ensures .1) (sym (c .before .is-absent .ensures) ∙ c .if1 .taken))) refl
+
+is-foreign-requires : tie.Need-is-foreign-requires
+is-foreign-requires c κs = (search needs, object-in-table _ _ (c .before .before .before .before .before .before .x .given .1) (c .before .before .before .before .before .before .before .before .slot .ensures .0 .1))
 
 same-length-2 : tie.Need-same-length-2
 same-length-2 c = search needs
 
 returns-2 : tie.Need-returns-2
-returns-2 c = line-waits (field-answers _ _ (c .before .before .field-check .ensures)) (c .enum-told .given .1)
+returns-2 c = line-halts (field-answers _ _ (field-of-foreign _ _ (c .before .before .before .before .before .before .before .before .before .before .slot .ensures .1) (c .before .before .before .before .before .before .before .before .x .given .1) (c .before .before .before .before .before .field .ensures .1) (sym (c .before .before .before .before .is-absent .ensures) ∙ c .before .before .before .if1 .left) (c .before .is-foreign .ensures) (c .if2 .taken))) refl
+
+is-iso-object-requires : tie.Need-is-iso-object-requires
+is-iso-object-requires c κs = search needs
 
 same-length-3 : tie.Need-same-length-3
 same-length-3 c = search needs
 
 returns-3 : tie.Need-returns-3
-returns-3 c =
-    line-moves (field-answers _ _ (c .before .before .before .before .before .before .before .before .before .field-check .ensures)) (c .before .before .before .before .before .before .before .enum-told2 .given .1)
-    (field-writes _ _ (c .before .before .before .before .before .slot .ensures .1) (c .before .before .before .before .number-of .ensures .0) (c .before .before .give-field .ensures))
+returns-3 c = line-halts (field-answers _ _ (field-iso _ _ (c .before .before .before .before .before .before .before .before .before .before .before .before .before .slot .ensures .1) (c .before .before .before .before .before .before .before .before .before .before .before .x .given .1) (c .before .before .before .before .before .before .before .before .field .ensures .1) (sym (c .before .before .before .before .before .before .before .is-absent .ensures) ∙ c .before .before .before .before .before .before .if1 .left) (c .before .before .before .before .is-foreign .ensures) (c .before .before .before .if2 .left) (c .before .is-iso-object .ensures) (c .if3 .taken))) refl
+
+give-field-requires : tie.Need-give-field-requires
+give-field-requires c κs = (search needs, search needs, object-in-table _ _ (c .before .before .before .before .before .before .before .before .before .before .before .before .x .given .1) (c .before .before .before .before .before .before .before .before .before .before .before .before .before .before .slot .ensures .0 .1), search needs)
+
+same-length-4 : tie.Need-same-length-4
+same-length-4 c = search needs
+
+returns-4 : tie.Need-returns-4
+returns-4 c = line-halts (field-answers _ _ (field-no-target _ _ (c .before .before .slot .ensures .1) (c .enum-told .given .1))) refl
+
+same-length-5 : tie.Need-same-length-5
+same-length-5 c = search needs
+
+returns-5 : tie.Need-returns-5
+returns-5 c = line-halts (field-answers _ _ (field-of-channel _ _ (c .before .before .slot .ensures .1) (c .enum-told2 .given .1))) refl
+
+same-length-6 : tie.Need-same-length-6
+same-length-6 c = search needs
+
+returns-6 : tie.Need-returns-6
+returns-6 c =
+    line-moves (field-answers _ _ (field-passes _ _ (c .before .before .before .before .before .before .before .before .before .before .before .before .before .before .before .before .before .slot .ensures .1) (c .before .before .before .before .before .before .before .before .before .before .before .before .before .before .before .x .given .1) (c .before .before .before .before .before .before .before .before .before .before .before .before .field .ensures .1) (sym (c .before .before .before .before .before .before .before .before .before .before .before .is-absent .ensures) ∙ c .before .before .before .before .before .before .before .before .before .before .if1 .left) (c .before .before .before .before .before .before .before .before .is-foreign .ensures) (c .before .before .before .before .before .before .before .if2 .left) (c .before .before .before .before .before .is-iso-object .ensures) (c .before .before .before .before .if3 .left))) refl
+    (field-writes _ (c .before .before .give-field .ensures) _ (c .before .before .before .before .before .before .before .before .before .before .before .before .before .before .before .before .before .slot .ensures .1) (c .before .before .before .before .before .before .before .before .before .before .before .before .before .before .before .x .given .1))
 
 pub field-line-spec : {M : Type 1} → statement M
 field-line-spec =
     tie.close
     (tie.spec
-    field-check-requires
-    enum-known-k
+    slot-requires
     enum-told
     enum-told-2
-    slot-requires
-    number-of-requires
-    give-field-requires
+    enum-known-x
+    field-requires
+    is-absent-requires
     same-length
     returns
+    is-foreign-requires
     same-length-2
     returns-2
+    is-iso-object-requires
     same-length-3
-    returns-3)
+    returns-3
+    give-field-requires
+    same-length-4
+    returns-4
+    same-length-5
+    returns-5
+    same-length-6
+    returns-6)

@@ -1,15 +1,34 @@
--- `turn::lines::put_line` meets its contract: its check is the line's; the message is put, then the operand's slot is left.
-use Rattle.turn.proofs.Steps.{line-stops, line-waits, line-moves}
+-- `turn::lines::put_line` meets its contract: past its operand and its target the check is `put_into`'s; the message is put, then the operand's slot is left.
+use borrow.Author.Tests.{not-true, not-false}
+use mathlib.Core.Path.{refl, sym, _∙_}
+use Rattle.table.proofs.StateReads.{channel-in-table}
+use Rattle.checks.proofs.ChannelChecks.{put-no-operand, put-no-target, put-of-object, put-to-channel}
+use Rattle.turn.proofs.Steps.{line-halts, line-moves}
 use Rattle.turn.proofs.SendLines.{put-answers, put-writes}
 use borrow.Author.Needs.{needs}
 use Rattle.turn.proofs.lines.put_line.Statement.{statement}
 use Rattle.turn.proofs.lines.put_line.Tie as tie
 
-put-check-requires : tie.Need-put-check-requires
-put-check-requires c κs = search needs
+operand-check-requires : tie.Need-operand-check-requires
+operand-check-requires c κs = search needs
 
-enum-known-k : tie.Need-enum-known-k
-enum-known-k c = search needs
+passes-requires : tie.Need-passes-requires
+passes-requires c κs = search needs
+
+same-length : tie.Need-same-length
+same-length c = search needs
+
+returns : tie.Need-returns
+returns c = line-halts (put-answers _ _ (put-no-operand _ _ (c .before .before .operand-check .ensures) (sym (c .before .passes .ensures) ∙ not-true _ (c .if1 .taken)))) (sym (c .before .passes .ensures) ∙ not-true _ (c .if1 .taken))
+
+slot-of-requires : tie.Need-slot-of-requires
+slot-of-requires c κs = search needs
+
+slot-requires : tie.Need-slot-requires
+slot-requires c κs = search needs
+
+seen-requires : tie.Need-seen-requires
+seen-requires c κs = search needs
 
 enum-told : tie.Need-enum-told
 enum-told c = search needs
@@ -17,57 +36,74 @@ enum-told c = search needs
 enum-told-2 : tie.Need-enum-told-2
 enum-told-2 c = search needs
 
-slot-requires : tie.Need-slot-requires
-slot-requires c κs = search needs
+enum-known-x : tie.Need-enum-known-x
+enum-known-x c = search needs
 
-number-of-requires : tie.Need-number-of-requires
-number-of-requires c κs = search needs
+put-into-requires : tie.Need-put-into-requires
+put-into-requires c κs = (search needs, channel-in-table _ _ (c .before .before .x .given .1) (c .before .before .before .before .seen .ensures .0), c .before .before .before .before .before .before .slot .ensures .0 .1)
 
-slot-of-requires : tie.Need-slot-of-requires
-slot-of-requires c κs = search needs
-
-put-message-requires : tie.Need-put-message-requires
-put-message-requires c κs = search needs
-
-leave-requires : tie.Need-leave-requires
-leave-requires c κs = search needs
-
-same-length : tie.Need-same-length
-same-length c = search needs
-
-returns : tie.Need-returns
-returns c = line-stops (put-answers _ _ (c .before .before .before .put-check .ensures)) (c .before .k .given .1)
+passes-requires-2 : tie.Need-passes-requires-2
+passes-requires-2 c κs = search needs
 
 same-length-2 : tie.Need-same-length-2
 same-length-2 c = search needs
 
 returns-2 : tie.Need-returns-2
-returns-2 c = line-waits (put-answers _ _ (c .before .before .put-check .ensures)) (c .enum-told .given .1)
+returns-2 c = line-halts (put-answers _ _ (put-to-channel _ _ (c .before .before .before .before .before .before .before .before .before .before .before .before .before .before .operand-check .ensures) (sym (c .before .before .before .before .before .before .before .before .before .before .before .before .before .passes .ensures) ∙ not-false _ (c .before .before .before .before .before .before .before .before .before .before .before .before .if1 .left)) (c .before .before .before .before .before .before .before .seen .ensures .1) (c .before .before .before .before .before .x .given .1) (c .before .before .before .before .before .before .before .before .before .before .slot-of .ensures .0) (c .before .before .before .before .before .before .before .before .before .slot .ensures .1) (c .before .before .put-into .ensures))) (sym (c .before .passes2 .ensures) ∙ not-true _ (c .if2 .taken))
+
+slot-of-requires-2 : tie.Need-slot-of-requires-2
+slot-of-requires-2 c κs = search needs
+
+put-message-requires : tie.Need-put-message-requires
+put-message-requires c κs = (search needs, search needs, channel-in-table _ _ (c .before .before .before .before .before .before .before .x .given .1) (c .before .before .before .before .before .before .before .before .before .seen .ensures .0), c .slot-of2 .ensures .1)
+
+leave-requires : tie.Need-leave-requires
+leave-requires c κs = search needs
 
 same-length-3 : tie.Need-same-length-3
 same-length-3 c = search needs
 
 returns-3 : tie.Need-returns-3
-returns-3 c =
-    line-moves (put-answers _ _ (c .before .before .before .before .before .before .before .before .before .before .before .before .before .before .put-check .ensures)) (c .before .before .before .before .before .before .before .before .before .before .before .before .enum-told2 .given .1)
-    (put-writes _ _ (c .before .before .before .before .before .before .before .before .before .before .slot .ensures .1) (c .before .before .before .before .before .before .before .before .before .number-of .ensures .0) (c .before .before .before .before .before .before .before .slot-of .ensures .0) (c .before .before .before .before .before .before .put-message .ensures) (c .before .before .leave .ensures))
+returns-3 c = line-halts (put-answers _ _ (put-no-target _ _ (c .before .before .before .before .before .before .before .before .before .operand-check .ensures) (sym (c .before .before .before .before .before .before .before .before .passes .ensures) ∙ not-false _ (c .before .before .before .before .before .before .before .if1 .left)) (c .before .before .seen .ensures .1) (c .enum-told .given .1))) refl
+
+same-length-4 : tie.Need-same-length-4
+same-length-4 c = search needs
+
+returns-4 : tie.Need-returns-4
+returns-4 c = line-halts (put-answers _ _ (put-of-object _ _ (c .before .before .before .before .before .before .before .before .before .operand-check .ensures) (sym (c .before .before .before .before .before .before .before .before .passes .ensures) ∙ not-false _ (c .before .before .before .before .before .before .before .if1 .left)) (c .before .before .seen .ensures .1) (c .enum-told2 .given .1))) refl
+
+same-length-5 : tie.Need-same-length-5
+same-length-5 c = search needs
+
+returns-5 : tie.Need-returns-5
+returns-5 c =
+    line-moves {k = c .before .before .before .before .before .before .before .before .before .before .before .put-into .result} (put-answers _ _ (put-to-channel _ _ (c .before .before .before .before .before .before .before .before .before .before .before .before .before .before .before .before .before .before .before .before .before .before .before .operand-check .ensures) (sym (c .before .before .before .before .before .before .before .before .before .before .before .before .before .before .before .before .before .before .before .before .before .before .passes .ensures) ∙ not-false _ (c .before .before .before .before .before .before .before .before .before .before .before .before .before .before .before .before .before .before .before .before .before .if1 .left)) (c .before .before .before .before .before .before .before .before .before .before .before .before .before .before .before .before .seen .ensures .1) (c .before .before .before .before .before .before .before .before .before .before .before .before .before .before .x .given .1) (c .before .before .before .before .before .before .before .before .before .before .before .before .before .before .before .before .before .before .before .slot-of .ensures .0) (c .before .before .before .before .before .before .before .before .before .before .before .before .before .before .before .before .before .before .slot .ensures .1) (c .before .before .before .before .before .before .before .before .before .before .before .put-into .ensures))) (sym (c .before .before .before .before .before .before .before .before .before .before .passes2 .ensures) ∙ not-false _ (c .before .before .before .before .before .before .before .before .before .if2 .left))
+    (put-writes _ _ (c .before .before .before .before .before .before .before .before .before .before .before .before .before .before .before .before .seen .ensures .1) (c .before .before .before .before .before .before .before .before .before .before .before .before .before .before .x .given .1) (c .before .before .before .before .before .before .before .slot-of2 .ensures .0) (c .before .before .before .before .before .before .put-message .ensures) (c .before .before .leave .ensures))
 
 pub put-line-spec : {M : Type 1} → statement M
 put-line-spec =
     tie.close
     (tie.spec
-    put-check-requires
-    enum-known-k
-    enum-told
-    enum-told-2
-    slot-requires
-    number-of-requires
-    slot-of-requires
-    put-message-requires
-    leave-requires
+    operand-check-requires
+    passes-requires
     same-length
     returns
+    slot-of-requires
+    slot-requires
+    seen-requires
+    enum-told
+    enum-told-2
+    enum-known-x
+    put-into-requires
+    passes-requires-2
     same-length-2
     returns-2
+    slot-of-requires-2
+    put-message-requires
+    leave-requires
     same-length-3
-    returns-3)
+    returns-3
+    same-length-4
+    returns-4
+    same-length-5
+    returns-5)

@@ -11,32 +11,23 @@ part-requires c κs = search needs
 part-requires-2 : tie.Need-part-requires-2
 part-requires-2 c κs = search needs
 
-part-requires-3 : tie.Need-part-requires-3
-part-requires-3 c κs = search needs
-
 give-line-requires : tie.Need-give-line-requires
 give-line-requires c κs = search needs
+
+part-requires-3 : tie.Need-part-requires-3
+part-requires-3 c κs = search needs
 
 value-line-requires : tie.Need-value-line-requires
 value-line-requires c κs = search needs
 
-field-line-requires : tie.Need-field-line-requires
-field-line-requires c κs = search needs
-
 part-requires-4 : tie.Need-part-requires-4
 part-requires-4 c κs = search needs
-
-swap-line-requires : tie.Need-swap-line-requires
-swap-line-requires c κs = search needs
 
 part-requires-5 : tie.Need-part-requires-5
 part-requires-5 c κs = search needs
 
-call-line-requires : tie.Need-call-line-requires
-call-line-requires c κs = search needs
-
-cap-of-requires : tie.Need-cap-of-requires
-cap-of-requires c κs = search needs
+field-line-requires : tie.Need-field-line-requires
+field-line-requires c κs = search needs
 
 part-requires-6 : tie.Need-part-requires-6
 part-requires-6 c κs = search needs
@@ -47,122 +38,151 @@ part-requires-7 c κs = search needs
 part-requires-8 : tie.Need-part-requires-8
 part-requires-8 c κs = search needs
 
+swap-line-requires : tie.Need-swap-line-requires
+swap-line-requires c κs = search needs
+
 part-requires-9 : tie.Need-part-requires-9
 part-requires-9 c κs = search needs
+
+part-requires-10 : tie.Need-part-requires-10
+part-requires-10 c κs = search needs
+
+part-requires-11 : tie.Need-part-requires-11
+part-requires-11 c κs = search needs
+
+call-line-requires : tie.Need-call-line-requires
+call-line-requires c κs = search needs
+
+part-requires-12 : tie.Need-part-requires-12
+part-requires-12 c κs = search needs
+
+cap-of-requires : tie.Need-cap-of-requires
+cap-of-requires c κs = search needs
+
+part-requires-13 : tie.Need-part-requires-13
+part-requires-13 c κs = search needs
+
+part-requires-14 : tie.Need-part-requires-14
+part-requires-14 c κs = search needs
+
+part-requires-15 : tie.Need-part-requires-15
+part-requires-15 c κs = search needs
+
+part-requires-16 : tie.Need-part-requires-16
+part-requires-16 c κs = search needs
+
+part-requires-17 : tie.Need-part-requires-17
+part-requires-17 c κs = search needs
 
 new-line-requires : tie.Need-new-line-requires
 new-line-requires c κs = search needs
 
+part-requires-18 : tie.Need-part-requires-18
+part-requires-18 c κs = search needs
+
 cap-of-requires-2 : tie.Need-cap-of-requires-2
 cap-of-requires-2 c κs = search needs
+
+part-requires-19 : tie.Need-part-requires-19
+part-requires-19 c κs = search needs
 
 cast-line-requires : tie.Need-cast-line-requires
 cast-line-requires c κs = search needs
 
+part-requires-20 : tie.Need-part-requires-20
+part-requires-20 c κs = search needs
+
 spawn-line-requires : tie.Need-spawn-line-requires
 spawn-line-requires c κs = search needs
 
+part-requires-21 : tie.Need-part-requires-21
+part-requires-21 c κs = search needs
+
+part-requires-22 : tie.Need-part-requires-22
+part-requires-22 c κs = search needs
+
 send-line-requires : tie.Need-send-line-requires
 send-line-requires c κs = search needs
+
+part-requires-23 : tie.Need-part-requires-23
+part-requires-23 c κs = search needs
 
 recv-line-requires : tie.Need-recv-line-requires
 recv-line-requires c κs = search needs
 
 returns : tie.Need-returns
-returns c = no-other-form (c .before .before .before .part .ensures) λ least most. omega (arith, c .match .keys1, least)
+returns c = no-other-form (c .before .part .ensures) λ least most. omega (arith, c .match .keys1, least)
 
 returns-2 : tie.Need-returns-2
-returns-2 c = no-other-form (c .before .before .before .part .ensures) λ least most. omega (arith, c .match .keys2, least)
+returns-2 c = no-other-form (c .before .part .ensures) λ least most. omega (arith, c .match .keys2, least)
 
 returns-3 : tie.Need-returns-3
-returns-3 c = no-other-form (c .before .before .before .part .ensures) λ least most. omega (arith, c .match .keys3, least)
+returns-3 c = no-other-form (c .before .part .ensures) λ least most. omega (arith, c .match .keys3, least)
 
 same-length : tie.Need-same-length
 same-length c = search needs
 
 returns-4 : tie.Need-returns-4
-returns-4 c =
-    let at = c .before .before .before .before in
-    performs-here (tells-give (at .before .before .before .part .ensures) (at .before .before .part2 .ensures) (at .match .keys4)) (c .before .before .give-line .ensures)
+returns-4 c = performs-here (tells-give (c .before .before .before .before .before .before .part .ensures) (c .before .before .before .part2 .ensures) (c .before .before .before .before .before .match .keys4)) (c .before .before .give-line .ensures)
 
 same-length-2 : tie.Need-same-length-2
 same-length-2 c = search needs
 
 returns-5 : tie.Need-returns-5
-returns-5 c =
-    let at = c .before .before .before .before in
-    performs-here (tells-value (at .before .before .before .part .ensures) (at .before .before .part2 .ensures) (at .match .keys5)) (c .before .before .value-line .ensures)
+returns-5 c = performs-here (tells-value (c .before .before .before .before .before .before .part .ensures) (c .before .before .before .part3 .ensures) (c .before .before .before .before .before .match .keys5)) (c .before .before .value-line .ensures)
 
 same-length-3 : tie.Need-same-length-3
 same-length-3 c = search needs
 
 returns-6 : tie.Need-returns-6
-returns-6 c =
-    let at = c .before .before .before .before in
-    performs-here (tells-field (at .before .before .before .part .ensures) (at .before .before .part2 .ensures) (at .before .part3 .ensures) (at .match .keys6)) (c .before .before .field-line .ensures)
+returns-6 c = performs-here (tells-field (c .before .before .before .before .before .before .before .part .ensures) (c .before .before .before .before .part4 .ensures) (c .before .before .before .part5 .ensures) (c .before .before .before .before .before .before .match .keys6)) (c .before .before .field-line .ensures)
 
 same-length-4 : tie.Need-same-length-4
 same-length-4 c = search needs
 
 returns-7 : tie.Need-returns-7
-returns-7 c =
-    let at = c .before .before .before .before .before in
-    performs-here (tells-swap (at .before .before .before .part .ensures) (at .before .before .part2 .ensures) (at .before .part3 .ensures) (c .before .before .before .part4 .ensures) (at .match .keys7)) (c .before .before .swap-line .ensures)
+returns-7 c = performs-here (tells-swap (c .before .before .before .before .before .before .before .before .part .ensures) (c .before .before .before .before .before .part6 .ensures) (c .before .before .before .before .part7 .ensures) (c .before .before .before .part8 .ensures) (c .before .before .before .before .before .before .before .match .keys7)) (c .before .before .swap-line .ensures)
 
 same-length-5 : tie.Need-same-length-5
 same-length-5 c = search needs
 
 returns-8 : tie.Need-returns-8
-returns-8 c =
-    let at = c .before .before .before .before .before in
-    performs-loaded (λ P S loaded. loaded) (tells-call (at .before .before .before .part .ensures) (at .before .before .part2 .ensures) (at .before .part3 .ensures) (c .before .before .before .part5 .ensures) (at .match .keys8)) (c .before .before .call-line .ensures)
+returns-8 c = performs-loaded (λ P S loaded. loaded) (tells-call (c .before .before .before .before .before .before .before .before .part .ensures) (c .before .before .before .before .before .part9 .ensures) (c .before .before .before .before .part10 .ensures) (c .before .before .before .part11 .ensures) (c .before .before .before .before .before .before .before .match .keys8)) (c .before .before .call-line .ensures)
 
 same-length-6 : tie.Need-same-length-6
 same-length-6 c = search needs
 
 returns-9 : tie.Need-returns-9
-returns-9 c =
-    let at = c .before .before .before .before .before .before .before .before .before in
-    performs-new (at .before .before .before .part .ensures) (at .before .before .part2 .ensures) (at .before .part3 .ensures) (c .before .before .before .before .before .before .before .cap-of .ensures)
-    (c .before .before .before .before .before .before .part6 .ensures) (c .before .before .before .before .before .part7 .ensures) (c .before .before .before .before .part8 .ensures) (c .before .before .before .part9 .ensures)
-    (at .match .keys9) (c .before .before .new-line .ensures)
+returns-9 c = performs-new (c .before .before .before .before .before .before .before .before .before .before .before .before .part .ensures) (c .before .before .before .before .before .before .before .before .before .part12 .ensures) (c .before .before .before .before .before .before .before .part13 .ensures) (c .before .before .before .before .before .before .before .before .cap-of .ensures) (c .before .before .before .before .before .before .part14 .ensures) (c .before .before .before .before .before .part15 .ensures) (c .before .before .before .before .part16 .ensures) (c .before .before .before .part17 .ensures) (c .before .before .before .before .before .before .before .before .before .before .before .match .keys9) (c .before .before .new-line .ensures)
 
 same-length-7 : tie.Need-same-length-7
 same-length-7 c = search needs
 
 returns-10 : tie.Need-returns-10
-returns-10 c =
-    let at = c .before .before .before .before .before in
-    performs-here (tells-cast (at .before .before .before .part .ensures) (at .before .before .part2 .ensures) (at .before .part3 .ensures) (c .before .before .before .cap-of2 .ensures) (at .match .keys10)) (c .before .before .cast-line .ensures)
+returns-10 c = performs-here (tells-cast (c .before .before .before .before .before .before .before .before .part .ensures) (c .before .before .before .before .before .part18 .ensures) (c .before .before .before .part19 .ensures) (c .before .before .before .before .cap-of2 .ensures) (c .before .before .before .before .before .before .before .match .keys10)) (c .before .before .cast-line .ensures)
 
 same-length-8 : tie.Need-same-length-8
 same-length-8 c = search needs
 
 returns-11 : tie.Need-returns-11
-returns-11 c =
-    let at = c .before .before .before .before in
-    performs-here (tells-spawn (at .before .before .before .part .ensures) (at .before .before .part2 .ensures) (at .match .keys11)) (c .before .before .spawn-line .ensures)
+returns-11 c = performs-here (tells-spawn (c .before .before .before .before .before .before .part .ensures) (c .before .before .before .part20 .ensures) (c .before .before .before .before .before .match .keys11)) (c .before .before .spawn-line .ensures)
 
 same-length-9 : tie.Need-same-length-9
 same-length-9 c = search needs
 
 returns-12 : tie.Need-returns-12
-returns-12 c =
-    let at = c .before .before .before .before in
-    performs-here (tells-send (at .before .before .before .part .ensures) (at .before .before .part2 .ensures) (at .before .part3 .ensures) (at .match .keys12)) (c .before .before .send-line .ensures)
+returns-12 c = performs-here (tells-send (c .before .before .before .before .before .before .before .part .ensures) (c .before .before .before .before .part21 .ensures) (c .before .before .before .part22 .ensures) (c .before .before .before .before .before .before .match .keys12)) (c .before .before .send-line .ensures)
 
 same-length-10 : tie.Need-same-length-10
 same-length-10 c = search needs
 
 returns-13 : tie.Need-returns-13
-returns-13 c =
-    let at = c .before .before .before .before in
-    performs-here (tells-recv (at .before .before .before .part .ensures) (at .before .before .part2 .ensures) (at .match .keys13)) (c .before .before .recv-line .ensures)
+returns-13 c = performs-here (tells-recv (c .before .before .before .before .before .before .part .ensures) (c .before .before .before .part23 .ensures) (c .before .before .before .before .before .match .keys13)) (c .before .before .recv-line .ensures)
 
 returns-14 : tie.Need-returns-14
 returns-14 c =
     let left = c .match .rest in
-    no-form-left (c .before .before .before .part .ensures)
+    no-form-left (c .before .part .ensures)
     (left .0 .0 .0 .0 .0 .0 .0 .0 .0 .1) (left .0 .0 .0 .0 .0 .0 .0 .0 .1) (left .0 .0 .0 .0 .0 .0 .0 .1) (left .0 .0 .0 .0 .0 .0 .1) (left .0 .0 .0 .0 .0 .1)
     (left .0 .0 .0 .0 .1) (left .0 .0 .0 .1) (left .0 .0 .1) (left .0 .1) (left .1)
 
@@ -172,24 +192,38 @@ perform-spec =
     (tie.spec
     part-requires
     part-requires-2
-    part-requires-3
     give-line-requires
+    part-requires-3
     value-line-requires
-    field-line-requires
     part-requires-4
-    swap-line-requires
     part-requires-5
-    call-line-requires
-    cap-of-requires
+    field-line-requires
     part-requires-6
     part-requires-7
     part-requires-8
+    swap-line-requires
     part-requires-9
+    part-requires-10
+    part-requires-11
+    call-line-requires
+    part-requires-12
+    cap-of-requires
+    part-requires-13
+    part-requires-14
+    part-requires-15
+    part-requires-16
+    part-requires-17
     new-line-requires
+    part-requires-18
     cap-of-requires-2
+    part-requires-19
     cast-line-requires
+    part-requires-20
     spawn-line-requires
+    part-requires-21
+    part-requires-22
     send-line-requires
+    part-requires-23
     recv-line-requires
     returns
     returns-2

@@ -1,0 +1,303 @@
+//! Inputs that are written out: the bench cases, every number that boxrun can show, turns lines with faults, and long inputs. Each has the
+//! first line that document 01 settles for it.
+
+use second::numbers::{MOST_INPUT, MOST_TEXT};
+
+pub struct Fixed {
+    pub name: String,
+    pub input: Vec<u8>,
+    pub first_line: String,
+}
+
+const KIND: &str = "(kind (fields 0) (does))\n";
+const ONE_FIELD: &str = "(kind (fields 1) (does))\n";
+const SMALL: &str = "(thread)\n(give (read 0))\n";
+const A: &str = "(kind (fields 0) (does))\n(thread)\n(let (spawn 1))\n(let (new iso 0))\n(let (send 1 (take 2)))\n(give (read 1))\n\
+                 (thread)\n(let (recv 0))\n(give (take 1))\n";
+
+fn fixed(name: &str, script: &str, turns: &str, first_line: &str) -> Fixed {
+    Fixed {
+        name: name.to_string(),
+        input: format!("{}(turns{})\n", script, turns).into_bytes(),
+        first_line: first_line.to_string(),
+    }
+}
+
+/// Two kinds, the second with one field, and one thread of these lets.
+fn lets(all: &[&str], give: &str) -> String {
+    let lets: String = all.iter().map(|expr| format!("(let {})\n", expr)).collect();
+    [KIND, ONE_FIELD, "(thread)\n", &lets, "(give ", give, ")\n"].concat()
+}
+
+/// Cases A to I of document 01, with the numbers of their text.
+fn cases_a_to_i() -> Vec<Fixed> {
+    let d = |cap: &str| lets(&[&format!("(new {} 0)", cap)], "(read 1)");
+    let f = |cap: &str| {
+        lets(
+            &["(new imm 0)", &format!("(cast {} (read 1))", cap)],
+            "(read 1)",
+        )
+    };
+    let h = |cap: &str, value: &str| {
+        lets(
+            &[
+                &format!("(new {} 0)", cap),
+                &format!("(new imm 1 ({} 1))", value),
+            ],
+            "(take 2)",
+        )
+    };
+    let g = [
+        "(new unsafe 0)",
+        "(new unsafe 1 (read 1))",
+        "(swap 2 0 (take 2))",
+    ];
+    let i =
+        "(thread)\n(let (spawn 1))\n(let (recv 1))\n(give (read 1))\n(thread)\n(give (read 0))\n";
+    vec![
+        fixed("A", A, " 0 0 0 1 0", "(end open 5)"),
+        fixed("B", "", "", "(refused 7 0)"),
+        fixed("C", SMALL, " 0", "(stopped 10 0 0 0 0)"),
+        fixed("C, no turns", SMALL, "", "(end open 0)"),
+        fixed("D", &d("iso"), " 0 0", "(stopped 14 0 0 1 1)"),
+        fixed("D, stripped", &d("unsafe"), " 0 0", "(end finished 2)"),
+        fixed(
+            "E",
+            &lets(&["(new iso 0)"], "(take 1)"),
+            " 0 0",
+            "(end finished 2)",
+        ),
+        fixed("F, iso", &f("iso"), " 0 0", "(stopped 15 0 0 1 1)"),
+        fixed("F, imm", &f("imm"), " 0 0", "(end open 2)"),
+        fixed("G", &lets(&g, "(read 1)"), " 0 0 0", "(stopped 10 0 0 2 2)"),
+        fixed("H, iso", &h("iso", "take"), " 0 0", "(stopped 14 0 0 1 1)"),
+        fixed("H, imm", &h("imm", "read"), " 0 0", "(end open 2)"),
+        fixed("I", i, " 0 1 0", "(end stuck 2)"),
+    ]
+}
+
+/// 1 object, then 196 by the first method, 56 by four calls of the second, 3 more, and the 257th.
+fn many_objects() -> String {
+    let calls = "(let (call 0 1 (read 1)))\n".repeat(14);
+    let news = "(let (new imm 0))\n".repeat(14);
+    format!(
+        "(kind (fields 0) (does 1 2))\n(thread)\n(let (new imm 0))\n(let (call 1 0 (read 1)))\n{}{}(give (read 1))\n\
+         (method)\n{}(give (read 1))\n(method)\n{}(give (read 1))\n",
+        "(let (call 1 1 (read 1)))\n".repeat(4),
+        "(let (new imm 0))\n".repeat(4),
+        calls,
+        news
+    )
+}
+
+fn case_j() -> Vec<Fixed> {
+    let many = |count: usize| lets(&vec!["(new imm 0)"; count], "(read 1)");
+    let field = |number: &str| lets(&[&format!("(field 0 {})", number)], "(read 0)");
+    let moves = 1 + (1 + 14 * 16 + 1) + 4 * 16 + 3;
+    let turns = |count: usize| " 0".repeat(count);
+    vec![
+        fixed("J, 15 lets", &many(15), "", "(end open 0)"),
+        fixed("J, 16 lets", &many(16), "", "(refused 4 18)"),
+        fixed("J, field 255", &field("255"), "", "(end open 0)"),
+        fixed("J, field 256", &field("256"), "", "(refused 4 3)"),
+        fixed("J, field 007", &field("007"), "", "(refused 3 3)"),
+        fixed(
+            "J, 256 objects",
+            &many_objects(),
+            &turns(moves),
+            &format!("(end open {})", moves),
+        ),
+        fixed(
+            "J, 257 objects",
+            &many_objects(),
+            &turns(moves + 1),
+            &format!("(stopped 16 0 0 9 {})", moves),
+        ),
+    ]
+}
+
+/// Every number but 9 and 17; 16 for frames and threads, as case J has it for objects.
+fn numbers() -> Vec<Fixed> {
+    let imm = |expr: &str| lets(&["(new imm 0)", expr], "(read 1)");
+    let down = "(kind (fields 0) (does 1))\n(thread)\n(let (new imm 0))\n(let (call 1 0 (read 1)))\n(give (read 1))\n\
+                (method)\n(let (call 0 0 (read 1)))\n(give (read 1))\n";
+    let spawns = format!(
+        "(thread)\n{}(give (read 1))\n",
+        "(let (spawn 0))\n".repeat(15)
+    );
+    vec![
+        fixed("2", "(thread)\n(give (Read 0))\n", "", "(refused 2 1)"),
+        fixed("3", "(thread)\n(give  (read 0))\n", "", "(refused 3 1)"),
+        fixed(
+            "4",
+            "(thread)\n(let (spawn 256))\n(give (read 0))\n",
+            "",
+            "(refused 4 1)",
+        ),
+        fixed("5", "(thread)\n(give (read 1))\n", "", "(refused 5 1)"),
+        fixed(
+            "6",
+            &format!("{}(method)\n(give (take 0))\n", SMALL),
+            "",
+            "(refused 6 3)",
+        ),
+        fixed("7", "(thread)\n(let (read 0))\n", "", "(refused 7 2)"),
+        fixed(
+            "8",
+            "(thread)\n(let (spawn 1))\n(give (read 0))\n",
+            "",
+            "(refused 8 1)",
+        ),
+        fixed("11", &imm("(field 1 0)"), " 0 0", "(stopped 11 0 0 1 1)"),
+        fixed(
+            "12",
+            &imm("(call 1 0 (read 1))"),
+            " 0 0",
+            "(stopped 12 0 0 1 1)",
+        ),
+        fixed("13", &imm("(recv 1)"), " 0 0", "(stopped 13 0 0 1 1)"),
+        fixed(
+            "16, frames",
+            down,
+            &" 0".repeat(17),
+            "(stopped 16 0 1 0 16)",
+        ),
+        fixed(
+            "16, threads",
+            &spawns,
+            &format!("{} 1", " 0".repeat(15)),
+            "(stopped 16 1 0 0 15)",
+        ),
+    ]
+}
+
+#[rustfmt::skip]
+const BAD_TURNS: &[&str] = &[
+    "", "(", ")", "()", "(turns", "(turns ", "(turns )", "(turns  0)", "(turns 0 )", "(turns 0", "(turns 0))", "(turns 00)", "(turns 01)",
+    "(turns 007)", "(turns 1000)", "(turns 0256)", "(turns a)", "(turn 0)", "(turnss 0)", "turns 0", "(turns0)", "(turns (0))", "(turns 0) ",
+    " (turns 0)", "(Turns 0)", "(turns 0;)", "(turns 0\t1)", "(turns 0\r)", "(turns -1)", "(turns 256 007)", "(turns 256 ?)", "(give (read 0))",
+];
+
+/// Faults of the turns line come before the script's, with their line in the input.
+fn turns_lines() -> Vec<Fixed> {
+    let bad_script = "(thread)\n(give (Read 0))\n";
+    let named = |name: String, input: String, first_line: &str| Fixed {
+        name,
+        input: input.into_bytes(),
+        first_line: first_line.to_string(),
+    };
+    let mut all = Vec::new();
+    for line in BAD_TURNS {
+        for script in [SMALL, bad_script] {
+            all.push(named(
+                format!("{:?}", line),
+                format!("{}{}\n", script, line),
+                "(refused 3 2)",
+            ));
+        }
+        all.push(named(
+            format!("{:?} alone", line),
+            format!("{}\n", line),
+            "(refused 3 0)",
+        ));
+    }
+    for line in ["(turns 256)", "(turns 0 999 0)"] {
+        all.push(named(
+            line.to_string(),
+            format!("{}{}\n", bad_script, line),
+            "(refused 4 2)",
+        ));
+        all.push(named(
+            format!("{} without LF", line),
+            format!("{}{}", SMALL, line),
+            "(refused 3 2)",
+        ));
+    }
+    all.push(named(
+        "without LF".to_string(),
+        format!("{}(turns 0)", SMALL),
+        "(refused 3 2)",
+    ));
+    all.push(named(
+        "two LFs".to_string(),
+        format!("{}(turns 0)\n\n", SMALL),
+        "(refused 3 3)",
+    ));
+    all.push(named(
+        "empty input".to_string(),
+        String::new(),
+        "(refused 3 0)",
+    ));
+    all.push(fixed("idle turns", SMALL, " 1 15 16 255", "(end open 0)"));
+    all
+}
+
+/// A script of exactly 16,384 bytes: 18 kinds, 64 threads and 512 lets.
+fn longest_script() -> String {
+    let block = |short: usize| {
+        let lets: String = (0..8)
+            .map(|n| {
+                format!(
+                    "(let (swap 0 {} (read 0)))\n",
+                    if n < short { "25" } else { "255" }
+                )
+            })
+            .collect();
+        format!("(thread)\n{}(give (read 0))\n", lets)
+    };
+    [KIND.repeat(18), block(2), block(0).repeat(63)].concat()
+}
+
+fn long_inputs() -> Vec<Fixed> {
+    let bytes = |byte: u8, length: usize, first_line: &str| Fixed {
+        name: format!("{} bytes {}", length, byte),
+        input: vec![byte; length],
+        first_line: first_line.to_string(),
+    };
+    let turns = |last: &str| format!("{}{}", " 0".repeat(32_750), last);
+    let mut all = vec![
+        fixed("65,536 bytes", SMALL, &turns(" 10"), "(stopped 10 0 0 0 0)"),
+        fixed("65,537 bytes", SMALL, &turns(" 100"), "(refused 1 0)"),
+        fixed(
+            "65,536 bytes, all idle",
+            SMALL,
+            &turns(" 10").replace(" 0", " 1"),
+            "(end open 0)",
+        ),
+        fixed(
+            "16,384 bytes of script",
+            &longest_script(),
+            "",
+            "(end open 0)",
+        ),
+        fixed(
+            "16,385 bytes of script",
+            &format!("{}\n", longest_script()),
+            "",
+            "(refused 1 0)",
+        ),
+        fixed(
+            "a long script, bad turns",
+            &format!("{}\n", longest_script()),
+            " 007",
+            "(refused 3 659)",
+        ),
+    ];
+    for length in [MOST_INPUT + 1, MOST_INPUT + 2, 1_000_000] {
+        all.push(bytes(b'\n', length, "(refused 1 0)"));
+        all.push(bytes(0, length, "(refused 1 0)"));
+    }
+    all.push(bytes(b'\n', MOST_INPUT, "(refused 3 65535)"));
+    all.push(bytes(0, MOST_INPUT, "(refused 3 0)"));
+    all.push(bytes(b'(', MOST_TEXT + 1, "(refused 3 0)"));
+    all
+}
+
+pub fn all() -> Vec<Fixed> {
+    let mut all = cases_a_to_i();
+    all.extend(case_j());
+    all.extend(numbers());
+    all.extend(turns_lines());
+    all.extend(long_inputs());
+    all
+}

@@ -1,0 +1,471 @@
+/*
+ * The box as a C host sees it: answers, tables, refusals that keep every byte, and nothing read or written outside what is lent.
+ * All that is lent ends at the end of a page, and the pages around it cannot be touched, so that one byte too far faults; texts and
+ * turns stand on pages that cannot be written. The last line is 'N passed, M failed'.
+ */
+#define _DEFAULT_SOURCE
+#include <pthread.h>
+#include <stdarg.h>
+#include <stdint.h>
+#include <stdio.h>
+#include <stdlib.h>
+#include <string.h>
+#include <sys/mman.h>
+#include <unistd.h>
+
+#include "box.h"
+
+/* The numbers of document 01, written out once more; `constants` holds the header's to them. */
+enum { MOST_TEXT = 16384, MOST_TURNS = 32768, TABLE = 16384, LIST = 512, FILL = 0xa5, UNSET = 12345 };
+enum { FINISHED, STUCK, OPEN, STOPPED, REFUSED };
+
+static unsigned passed, failed;
+
+static void check(int holds, const char *form, ...)
+{
+    va_list values;
+    if (holds) {
+        passed++;
+        return;
+    }
+    failed++;
+    printf("failed: ");
+    va_start(values, form);
+    vprintf(form, values);
+    va_end(values);
+    putchar('\n');
+}
+
+/* ---- What is lent ---- */
+
+struct part { uint8_t *bytes; size_t length; };
+
+/* Bytes that end where a page ends, between pages that cannot be touched. */
+static struct part lend(size_t length)
+{
+    size_t page = (size_t)sysconf(_SC_PAGESIZE), room = (length + page - 1) / page * page;
+    uint8_t *all = mmap(NULL, room + 2 * page, PROT_NONE, MAP_PRIVATE | MAP_ANONYMOUS, -1, 0);
+    if (all == MAP_FAILED || (room > 0 && mprotect(all + page, room, PROT_READ | PROT_WRITE) != 0)) {
+        perror("lend");
+        exit(2);
+    }
+    struct part part = {all + page + room - length, length};
+    memset(part.bytes, FILL, length);
+    return part;
+}
+
+static void give_back(struct part part)
+{
+    size_t page = (size_t)sysconf(_SC_PAGESIZE), room = (part.length + page - 1) / page * page;
+    munmap(part.bytes + part.length - room - page, room + 2 * page);
+}
+
+/* The same bytes, where they cannot be written. */
+static struct part lend_fixed(const void *bytes, size_t length)
+{
+    struct part part = lend(length);
+    size_t page = (size_t)sysconf(_SC_PAGESIZE), room = (length + page - 1) / page * page;
+    if (length > 0) {
+        memcpy(part.bytes, bytes, length);
+        mprotect(part.bytes + length - room, room, PROT_READ);
+    }
+    return part;
+}
+
+static unsigned word(struct part table, size_t n) { return table.bytes[2 * n] | (unsigned)table.bytes[2 * n + 1] << 8; }
+
+/* Every byte from one on is as it was lent. */
+static int kept(struct part part, size_t from)
+{
+    for (size_t n = from; n < part.length; n++)
+        if (part.bytes[n] != FILL)
+            return 0;
+    return 1;
+}
+
+/* Every word from one to before another is zero. */
+static int zeros(struct part table, size_t from, size_t to)
+{
+    for (size_t n = from; n < to; n++)
+        if (word(table, n) != 0)
+            return 0;
+    return 1;
+}
+
+static int words_are(struct part table, size_t from, size_t count, const unsigned *words)
+{
+    for (size_t n = 0; n < count; n++)
+        if (word(table, from + n) != words[n])
+            return 0;
+    return 1;
+}
+
+/* A run's inputs and lent tables, with a list for the reach report. */
+struct lent { struct part text, turns, program, state, list; };
+
+static struct lent lend_all(const void *text, size_t text_len, const void *turns, size_t turns_len, size_t program, size_t state, size_t list)
+{
+    return (struct lent){lend_fixed(text, text_len), lend_fixed(turns, turns_len), lend(program), lend(state), lend(list)};
+}
+
+static struct lent lend_run(const char *text, const char *turns, size_t turns_len)
+{
+    return lend_all(text, strlen(text), turns, turns_len, TABLE, TABLE, LIST);
+}
+
+static void give_all_back(struct lent lent)
+{
+    give_back(lent.text);
+    give_back(lent.turns);
+    give_back(lent.program);
+    give_back(lent.state);
+    give_back(lent.list);
+}
+
+/* ---- The calls ---- */
+
+struct answer { uint16_t end; size_t number, thread, block, line, moves; };
+
+static struct answer run(struct lent l)
+{
+    struct answer a = {UNSET, UNSET, UNSET, UNSET, UNSET, UNSET};
+    a.end = box_run(l.text.bytes, l.text.length, l.turns.bytes, l.turns.length, l.program.bytes, l.program.length, l.state.bytes,
+                    l.state.length, &a.number, &a.thread, &a.block, &a.line, &a.moves);
+    return a;
+}
+
+static uint16_t reach(struct lent l, size_t thread, size_t *count, size_t *line)
+{
+    *count = *line = UNSET;
+    return box_reach(l.text.bytes, l.text.length, l.turns.bytes, l.turns.length, l.program.bytes, l.program.length, l.state.bytes,
+                     l.state.length, thread, l.list.bytes, l.list.length, count, line);
+}
+
+static int same(struct answer a, struct answer b)
+{
+    return a.end == b.end && a.number == b.number && a.thread == b.thread && a.block == b.block && a.line == b.line && a.moves == b.moves;
+}
+
+static void answers(const char *name, const char *text, const char *turns, size_t turns_len, struct answer expected)
+{
+    struct lent lent = lend_run(text, turns, turns_len);
+    struct answer a = run(lent);
+    check(same(a, expected), "%s: end %u, number %zu, thread %zu, block %zu, line %zu, moves %zu", name, a.end, a.number, a.thread, a.block,
+          a.line, a.moves);
+    check(zeros(lent.program, 5448, 8192) && zeros(lent.state, 6984, 8192), "%s: unused words are zero", name);
+    give_all_back(lent);
+}
+
+/* ---- Scripts ---- */
+
+#define KIND "(kind (fields 0) (does))\n"
+#define CASE_A KIND "(thread)\n(let (spawn 1))\n(let (new iso 0))\n(let (send 1 (take 2)))\n(give (read 1))\n(thread)\n(let (recv 0))\n(give (take 1))\n"
+#define CASE_D KIND "(thread)\n(let (new iso 0))\n(give (read 1))\n"
+#define CASE_E KIND "(thread)\n(let (new iso 0))\n(give (take 1))\n"
+#define CASE_I "(thread)\n(let (spawn 1))\n(let (recv 1))\n(give (read 1))\n(thread)\n(give (read 0))\n"
+#define IN_THREAD(lets) KIND "(thread)\n(let (new imm 0))\n" lets "(give (read 1))\n"
+
+static const char zero_turns[MOST_TURNS + 1];
+
+/* A script of exactly 16,384 bytes: 18 kinds, 64 threads and 512 lets. */
+static const char *longest(void)
+{
+    static char text[MOST_TEXT + 2];
+    size_t length = 0;
+    for (int n = 0; n < 18; n++)
+        length += (size_t)sprintf(text + length, KIND);
+    for (int block = 0; block < 64; block++) {
+        length += (size_t)sprintf(text + length, "(thread)\n");
+        for (int let = 0; let < 8; let++)
+            length += (size_t)sprintf(text + length, "(let (swap 0 %s (read 0)))\n", block == 0 && let < 2 ? "25" : "255");
+        length += (size_t)sprintf(text + length, "(give (read 0))\n");
+    }
+    check(length == MOST_TEXT, "the longest script has %zu bytes", length);
+    return text;
+}
+
+/* ---- The header ---- */
+
+static void constants(void)
+{
+    static const int ends[] = {BOX_FINISHED, BOX_STUCK, BOX_OPEN, BOX_STOPPED, BOX_REFUSED};
+    static const int numbers[] = {
+        BOX_OVERLONG, BOX_STRAY_BYTE, BOX_MALFORMED, BOX_OVER_COUNT, BOX_UNBOUND, BOX_SELF_TAKEN, BOX_UNFINISHED, BOX_DANGLING, BOX_SHORT_TABLE,
+        BOX_ABSENT, BOX_NO_FIELD, BOX_NO_METHOD, BOX_WRONG_THING, BOX_PERMISSION, BOX_CAST, BOX_USED_UP, BOX_NO_THREAD,
+    };
+    for (int n = 0; n < 5; n++)
+        check(ends[n] == n, "the header's end %d", n);
+    for (int n = 0; n < 17; n++)
+        check(numbers[n] == n + 1, "the header's number %d", n + 1);
+    check(BOX_TABLE_BYTES == TABLE && BOX_LIST_BYTES == LIST, "the header's lengths");
+    check(BOX_TEXT_MOST == MOST_TEXT && BOX_TURNS_MOST == MOST_TURNS, "the header's mosts");
+}
+
+/* ---- Answers and tables ---- */
+
+static void reading(void)
+{
+    static const unsigned head[] = {1, 2, 9, 0, 0, 0, 0, 0, 2, 7, 0};
+    static const unsigned lines[] = {1, 0, 0, 0, 0, 0, 0, 0,   2, 0, 0, 0, 0, 0, 0, 0,   11, 1, 0, 0, 0, 0, 0, 0,  9, 1, 0, 0, 0, 0, 0, 0,
+                                     12, 1, 5, 0, 0, 0, 0, 0,  4, 2, 0, 0, 0, 0, 0, 0,   2, 0, 0, 0, 0, 0, 0, 0,   13, 0, 0, 0, 0, 0, 0, 0,
+                                     4, 3, 0, 0, 0, 0, 0, 0};
+    struct part text = lend_fixed(CASE_A, strlen(CASE_A));
+    for (size_t extra = 0; extra < 4; extra++) {
+        struct part program = lend(TABLE + extra);
+        size_t line = UNSET;
+        uint16_t number = box_read(text.bytes, text.length, program.bytes, program.length, &line);
+        check(number == 0 && line == 0, "case A reads: %u at line %zu", number, line);
+        check(words_are(program, 0, 11, head) && zeros(program, 11, 72), "the head of case A's program");
+        check(words_are(program, 72, 72, lines) && zeros(program, 144, 8192), "the lines of case A's program");
+        check(kept(program, TABLE), "%zu bytes past the program table stay", extra);
+        give_back(program);
+    }
+    give_back(text);
+
+    text = lend_fixed(longest(), MOST_TEXT);
+    struct part program = lend(TABLE);
+    size_t line = UNSET;
+    uint16_t number = box_read(text.bytes, text.length, program.bytes, program.length, &line);
+    check(number == 0 && line == 0, "16,384 bytes read: %u at line %zu", number, line);
+    check(word(program, 0) == 18 && word(program, 1) == 64 && word(program, 2) == 658, "the head of the longest program");
+    give_back(program);
+    give_back(text);
+}
+
+static void runs(void)
+{
+    static const unsigned object[] = {1, 0, 0, 0, 0, 0, 0, 0};
+    static const unsigned first[] = {1, 0, 0, 3, 4, 0, 258, 0, 258}, second[] = {1, 0, 1, 1, 2, 258, 1};
+    struct lent lent = lend_all(CASE_A, strlen(CASE_A), "\0\0\0\1\0", 5, TABLE + 3, TABLE + 1, LIST);
+    struct answer a = run(lent);
+    check(same(a, (struct answer){OPEN, 0, 0, 0, 0, 5}), "case A: end %u, %zu moves", a.end, a.moves);
+    check(word(lent.program, 0) == 1 && word(lent.program, 1) == 2 && word(lent.program, 2) == 9, "case A leaves its program");
+    check(word(lent.state, 0) == 1 && word(lent.state, 1) == 2 && zeros(lent.state, 2, 8), "the head of case A's state");
+    check(words_are(lent.state, 8, 8, object) && zeros(lent.state, 16, 2056), "the object of case A");
+    check(words_are(lent.state, 2056, 9, first) && zeros(lent.state, 2065, 2362), "thread 0 of case A");
+    check(words_are(lent.state, 2362, 7, second) && zeros(lent.state, 2369, 6954), "thread 1 of case A");
+    check(word(lent.state, 6954) == 0 && word(lent.state, 6955) == 1 && zeros(lent.state, 6956, 8192), "the channel of case A");
+    check(kept(lent.program, TABLE) && kept(lent.state, TABLE), "bytes past both tables stay");
+    give_all_back(lent);
+
+    answers("no turns", CASE_A, "", 0, (struct answer){OPEN, 0, 0, 0, 0, 0});
+    answers("finished", CASE_E, "\0\0", 2, (struct answer){FINISHED, 0, 0, 0, 0, 2});
+    answers("stuck", CASE_I, "\0\1\0", 3, (struct answer){STUCK, 0, 0, 0, 0, 2});
+    answers("threads never started", CASE_E, "\1\20\377", 3, (struct answer){OPEN, 0, 0, 0, 0, 0});
+    answers("32,768 turns", CASE_E, zero_turns, MOST_TURNS, (struct answer){FINISHED, 0, 0, 0, 0, 2});
+    answers("the longest script", longest(), "\0", 1, (struct answer){STOPPED, 10, 0, 0, 0, 0});
+    answers("10", "(thread)\n(give (read 0))\n", "\0", 1, (struct answer){STOPPED, 10, 0, 0, 0, 0});
+    answers("11", IN_THREAD("(let (field 1 0))\n"), "\0\0", 2, (struct answer){STOPPED, 11, 0, 0, 1, 1});
+    answers("12", IN_THREAD("(let (call 1 0 (read 1)))\n"), "\0\0", 2, (struct answer){STOPPED, 12, 0, 0, 1, 1});
+    answers("13", IN_THREAD("(let (recv 1))\n"), "\0\0", 2, (struct answer){STOPPED, 13, 0, 0, 1, 1});
+    answers("14", CASE_D, "\0\0", 2, (struct answer){STOPPED, 14, 0, 0, 1, 1});
+    answers("15", IN_THREAD("(let (cast iso (read 1)))\n"), "\0\0", 2, (struct answer){STOPPED, 15, 0, 0, 1, 1});
+    answers("16", "(kind (fields 0) (does 1))\n(thread)\n(let (new imm 0))\n(let (call 1 0 (read 1)))\n(give (read 1))\n"
+                  "(method)\n(let (call 0 0 (read 1)))\n(give (read 1))\n", zero_turns, 17, (struct answer){STOPPED, 16, 0, 1, 0, 16});
+}
+
+/* ---- Refusals ---- */
+
+/* One refusal through all three calls: number and line, and every lent byte kept. */
+static void refused(const char *name, struct lent lent, uint16_t number, size_t line, int by_reader)
+{
+    size_t count, place = UNSET;
+    uint16_t answered;
+    if (by_reader) {
+        answered = box_read(lent.text.bytes, lent.text.length, lent.program.bytes, lent.program.length, &place);
+        check(answered == number && place == line, "%s, read: %u at line %zu", name, answered, place);
+    }
+    struct answer a = run(lent);
+    check(same(a, (struct answer){REFUSED, number, 0, 0, line, 0}), "%s, run: end %u, number %zu at line %zu", name, a.end, a.number, a.line);
+    answered = reach(lent, 0, &count, &place);
+    check(answered == number && place == line && count == 0, "%s, reach: %u at line %zu, count %zu", name, answered, place, count);
+    answered = reach(lent, SIZE_MAX, &count, &place);
+    check(answered == number, "%s: 17 comes last, and not %u", name, answered);
+    check(kept(lent.program, 0) && kept(lent.state, 0) && kept(lent.list, 0), "%s: every lent byte stays", name);
+    give_all_back(lent);
+}
+
+static void refused_text(const char *name, const char *text, uint16_t number, size_t line)
+{
+    refused(name, lend_run(text, "", 0), number, line, 1);
+}
+
+static void refusals(void)
+{
+    static char over[MOST_TEXT + 1];
+    memset(over, '(', sizeof over);
+    refused("1, text", lend_all(over, sizeof over, "", 0, TABLE, TABLE, LIST), 1, 0, 1);
+    refused("1, text, before 9", lend_all(over, sizeof over, "", 0, TABLE - 1, TABLE - 1, LIST - 1), 1, 0, 1);
+    refused("1, turns", lend_all(CASE_A, strlen(CASE_A), zero_turns, MOST_TURNS + 1, TABLE, TABLE, LIST), 1, 0, 0);
+    refused("1, turns, before 9", lend_all(CASE_A, strlen(CASE_A), zero_turns, MOST_TURNS + 1, 0, 0, 0), 1, 0, 0);
+
+    refused_text("2", "(thread)\n(give (Read 0))\n", 2, 1);
+    refused_text("3", "(thread)\n(give  (read 0))\n", 3, 1);
+    refused_text("3, without LF", "(thread)\n(give (read 0))", 3, 1);
+    refused_text("3, a line of turns", CASE_A "(turns 0)\n", 3, 9);
+    refused_text("4", "(thread)\n(let (field 0 256))\n(give (read 0))\n", 4, 1);
+    refused_text("5", "(thread)\n(give (read 1))\n", 5, 1);
+    refused_text("6", "(thread)\n(give (read 0))\n(method)\n(give (take 0))\n", 6, 3);
+    refused_text("7", "(thread)\n(let (read 0))\n", 7, 2);
+    refused_text("7, empty text", "", 7, 0);
+    refused_text("8", "(thread)\n(let (spawn 1))\n(give (read 0))\n", 8, 1);
+    refused_text("8, block 0", "(kind (fields 0) (does))\n(method)\n(give (read 0))\n", 8, 1);
+
+    static const size_t lengths[] = {0, 1, 2, 8191, 8192, TABLE - 2, TABLE - 1};
+    for (size_t n = 0; n < sizeof lengths / sizeof lengths[0]; n++) {
+        refused("9, program", lend_all("?", 1, "", 0, lengths[n], TABLE, LIST), 9, 0, 1);
+        refused("9, state", lend_all(CASE_A, strlen(CASE_A), "", 0, TABLE, lengths[n], LIST), 9, 0, 0);
+    }
+}
+
+/* A list that is too short is refused by the report alone. */
+static void short_lists(void)
+{
+    static const size_t lengths[] = {0, 1, 255, 256, LIST - 2, LIST - 1};
+    for (size_t n = 0; n < sizeof lengths / sizeof lengths[0]; n++) {
+        struct lent lent = lend_all("?", 1, "", 0, TABLE, TABLE, lengths[n]);
+        size_t count, line;
+        uint16_t number = reach(lent, 0, &count, &line);
+        check(number == 9 && line == 0 && count == 0, "a list of %zu bytes: %u", lengths[n], number);
+        check(kept(lent.program, 0) && kept(lent.state, 0) && kept(lent.list, 0), "a list of %zu bytes: every lent byte stays", lengths[n]);
+        give_all_back(lent);
+    }
+}
+
+/* ---- The reach report ---- */
+
+/* Thread 0 holds object 1, which holds object 0; object 2 is with thread 1, object 3 with nobody. */
+#define REACHING KIND "(kind (fields 1) (does))\n(thread)\n(let (spawn 1))\n(let (new imm 0))\n(let (new imm 1 (take 2)))\n" \
+    "(let (new iso 0))\n(let (send 1 (take 4)))\n(let (new iso 0))\n(let (send 1 (take 6)))\n(give (read 3))\n" \
+    "(thread)\n(let (recv 0))\n(give (take 1))\n"
+
+static void reports(void)
+{
+    struct lent lent = lend_all(REACHING, strlen(REACHING), "\0\0\0\0\0\1\0\0\0", 9, TABLE, TABLE, LIST + 3);
+    size_t count, line;
+    uint16_t number = reach(lent, 0, &count, &line);
+    unsigned sum = 1u << word(lent.list, 0) | 1u << word(lent.list, 1);
+    check(number == 0 && line == 0 && count == 2 && sum == 3 && zeros(lent.list, 2, 256), "thread 0 reaches 0 and 1: %u, %zu", number, count);
+    check(kept(lent.list, LIST), "bytes past the list stay");
+    check(word(lent.program, 0) == 2 && word(lent.state, 0) == 4 && word(lent.state, 1) == 2, "a report leaves the run's tables");
+    number = reach(lent, 1, &count, &line);
+    check(number == 0 && count == 1 && word(lent.list, 0) == 2 && zeros(lent.list, 1, 256), "thread 1 reaches 2: %u, %zu", number, count);
+    give_all_back(lent);
+
+    static const size_t never[] = {2, 15, 16, 255, 256, 65536, SIZE_MAX};
+    for (size_t n = 0; n < sizeof never / sizeof never[0]; n++) {
+        lent = lend_run(REACHING, "\0\0", 2);
+        number = reach(lent, never[n], &count, &line);
+        check(number == 17 && line == 0 && count == 0, "thread %zu was never started: %u", never[n], number);
+        check(word(lent.program, 2) == 14 && word(lent.state, 0) == 1 && word(lent.state, 1) == 2, "17 leaves the run's tables");
+        check(kept(lent.list, 0), "17 keeps the list");
+        give_all_back(lent);
+    }
+
+    lent = lend_run(CASE_E, "\0\0", 2);
+    number = reach(lent, 0, &count, &line);
+    check(number == 0 && count == 0 && zeros(lent.list, 0, 256), "a finished thread reaches nothing: %u, %zu", number, count);
+    give_all_back(lent);
+
+    lent = lend_run(CASE_D, "\0\0", 2);
+    number = reach(lent, 0, &count, &line);
+    check(number == 0 && count == 1 && zeros(lent.list, 0, 256), "a stopped run is reported on as it stands: %u, %zu", number, count);
+    give_all_back(lent);
+}
+
+/* ---- The line finder ---- */
+
+static void line_is(const char *text, size_t n, size_t start, size_t length)
+{
+    struct part part = lend_fixed(text, strlen(text));
+    size_t at = UNSET, found = box_line(part.bytes, part.length, n, &at);
+    check(at == start && found == length, "line %zu of %zu bytes: %zu from %zu", n, part.length, found, at);
+    give_back(part);
+}
+
+static void line_finder(void)
+{
+    line_is("", 0, 0, 0);
+    line_is("", SIZE_MAX, 0, 0);
+    line_is("one\n\nthree\n", 0, 0, 3);
+    line_is("one\n\nthree\n", 1, 4, 0);
+    line_is("one\n\nthree\n", 2, 5, 5);
+    line_is("one\n\nthree\n", 3, 11, 0);
+    line_is("one\n\nthree\n", SIZE_MAX, 11, 0);
+    line_is("one\ntwo", 1, 4, 3);
+    line_is("one\ntwo", 2, 7, 0);
+    line_is("\n", 0, 0, 0);
+    line_is("\n", 1, 1, 0);
+    line_is(longest(), 657, MOST_TEXT - 16, 15);
+}
+
+/* ---- Null pointers, which a slice of length 0 may have ---- */
+
+static void nulls(void)
+{
+    struct lent lent = lend_run(CASE_E, "", 0), none = {{0}, {0}, {0}, {0}, {0}};
+    size_t count, line = UNSET, start = UNSET;
+    uint16_t number = box_read(NULL, 0, lent.program.bytes, TABLE, &line);
+    check(number == 7 && line == 0 && kept(lent.program, 0), "a null text: %u at line %zu", number, line);
+    number = box_read(lent.text.bytes, lent.text.length, NULL, 0, &line);
+    check(number == 9 && line == 0, "a null table: %u at line %zu", number, line);
+    struct answer a = run(none);
+    check(same(a, (struct answer){REFUSED, 9, 0, 0, 0, 0}), "all null, run: end %u, number %zu", a.end, a.number);
+    number = reach(none, 0, &count, &line);
+    check(number == 9 && count == 0 && line == 0, "all null, reach: %u", number);
+    struct lent idle = {lent.text, {0}, lent.program, lent.state, lent.list};
+    a = run(idle);
+    check(same(a, (struct answer){OPEN, 0, 0, 0, 0, 0}), "null turns: end %u, %zu moves", a.end, a.moves);
+    check(box_line(NULL, 0, 3, &start) == 0 && start == 0, "a null text has no line");
+    give_all_back(lent);
+}
+
+/* ---- Calls from several threads at once, each on a small stack and on arguments of its own ---- */
+
+enum { THREADS = 4, CALLS = 200, STACK = 256 * 1024 };
+
+/* Counts the calls of one thread that answer as case A does. */
+static void *calling(void *right)
+{
+    struct lent lent = lend_run(CASE_A, "\0\0\0\1\0", 5);
+    for (int n = 0; n < CALLS; n++) {
+        size_t count, line;
+        int same_run = same(run(lent), (struct answer){OPEN, 0, 0, 0, 0, 5}) && word(lent.state, 6955) == 1;
+        int same_report = reach(lent, 1, &count, &line) == 0 && count == 1 && word(lent.list, 0) == 0;
+        *(int *)right += same_run && same_report;
+    }
+    give_all_back(lent);
+    return NULL;
+}
+
+static void several_threads(void)
+{
+    pthread_t threads[THREADS];
+    pthread_attr_t attributes;
+    int right[THREADS] = {0};
+    pthread_attr_init(&attributes);
+    pthread_attr_setstacksize(&attributes, STACK);
+    for (int n = 0; n < THREADS; n++)
+        if (pthread_create(&threads[n], &attributes, calling, &right[n]) != 0)
+            exit(2);
+    for (int n = 0; n < THREADS; n++) {
+        pthread_join(threads[n], NULL);
+        check(right[n] == CALLS, "thread %d: %d calls of %d are right", n, right[n], CALLS);
+    }
+    pthread_attr_destroy(&attributes);
+}
+
+int main(void)
+{
+    constants();
+    nulls();
+    reading();
+    runs();
+    refusals();
+    short_lists();
+    reports();
+    line_finder();
+    several_threads();
+    printf("%u passed, %u failed\n", passed, failed);
+    return failed != 0;
+}
