@@ -3,10 +3,10 @@
 mod WordLaws
 mod PartLaws
 mod OperandWords
-mod Many
+pub mod Many
 mod ItemLists
 -- a form read part by part, and what is kept of it
-mod Told
+pub mod Told
 mod Telling
 -- the front of a text and its first line; the only form that can fit; the line at a place
 pub mod Fronts

@@ -6,7 +6,7 @@ use mathlib.Core.List.{List, [], _∷_, _++_, map}
 use lib.Dec.{eqb}
 use lib.ListN.{length, drop}
 use lib.Seq.{drop-drop}
-use Rattle.rules.specs.Templates.{Taken, took, unfit, _>>=_, literal, number, operand, capability, Part, character, oneNumber, oneOperand, oneCap, manyNumbers, manyOperands, Holds, fit}
+use Rattle.rules.specs.Templates.{Taken, took, unfit, _>>=_, literal, number, operand, capability, many, Part, character, oneNumber, oneOperand, oneCap, manyNumbers, manyOperands, Holds, fit}
 use Rattle.rules.specs.Tables.{operandOf, capOf}
 use Rattle.rules.proofs.ListLaws.{by-bool, impossible}
 use Rattle.grammar.specs.Words.{begins}
@@ -115,9 +115,13 @@ module _ {s : List ℕ} where
     unfolding fit
     a-cap x h T = record { fits = part-fits (fit t) (x .ok) ok (capOf (x .word)) p (drop (x .end) s) (drop e s) h (T .fits) }
 
-    pub some-numbers : {x : Items} (N : NumbersAt s at x) → Told t s (x .end) ok p e → Told (manyNumbers ∷ t) s at (x .ok && ok) (N .items, p) e
+    pub numbers-fit : (fits : Bool) (ns : List ℕ) (end : ℕ) → many number (length (drop at s)) (drop at s) ≡ cond fits (took ns (drop end s)) unfit → Told t s end ok p e
+        → Told (manyNumbers ∷ t) s at (fits && ok) (ns, p) e
     unfolding fit
-    some-numbers {x} N T = record { fits = part-fits (fit t) (x .ok) ok (N .items) p (drop (x .end) s) (drop e s) (N .fits) (T .fits) }
+    numbers-fit fits ns end h T = record { fits = part-fits (fit t) fits ok ns p (drop end s) (drop e s) h (T .fits) }
+
+    pub some-numbers : {x : Items} (N : NumbersAt s at x) → Told t s (x .end) ok p e → Told (manyNumbers ∷ t) s at (x .ok && ok) (N .items, p) e
+    some-numbers {x} N T = numbers-fit (x .ok) (N .items) (x .end) (N .fits) T
 
     pub some-operands : {x : Items} (O : OperandsAt s at x) → Told t s (x .end) ok p e → Told (manyOperands ∷ t) s at (x .ok && ok) (O .items, p) e
     unfolding fit

@@ -1,0 +1,5 @@
+-- Why the code of this crate keeps its contracts.
+-- the last line and what stands before it; the turns line; what is printed
+mod LastLine
+mod TurnsLine
+mod Printed

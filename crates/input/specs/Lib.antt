@@ -1,0 +1,2 @@
+-- What the input's reading says of the definitions.
+pub mod Told

@@ -1,0 +1,58 @@
+-- `listing::texts::put_number` meets its contract: a space, and the digits by place.
+use Prim.Native.Nat.{_%_}
+use native.Mathlib.Omega.{arith}
+use Rattle.rules.specs.Templates.{decimal}
+use Rattle.listing.proofs.Appends.{_▹_}
+use Rattle.listing.proofs.LineTexts.{digit-code}
+use borrow.Author.Needs.{needs}
+use Rattle.listing.proofs.texts.put_number.Statement.{statement}
+use Rattle.listing.proofs.texts.put_number.Tie as tie
+
+put-byte-requires : tie.Need-put-byte-requires
+put-byte-requires c κs = search needs
+
+put-digit-requires : tie.Need-put-digit-requires
+put-digit-requires c κs = search needs
+
+put-digit-requires-2 : tie.Need-put-digit-requires-2
+put-digit-requires-2 c κs = search needs
+
+put-digit-requires-3 : tie.Need-put-digit-requires-3
+put-digit-requires-3 c κs = search needs
+
+put-digit-requires-4 : tie.Need-put-digit-requires-4
+put-digit-requires-4 c κs = search needs
+
+cast-put-byte : tie.Need-cast-put-byte
+cast-put-byte c = search needs
+
+add-put-byte : tie.Need-add-put-byte
+add-put-byte c = search needs
+
+put-byte-requires-2 : tie.Need-put-byte-requires-2
+put-byte-requires-2 c κs = search needs
+
+same-length : tie.Need-same-length
+same-length c = search needs
+
+returns : tie.Need-returns
+unfolding decimal
+returns c =
+    let n = c .before .before .before .before .before .before .before .before .before .before .before .before .before .before .before .before .before .before .before .before .before .before .before .before .before .args .n in
+    rw (← digit-code (n % 10) (omega arith))
+    (c .before .before .before .before .before .before .before .before .before .before .before .before .before .before .before .before .before .before .before .before .before .before .put-byte .ensures ▹ c .before .before .before .before .before .before .before .before .before .before .before .before .before .before .before .before .before .before .put-digit .ensures ▹ c .before .before .before .before .before .before .before .before .before .before .before .before .before .before .put-digit2 .ensures ▹ c .before .before .before .before .before .before .before .before .before .before .put-digit3 .ensures ▹ c .before .before .before .before .before .before .put-digit4 .ensures ▹ c .before .before .put-byte2 .ensures)
+
+pub put-number-spec : {M : Type 1} → statement M
+put-number-spec =
+    tie.close
+    (tie.spec
+    put-byte-requires
+    put-digit-requires
+    put-digit-requires-2
+    put-digit-requires-3
+    put-digit-requires-4
+    cast-put-byte
+    add-put-byte
+    put-byte-requires-2
+    same-length
+    returns)
