@@ -21,7 +21,7 @@ pub fn find_lf(s: &[u8], at: usize) -> usize
 }
 
 // Where line n starts, or the end.
-fn line_start(s: &[u8], n: usize) -> usize
+pub fn line_start(s: &[u8], n: usize) -> usize
     ensures { λ r. ⌜ (getD (lines (now (s .entry))) n [] ≡ getD (lines (drop r (now (s .entry)))) 0 []) × (r ≤ length (now (s .entry))) × (r ≡ startOf n (lines (now (s .entry)))) ⌝ }
 {
     let mut at: usize = 0;

@@ -5,6 +5,7 @@ mod linking;
 mod scanning;
 
 pub use finder::find_line;
+pub use finder::line_start;
 use linking::first_dangling;
 use scanning::Scan;
 use scanning::scan_lines;

@@ -1,0 +1,239 @@
+-- What the lower crates answer and leave, as the numbers and bytes that cross.
+use Prim.Native.Nat.{ℕ, _*_, _≤_, _<_}
+use mathlib.Core.Path.{_≡_, refl, sym, ap, _∙_, subst}
+use mathlib.Core.Bool.{Bool, true, false}
+use mathlib.Core.List.{List, [], _++_, append-nil}
+use native.Mathlib.Omega.{arith}
+use lib.Dec.{ltb}
+use lib.ListN.{length, take, drop, drop-of-length-le}
+use lib.Seq.{take-at}
+use Rattle.rules.specs.Mosts as Most
+use Rattle.rules.specs.Mosts.{mosts}
+use Rattle.rules.specs.Numbers as No
+use Rattle.rules.specs.Lists.{pad}
+use Rattle.rules.specs.Script.{Program}
+use Rattle.rules.specs.Reading.{Reading, turnedAway, accepted}
+use Rattle.rules.specs.State.{State}
+use Rattle.rules.specs.Run.{Run, End, Stop, none, stopped, finished, stuck, openEnd, ended, run, endOf, answerOf, answer}
+use Rattle.rules.specs.Tables.{programWords, stateWords}
+use Rattle.rules.specs.Calls.{programAfter, runAnswer, stateAfter, unreported, reached, ReportsOn, ReachReport}
+use Rattle.rules.proofs.ListLaws.{impossible, length-pad}
+use Rattle.rules.proofs.Demand3.{stripped-matches}
+use Rattle.rules.proofs.TableWords.{program-words-length, state-words-length}
+use Rattle.reader.specs.declared.Answer.the-variants.{Read, Refused}
+use Rattle.reader.specs.Answers as Reader
+use Rattle.reader.specs.Answers.{numberOf, lineOf}
+use Rattle.run.specs.Answers.{endNumber, Tells}
+use Rattle.reach.specs.declared.Report.{Report}
+use Rattle.reach.specs.Walking.{reportOf}
+use Rattle.host.specs.Bytes.{bytesOf, bytesAfter}
+use Rattle.host.specs.Calls.{tableAfter, ranWords, Guarded, Demand3, ReportsBytes}
+use Rattle.host.proofs.Stored.{bytes-length, stored}
+use Rattle.host.proofs.First.{AtMost9}
+
+-- ---- Reading
+
+pub record HasRead (C : Reading) (program : List ℕ) (number line : ℕ) (p : List ℕ) : Type 0 where
+  pub number-is : number ≡ numberOf C
+  pub line-is : line ≡ lineOf C
+  pub program-is : p ≡ tableAfter programWords C program
+
+pub read-of-same : {C C′ : Reading} {program p : List ℕ} {number line : ℕ} → C ≡ C′ → HasRead C′ program number line p → HasRead C program number line p
+read-of-same e x = rw e x
+
+pub read-early : {C : Reading} {k n : ℕ} (program : List ℕ) → C ≡ turnedAway k n → HasRead C program k n program
+read-early program e = rw e (record { number-is = refl; line-is = refl; program-is = refl })
+
+pub read-refused : (C : Reading) {k n : ℕ} (program : List ℕ) → Refused k n ≡ Reader.answerOf C → HasRead C program k n program
+read-refused (turnedAway i j) program e = record { number-is = cc; line-is = cc; program-is = refl }
+read-refused (accepted P) program e = impossible cc
+
+pub read-done : (C : Reading) (w₀ : List ℕ) (program : List ℕ) {w p : List ℕ} → length w₀ ≡ Most.words → Read ≡ Reader.answerOf C → w ≡ programAfter C w₀
+    → p ≡ bytesAfter (length w) w program → HasRead C program 0 0 p
+read-done (turnedAway k n) w₀ program long e written kept = impossible cc
+read-done (accepted P) w₀ program long e written kept =
+    record { number-is = refl; line-is = refl; program-is = stored Most.words (programWords P) w₀ program (program-words-length P) long written kept }
+
+-- ---- Both tables hold a run that was made
+
+module _ (P : Program) (turns p₀ s₀ program state : List ℕ) {ps ss p s : List ℕ} (p-long : length p₀ ≡ Most.words) (s-long : length s₀ ≡ Most.words)
+    (p-written : ps ≡ programAfter (accepted P) p₀) (s-written : ss ≡ stateAfter mosts turns (accepted P) s₀)
+    (p-kept : p ≡ bytesAfter (length ps) ps program) (s-kept : s ≡ bytesAfter (length ss) ss state) where
+  program-held : p ≡ bytesAfter Most.words (programWords P) program
+  program-held = stored Most.words (programWords P) p₀ program (program-words-length P) p-long p-written p-kept
+
+  state-held : s ≡ bytesAfter Most.words (ranWords turns P) state
+  unfolding ranWords
+  state-held = stored Most.words (stateWords (run mosts P turns .state)) s₀ state (state-words-length (run mosts P turns .state)) s-long s-written s-kept
+
+-- ---- Running
+
+pub record HasRun (C : Reading) (turns program state : List ℕ) (end number thread block line moves : ℕ) (p s : List ℕ) : Type 0 where
+  pub answers : Tells (runAnswer mosts turns C) end number thread block line moves
+  pub program-is : p ≡ tableAfter programWords C program
+  pub state-is : s ≡ tableAfter (ranWords turns) C state
+  pub demand-3 : Demand3 C turns end number thread block line moves s
+
+pub run-of-same : {C C′ : Reading} {turns program state p s : List ℕ} {end number thread block line moves : ℕ} → C ≡ C′
+    → HasRun C′ turns program state end number thread block line moves p s → HasRun C turns program state end number thread block line moves p s
+run-of-same e x = rw e x
+
+pub run-early : {C : Reading} {k : ℕ} (turns program state : List ℕ) → C ≡ turnedAway k 0 → HasRun C turns program state 4 k 0 0 0 0 program state
+run-early turns program state e =
+    rw e
+    (record {
+      answers = record { end-is = refl; number-is = refl; thread-is = refl; block-is = refl; line-is = refl; moves-is = refl };
+      program-is = refl;
+      state-is = refl;
+      demand-3 = tt;
+    })
+
+-- a run that was made is not refused
+end-below-4 : (x : End) (m : ℕ) → endNumber (ended x m) < 4
+end-below-4 finished m = omega arith
+end-below-4 stuck m = omega arith
+end-below-4 openEnd m = omega arith
+
+made-below-4 : (P : Program) (S : State) (m : ℕ) (x : Stop) → endNumber (answerOf mosts P S m x) < 4
+unfolding answerOf
+made-below-4 P S m none = end-below-4 (endOf mosts P S) m
+made-below-4 P S m (stopped k t b l) = omega arith
+
+answer-below-4 : (P : Program) (r : Run) → endNumber (answer mosts P r) < 4
+unfolding answer
+answer-below-4 P r = made-below-4 P (r .state) (r .moves) (r .stop)
+
+pub run-refused : (C : Reading) (turns program state : List ℕ) {end number thread block line moves : ℕ} → end ≡ 4
+    → Tells (runAnswer mosts turns C) end number thread block line moves → HasRun C turns program state end number thread block line moves program state
+run-refused (turnedAway k n) turns program state e tells = record { answers = tells; program-is = refl; state-is = refl; demand-3 = tt }
+run-refused (accepted P) turns program state e tells = absurd (omega (arith, tells .end-is, answer-below-4 P (run mosts P turns)))
+
+-- demand 3 of what was answered and left
+guarded : (P : Program) (turns : List ℕ) {end number thread block line moves : ℕ} (state : List ℕ) {s : List ℕ}
+    → Tells (answer mosts P (run mosts P turns)) end number thread block line moves → s ≡ bytesAfter Most.words (ranWords turns P) state
+    → Guarded P turns end number thread block line moves s
+unfolding ranWords
+guarded P turns state tells state-is =
+    let words = stateWords (run mosts P turns .state) in
+    let words-long = state-words-length (run mosts P turns .state) in
+    record {
+      answers = tells;
+      leaves = ap (take (2 * Most.words)) state-is
+          ∙ take-at (bytesOf words) (drop (2 * Most.words) state) (2 * Most.words) (bytes-length words ∙ ap (λ (n : ℕ). 2 * n) words-long);
+      matches = stripped-matches mosts P turns;
+    }
+
+pub run-done : (C : Reading) (turns p₀ s₀ program state : List ℕ) {ps ss p s : List ℕ} {end number thread block line moves : ℕ} → length p₀ ≡ Most.words
+    → length s₀ ≡ Most.words → (end ≡ 4 → ⊥) → Tells (runAnswer mosts turns C) end number thread block line moves → ps ≡ programAfter C p₀
+    → ss ≡ stateAfter mosts turns C s₀ → p ≡ bytesAfter (length ps) ps program → s ≡ bytesAfter (length ss) ss state
+    → HasRun C turns program state end number thread block line moves p s
+run-done (turnedAway k n) turns p₀ s₀ program state p-long s-long made tells p-written s-written p-kept s-kept = absurd (made (tells .end-is))
+run-done (accepted P) turns p₀ s₀ program state p-long s-long made tells p-written s-written p-kept s-kept =
+    let state-is = state-held P turns p₀ s₀ program state p-long s-long p-written s-written p-kept s-kept in
+    record {
+      answers = tells;
+      program-is = program-held P turns p₀ s₀ program state p-long s-long p-written s-written p-kept s-kept;
+      state-is = state-is;
+      demand-3 = guarded P turns state tells state-is;
+    }
+
+-- ---- Reporting
+
+pub record HasReported (C : Reading) (turns : List ℕ) (t : ℕ) (program state list : List ℕ) (number count line : ℕ) (p s list₁ : List ℕ) : Type 0 where
+  pub report : ReportsBytes C turns t list number count line list₁
+  pub program-is : p ≡ tableAfter programWords C program
+  pub state-is : s ≡ tableAfter (ranWords turns) C state
+
+pub reach-of-same : {C C′ : Reading} {turns program state list p s list₁ : List ℕ} {t number count line : ℕ} → C ≡ C′
+    → HasReported C′ turns t program state list number count line p s list₁ → HasReported C turns t program state list number count line p s list₁
+reach-of-same e x = rw e x
+
+-- the list keeps its bytes
+kept-list : {C : Reading} {k n : ℕ} {turns list : List ℕ} {t : ℕ} → ReachReport mosts turns t C [] (unreported k n) [] → ReportsBytes C turns t list k 0 n list
+kept-list {k} {n} r =
+    record { report = unreported k n; words = []; reports = r; number-is = refl; count-is = refl; line-is = refl; leaves = refl }
+
+pub reach-early : {C : Reading} {k : ℕ} (turns : List ℕ) (t : ℕ) (program state list : List ℕ) → C ≡ turnedAway k 0
+    → HasReported C turns t program state list k 0 0 program state list
+reach-early turns t program state list e =
+    rw e (record { report = kept-list (record { answers = refl; leaves = refl }); program-is = refl; state-is = refl })
+
+module _ (S : State) (t : ℕ) (l₀ l₁ : List ℕ) where
+  -- 17 alone leaves a run unreported
+  only-17 : (k n : ℕ) (started : Bool) → ReportsOn S t started l₀ (unreported k n) l₁ → k ≡ No.noThread
+  only-17 k n true r = impossible (let e = r .answers in cc)
+  only-17 k n false r = let e = r .answers in cc
+
+  -- whatever the list held
+  unreported-on : (k n : ℕ) (started : Bool) → ReportsOn S t started l₀ (unreported k n) l₁ → ReportsOn S t started [] (unreported k n) []
+  unreported-on k n true r = impossible (let e = r .answers in cc)
+  unreported-on k n false r = record { answers = r .answers; leaves = refl }
+
+  record ReportedOn (started : Bool) (c : ℕ) : Type 0 where
+    words : List ℕ
+    long : length words ≡ Most.reachList
+    reports : ReportsOn S t started [] (reached c) words
+    written : l₁ ≡ words ++ drop Most.reachList l₀
+
+  reported-on : (c : ℕ) (started : Bool) → ReportsOn S t started l₀ (reached c) l₁ → ReportedOn started c
+  reported-on c true r =
+      let words : List ℕ = pad Most.reachList 0 (r .objects) in
+      let few : 0 ≤ Most.reachList = omega arith in
+      let none : drop {A = ℕ} Most.reachList [] ≡ [] = drop-of-length-le {A = ℕ} [] few in
+      record {
+        words = words;
+        long = length-pad Most.reachList 0 (r .objects);
+        reports = record {
+          objects = r .objects;
+          lists = r .lists;
+          answers = r .answers;
+          leaves = sym (ap (λ (l : List ℕ). words ++ l) none ∙ append-nil words);
+        };
+        written = r .leaves;
+      }
+  reported-on c false r = impossible (let e = r .answers in cc)
+
+module _ (turns : List ℕ) (t : ℕ) (program state list l₀ l₁ : List ℕ) where
+  -- the report that the code's answer is
+  pub as-told : (C : Reading) {r r′ : Report} → r ≡ r′ → ReachReport mosts turns t C l₀ (reportOf r) l₁ → ReachReport mosts turns t C l₀ (reportOf r′) l₁
+  as-told C e x = subst (λ (r : Report). ReachReport mosts turns t C l₀ (reportOf r) l₁) e x
+
+  pub reach-refused : (C : Reading) {k n : ℕ} → k < No.noThread → ReachReport mosts turns t C l₀ (unreported k n) l₁
+      → HasReported C turns t program state list k 0 n program state list
+  reach-refused (turnedAway i j) low r =
+      record { report = kept-list (record { answers = r .answers; leaves = refl }); program-is = refl; state-is = refl }
+  reach-refused (accepted P) {k} {n} low r =
+      let S = run mosts P turns .state in
+      absurd (omega (arith, only-17 S t l₀ l₁ k n (ltb t (length (S .threads))) r))
+
+  module _ (p₀ s₀ : List ℕ) {ps ss p s : List ℕ} (p-long : length p₀ ≡ Most.words) (s-long : length s₀ ≡ Most.words) where
+    pub reach-no-thread : (C : Reading) {k n : ℕ} → AtMost9 C → No.noThread ≤ k → ReachReport mosts turns t C l₀ (unreported k n) l₁ → ps ≡ programAfter C p₀
+        → ss ≡ stateAfter mosts turns C s₀ → p ≡ bytesAfter (length ps) ps program → s ≡ bytesAfter (length ss) ss state
+        → HasReported C turns t program state list k 0 n p s list
+    reach-no-thread (turnedAway i j) {k} low high r p-written s-written p-kept s-kept =
+        let same : k ≡ i = (let e = r .answers in cc) in
+        absurd (omega arith)
+    reach-no-thread (accepted P) {k} {n} low high r p-written s-written p-kept s-kept =
+        let S = run mosts P turns .state in
+        record { report = kept-list {C = accepted P} (unreported-on S t l₀ l₁ k n (ltb t (length (S .threads))) r); program-is = program-held P turns p₀ s₀ program state p-long s-long p-written s-written p-kept s-kept; state-is = state-held P turns p₀ s₀ program state p-long s-long p-written s-written p-kept s-kept }
+
+    pub reach-done : (C : Reading) {c : ℕ} {list₁ : List ℕ} → length l₀ ≡ Most.reachList → ReachReport mosts turns t C l₀ (reached c) l₁ → ps ≡ programAfter C p₀
+        → ss ≡ stateAfter mosts turns C s₀ → p ≡ bytesAfter (length ps) ps program → s ≡ bytesAfter (length ss) ss state
+        → list₁ ≡ bytesAfter (length l₁) l₁ list → HasReported C turns t program state list 0 c 0 p s list₁
+    reach-done (turnedAway i j) l-long r p-written s-written p-kept s-kept l-kept = impossible (let e = r .answers in cc)
+    reach-done (accepted P) {c} l-long r p-written s-written p-kept s-kept l-kept =
+        let S = run mosts P turns .state in
+        let listed = reported-on S t l₀ l₁ c (ltb t (length (S .threads))) r in
+        record {
+          report = record {
+            report = reached c;
+            words = listed .words;
+            reports = listed .reports;
+            number-is = refl;
+            count-is = refl;
+            line-is = refl;
+            leaves = stored Most.reachList (listed .words) l₀ list (listed .long) l-long (listed .written) l-kept;
+          };
+          program-is = program-held P turns p₀ s₀ program state p-long s-long p-written s-written p-kept s-kept;
+          state-is = state-held P turns p₀ s₀ program state p-long s-long p-written s-written p-kept s-kept;
+        }

@@ -1,0 +1,124 @@
+/* The freezer box for a C host: link libhost.a (`rt staticlib host`, x86-64).
+ *
+ * Words cross as bytes, low byte first: word i of a table is table[2 * i] + 256 * table[2 * i + 1]. docs/LAYOUT.md has both tables to the word.
+ *
+ * Of every call:
+ * - A slice is a pointer and its length in bytes. No pointer may be null unless it is a slice's and the length is 0.
+ * - What is lent is lent for the call alone: nothing is kept after it, and nothing is carried from one call to the next.
+ * - Slices and numbers that the call writes must overlap no other argument.
+ * - The tables and the list are written, never read: what they held does not matter. Bytes past BOX_TABLE_BYTES (BOX_LIST_BYTES) keep their
+ *   value.
+ * - Every number that is lent by pointer is written by every call, 0 where there is nothing to say.
+ * - A call takes under 64 KB of stack, allocates nothing, and may be made by several threads at once, each on arguments of its own.
+ */
+#ifndef BOX_H
+#define BOX_H
+
+#include <stddef.h>
+#include <stdint.h>
+
+#ifdef __cplusplus
+extern "C" {
+#endif
+
+/* The shortest table and list that may be lent, in bytes: 8,192 and 256 words. A shorter one is refused with BOX_SHORT_TABLE. */
+#define BOX_TABLE_BYTES 16384
+#define BOX_LIST_BYTES 512
+
+/* The longest text, in bytes, and the most turns, a byte each. More is refused with BOX_OVERLONG. */
+#define BOX_TEXT_MOST 16384
+#define BOX_TURNS_MOST 32768
+
+/* How a run ends. */
+#define BOX_FINISHED 0 /* all threads finished */
+#define BOX_STUCK 1    /* some unfinished, and each of these would wait */
+#define BOX_OPEN 2     /* neither */
+#define BOX_STOPPED 3  /* a turn stopped it */
+#define BOX_REFUSED 4  /* it was turned away */
+
+/* Refusals. 1 to 9 change no byte of a table or list. */
+#define BOX_OVERLONG 1    /* text or turns too long */
+#define BOX_STRAY_BYTE 2  /* a byte outside the list */
+#define BOX_MALFORMED 3   /* not a form, out of its place, or without its LF */
+#define BOX_OVER_COUNT 4  /* a most, or 255, exceeded */
+#define BOX_UNBOUND 5     /* slot not yet filled in its block */
+#define BOX_SELF_TAKEN 6  /* take of slot 0 in a method */
+#define BOX_UNFINISHED 7  /* no block, or the last one open */
+#define BOX_DANGLING 8    /* no such kind or block, wrong sort of block, operands unlike the kind's fields, block 0 not a thread */
+#define BOX_SHORT_TABLE 9 /* a lent table or list under its length */
+
+/* Stops. */
+#define BOX_ABSENT 10      /* a slot that holds nothing */
+#define BOX_NO_FIELD 11    /* no such field */
+#define BOX_NO_METHOD 12   /* no such method */
+#define BOX_WRONG_THING 13 /* a channel where an object is wanted, or an object where a channel is */
+#define BOX_PERMISSION 14  /* the capabilities do not allow it */
+#define BOX_CAST 15        /* capability not K */
+#define BOX_USED_UP 16     /* objects, threads or frames used up */
+
+/* A refusal of the report alone; the run was made. */
+#define BOX_NO_THREAD 17 /* report on a thread never started */
+
+/* Reads a script into a program table.
+ *
+ *   text      the script, lent to be read
+ *   program   the program table, at least BOX_TABLE_BYTES
+ *   line      gets the refusal's line: from 0, for BOX_UNFINISHED the number of lines, for BOX_OVERLONG and BOX_SHORT_TABLE 0
+ *
+ * Answers 0 where the script was read, and the table holds it; else the refusal's number, 1 to 9, and the table keeps every byte. */
+uint16_t box_read(const uint8_t *text, size_t text_len,
+                  uint8_t *program, size_t program_len,
+                  size_t *line);
+
+/* Runs a script on a list of turns, from a fresh start. It reads the text itself.
+ *
+ *   text      the script, lent to be read
+ *   turns     the turns, lent to be read: a byte is the number of the thread whose turn it is
+ *   program   the program table, at least BOX_TABLE_BYTES
+ *   state     the state table, at least BOX_TABLE_BYTES
+ *   number    gets the number of the stop (10 to 16) or of the refusal (1 to 9)
+ *   thread    gets the thread of the stop
+ *   block     gets the block of the stop
+ *   line      gets the line of the stop, from 0 after the block's opener; or of the refusal, as box_read says it
+ *   moves     gets the number of turns that moved
+ *
+ * Answers BOX_FINISHED, BOX_STUCK, BOX_OPEN or BOX_STOPPED, and the tables hold the script and the state, for a stop the one before that turn;
+ * or BOX_REFUSED, and the tables keep every byte. */
+uint16_t box_run(const uint8_t *text, size_t text_len,
+                 const uint8_t *turns, size_t turns_len,
+                 uint8_t *program, size_t program_len,
+                 uint8_t *state, size_t state_len,
+                 size_t *number, size_t *thread, size_t *block, size_t *line, size_t *moves);
+
+/* Runs a script as box_run does, then lists every object that a thread reaches.
+ *
+ *   text, turns, program, state   as for box_run
+ *   thread    the number of the thread to report on
+ *   list      gets the numbers of the objects, a word each, each object once, in any order; then zeros. At least BOX_LIST_BYTES
+ *   count     gets how many objects there are
+ *   line      gets the refusal's line, as box_read says it; for BOX_NO_THREAD 0
+ *
+ * Answers 0 where it reported, also on a run that stopped; else the refusal's number. After 1 to 9 the tables and the list keep every byte;
+ * after BOX_NO_THREAD the tables hold the run and the list keeps every byte. */
+uint16_t box_reach(const uint8_t *text, size_t text_len,
+                   const uint8_t *turns, size_t turns_len,
+                   uint8_t *program, size_t program_len,
+                   uint8_t *state, size_t state_len,
+                   size_t thread,
+                   uint8_t *list, size_t list_len,
+                   size_t *count, size_t *line);
+
+/* Finds line n of a text, of any bytes and any length.
+ *
+ *   text      the text, lent to be read
+ *   n         which line, from 0
+ *   start     gets where the line starts in the text; past the last line, text_len
+ *
+ * Answers the line's length without its LF; past the last line, 0. The line is text + *start, and lives as long as the text does. */
+size_t box_line(const uint8_t *text, size_t text_len, size_t n, size_t *start);
+
+#ifdef __cplusplus
+}
+#endif
+
+#endif
