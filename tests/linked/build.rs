@@ -7,7 +7,7 @@ fn main() {
     let here = PathBuf::from(env::var("CARGO_MANIFEST_DIR").unwrap_or_default());
     let libraries = here.join("../../target/staticlib");
     println!("cargo:rustc-link-search=native={}", libraries.display());
-    for name in ["reader", "run"] {
+    for name in ["reader", "run", "host"] {
         println!("cargo:rustc-link-lib=static={}", name);
         println!(
             "cargo:rerun-if-changed={}",

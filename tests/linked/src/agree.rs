@@ -6,8 +6,9 @@ use second::generate;
 use second::numbers::*;
 use second::random::Random;
 use second::reading;
+use second::script::Program;
 
-use crate::{full, layout, library};
+use crate::{full, layout, lent, library};
 
 /// What a run of texts came to: how many were read, and how many had each refusal, at line 0 and at later lines.
 #[derive(Clone, Debug, Default, PartialEq, Eq)]
@@ -46,6 +47,15 @@ impl Counts {
         }
         rows
     }
+
+    pub fn add(&mut self, answer: &Result<(), Refusal>) {
+        match answer {
+            Ok(()) => self.read += 1,
+            Err(refusal) => {
+                self.refused[usize::from(refusal.number)][usize::from(refusal.line > 0)] += 1
+            }
+        }
+    }
 }
 
 pub fn text(random: &mut Random, seed: u64, n: u64) -> Vec<u8> {
@@ -66,31 +76,17 @@ pub fn text(random: &mut Random, seed: u64, n: u64) -> Vec<u8> {
     text
 }
 
-/// A lent table: of the right length, longer or too short, and full of old words.
-pub fn table(random: &mut Random) -> Vec<u16> {
-    let length = match random.weighted(&[80, 15, 4, 1]) {
-        0 => TABLE_WORDS,
-        1 => TABLE_WORDS + random.between(1, 40),
-        2 => TABLE_WORDS - random.between(1, 40),
-        _ => random.below(TABLE_WORDS),
-    };
-    let mut word = random.word();
-    (0..length)
-        .map(|_| {
-            word = word
-                .wrapping_mul(6_364_136_223_846_793_005)
-                .wrapping_add(1_442_695_040_888_963_407);
-            (word >> 48) as u16
-        })
-        .collect()
+/// What the second interpreter says of a text and a table of that many words.
+pub fn by_second(text: &[u8], words: usize) -> Result<Program, Refusal> {
+    reading::lengths(text.len(), 0, &[(words, TABLE_WORDS)])?;
+    reading::read_lines(text)
 }
 
 /// One text: the answer of both, or how they differ.
 pub fn one(text: &[u8], table: &[u16]) -> Result<Result<(), Refusal>, String> {
     let mut lent = table.to_vec();
     let ours = library::read(text, &mut lent);
-    let theirs = reading::lengths(text.len(), 0, &[(table.len(), TABLE_WORDS)])
-        .and_then(|()| reading::read_lines(text));
+    let theirs = by_second(text, table.len());
     let expected = match &theirs {
         Ok(program) => [&layout::program(program), &table[TABLE_WORDS..]].concat(),
         Err(_) => table.to_vec(),
@@ -123,12 +119,9 @@ pub fn many(seed: u64, count: u64) -> Result<Counts, (Vec<u8>, String)> {
     for n in 0..count {
         let mut random = Random::of(seed ^ 0x5eed, n);
         let text = text(&mut random, seed, n);
-        let table = table(&mut random);
+        let table = lent::table(&mut random);
         match one(&text, &table) {
-            Ok(Ok(())) => counts.read += 1,
-            Ok(Err(refusal)) => {
-                counts.refused[usize::from(refusal.number)][usize::from(refusal.line > 0)] += 1
-            }
+            Ok(answer) => counts.add(&answer),
             Err(fault) => return Err((text, fault)),
         }
     }

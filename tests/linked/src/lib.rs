@@ -3,8 +3,13 @@
 pub mod agree;
 pub mod bench;
 pub mod chart;
+pub mod finder;
 pub mod full;
+pub mod graph;
+pub mod host;
 pub mod layout;
+pub mod lent;
 pub mod library;
 pub mod loads;
+pub mod reports;
 pub mod runs;

@@ -1,4 +1,6 @@
-//! The compiled box. The only unsafe code of the tests stands here.
+//! The compiled box: the reader and the run on words, and in `bytes` the calls of a C host. The only unsafe code of the tests stands here.
+
+pub mod bytes;
 
 use second::machine::{End, Stop};
 use second::numbers::Refusal;
@@ -36,10 +38,7 @@ pub fn read(text: &[u8], table: &mut [u16]) -> Result<(), Refusal> {
     let number = unsafe { reader_read(text.as_ptr(), text.len(), words, length, &mut line) };
     match number {
         0 => Ok(()),
-        _ => Err(Refusal {
-            number: number as u8,
-            line,
-        }),
+        _ => Err(refused(number.into(), line)),
     }
 }
 
@@ -82,17 +81,26 @@ fn told(end: u16, numbers: [usize; 5]) -> Result<(End, usize), Refusal> {
         (2, [0, 0, 0, 0, moves]) => Ok((End::Open, moves)),
         (3, [number, thread, block, line, moves]) => {
             let stop = Stop {
-                number: number as u8,
-                thread: thread as u8,
-                block: block as u8,
-                line: line as u8,
+                number: byte(number),
+                thread: byte(thread),
+                block: byte(block),
+                line: byte(line),
             };
             Ok((End::Stopped(stop), moves))
         }
-        (4, [number, 0, 0, line, 0]) => Err(Refusal {
-            number: number as u8,
-            line,
-        }),
+        (4, [number, 0, 0, line, 0]) => Err(refused(number, line)),
         _ => panic!("no answer of a run: {} {:?}", end, numbers),
     }
+}
+
+fn refused(number: usize, line: usize) -> Refusal {
+    Refusal {
+        number: byte(number),
+        line,
+    }
+}
+
+/// A number of an answer; one over 255, which no answer has, is 255.
+fn byte(number: usize) -> u8 {
+    u8::try_from(number).unwrap_or(u8::MAX)
 }

@@ -1,11 +1,12 @@
-//! The program `linked`: `read SEED COUNT` and `run SEED COUNT` hold the compiled box against the second interpreter; `bench [FILE]` measures
-//! both, and shows the times of the file's lines, a load's name, a tab and its ns, beside them.
+//! The program `linked`: `read SEED COUNT` and `run SEED COUNT` hold the compiled box against the second interpreter, on words; `host SEED
+//! COUNT` does so through the calls of a C host, on bytes; `bench [FILE]` measures both, and shows the times of the file's lines, a load's
+//! name, a tab and its ns, beside them.
 
 use std::env;
 use std::fs;
 use std::process;
 
-use linked::{agree, bench, runs};
+use linked::{agree, bench, host, runs};
 use second::console::{complain, out};
 
 const CALLS: usize = 4001;
@@ -29,6 +30,9 @@ fn main() {
             ("run", Ok(seed), Ok(count)) => {
                 told(runs::many(seed, count).map(|counts| (counts.rows(), counts.missing())))
             }
+            ("host", Ok(seed), Ok(count)) => {
+                told(host::many(seed, count).map(|counts| (counts.rows(), counts.missing())))
+            }
             _ => usage(),
         },
         _ => usage(),
@@ -37,7 +41,7 @@ fn main() {
 }
 
 fn usage() -> i32 {
-    complain("linked read SEED COUNT | run SEED COUNT | bench [FILE]\n");
+    complain("linked read SEED COUNT | run SEED COUNT | host SEED COUNT | bench [FILE]\n");
     2
 }
 
@@ -58,7 +62,7 @@ fn told(held: Held) -> i32 {
         Ok((rows, missing)) => {
             let text: String = rows
                 .iter()
-                .map(|(name, number)| format!("{:<28}{:>10}\n", name, number))
+                .map(|(name, number)| format!("{:<36}{:>10}\n", name, number))
                 .collect();
             let status = out(text.as_bytes());
             if missing.is_empty() {

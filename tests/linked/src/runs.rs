@@ -2,7 +2,7 @@
 //! words by docs/LAYOUT.md, and every other lent word as it was; and demand 3, on the box's own tables.
 
 use second::input;
-use second::machine::{self, End};
+use second::machine::{self, End, Run};
 use second::numbers::*;
 use second::random::Random;
 use second::reading;
@@ -11,24 +11,20 @@ use second::stripped::{strip, strip_text};
 use second::{generate, turns};
 
 use crate::agree::{self, same_words};
-use crate::{layout, library};
+use crate::{layout, lent, library};
 
 const ENDS: usize = 3;
 
-/// What the runs came to: how many ended in each way, and how many had each refusal or stop; and the lists of each telling length.
+/// How many runs ended in each way, and how many had each refusal or stop.
 #[derive(Clone, Debug, Default, PartialEq, Eq)]
-pub struct Counts {
+pub struct Answers {
     pub ended: [u64; ENDS],
     pub numbers: [u64; USED_UP as usize + 1],
-    pub lists: [u64; LENGTHS.len()],
-    pub demand_3: u64,
-    pub guarded_alone: u64,
 }
 
 const END_NAMES: [&str; ENDS] = ["finished", "stuck", "open"];
-const LENGTHS: [usize; 4] = [0, 1, MOST_TURNS, MOST_TURNS + 1];
 
-impl Counts {
+impl Answers {
     pub fn rows(&self) -> Vec<(String, u64)> {
         let ends = END_NAMES.iter().map(|name| name.to_string());
         let mut rows: Vec<(String, u64)> = ends.zip(self.ended).collect();
@@ -43,25 +39,10 @@ impl Counts {
                 self.numbers[usize::from(number)],
             ));
         }
-        for (length, count) in LENGTHS.iter().zip(self.lists) {
-            rows.push((format!("lists of {}", length), count));
-        }
-        rows.push(("demand 3, tables compared".to_string(), self.demand_3));
-        rows.push((
-            "stopped by a guard alone".to_string(),
-            self.guarded_alone,
-        ));
         rows
     }
 
-    pub fn missing(&self) -> Vec<String> {
-        let rows = self.rows().into_iter();
-        rows.filter(|(_, count)| *count == 0)
-            .map(|(name, _)| name)
-            .collect()
-    }
-
-    fn add(&mut self, answer: &Result<(End, usize), Refusal>) {
+    pub fn add(&mut self, answer: &Result<(End, usize), Refusal>) {
         match answer {
             Err(refusal) => self.numbers[usize::from(refusal.number)] += 1,
             Ok((End::Stopped(stop), _)) => self.numbers[usize::from(stop.number)] += 1,
@@ -70,6 +51,39 @@ impl Counts {
             Ok((End::Open, _)) => self.ended[2] += 1,
         }
     }
+}
+
+/// What the runs came to: their answers, and the lists of each telling length.
+#[derive(Clone, Debug, Default, PartialEq, Eq)]
+pub struct Counts {
+    pub answers: Answers,
+    pub lists: [u64; LENGTHS.len()],
+    pub demand_3: u64,
+    pub guarded_alone: u64,
+}
+
+const LENGTHS: [usize; 4] = [0, 1, MOST_TURNS, MOST_TURNS + 1];
+
+impl Counts {
+    pub fn rows(&self) -> Vec<(String, u64)> {
+        let mut rows = self.answers.rows();
+        for (length, count) in LENGTHS.iter().zip(self.lists) {
+            rows.push((format!("lists of {}", length), count));
+        }
+        rows.push(("demand 3, tables compared".to_string(), self.demand_3));
+        rows.push(("stopped by a guard alone".to_string(), self.guarded_alone));
+        rows
+    }
+
+    pub fn missing(&self) -> Vec<String> {
+        zeros(self.rows())
+    }
+}
+
+/// The rows that nothing has reached.
+pub fn zeros(rows: Vec<(String, u64)>) -> Vec<String> {
+    let empty = rows.into_iter().filter(|(_, count)| *count == 0);
+    empty.map(|(name, _)| name).collect()
 }
 
 /// What is lent to a run.
@@ -94,19 +108,43 @@ fn turns_of(random: &mut Random, input: &[u8]) -> Vec<u8> {
     (0..length).map(|_| random.below(threads) as u8).collect()
 }
 
-fn lent(seed: u64, n: u64) -> Lent {
-    let mut random = Random::of(seed ^ 0x6c65_6e74, n);
+/// The n-th script and list of turns of a seed.
+pub fn inputs(random: &mut Random, seed: u64, n: u64) -> (Vec<u8>, Vec<u8>) {
     let input = generate::input(seed, n);
-    let turns = turns_of(&mut random, &input);
+    let turns = turns_of(random, &input);
     let text = match input::parts(&input) {
         Ok(parts) if random.chance(90) => parts.script.to_vec(),
-        _ => agree::text(&mut random, seed, n),
+        _ => agree::text(random, seed, n),
     };
+    (text, turns)
+}
+
+/// What the second interpreter says of a run's inputs, its tables of so many words: the program, changed, and its run.
+pub fn by_second(
+    (text, turns): (&[u8], &[u8]),
+    (program, state): (usize, usize),
+    change: fn(&Program) -> Program,
+) -> Result<(Program, Run), Refusal> {
+    let tables = [(program, TABLE_WORDS), (state, TABLE_WORDS)];
+    reading::lengths(text.len(), turns.len(), &tables)?;
+    let program = change(&reading::read_lines(text)?);
+    let run = machine::run(&program, turns);
+    Ok((program, run))
+}
+
+/// The script and the turns, as boxrun takes them.
+pub fn shown(text: Vec<u8>, turns: &[u8]) -> Vec<u8> {
+    [text, generate::turns_text(turns)].concat()
+}
+
+fn lent(seed: u64, n: u64) -> Lent {
+    let mut random = Random::of(seed ^ 0x6c65_6e74, n);
+    let (text, turns) = inputs(&mut random, seed, n);
     Lent {
         text,
         turns,
-        program: agree::table(&mut random),
-        state: agree::table(&mut random),
+        program: lent::table(&mut random),
+        state: lent::table(&mut random),
     }
 }
 
@@ -114,24 +152,16 @@ fn lent(seed: u64, n: u64) -> Lent {
 fn one(lent: &Lent, change: fn(&Program) -> Program) -> Result<Ran, String> {
     let (mut program, mut state) = (lent.program.clone(), lent.state.clone());
     let ours = library::run(&lent.text, &lent.turns, &mut program, &mut state);
-    let tables = [
-        (lent.program.len(), TABLE_WORDS),
-        (lent.state.len(), TABLE_WORDS),
-    ];
-    let read = reading::lengths(lent.text.len(), lent.turns.len(), &tables)
-        .and_then(|()| reading::read_lines(&lent.text));
-    let (theirs, program_words, state_words) = match read {
-        Err(refusal) => (Err(refusal), lent.program.clone(), lent.state.clone()),
-        Ok(read) => {
-            let read = change(&read);
-            let run = machine::run(&read, &lent.turns);
-            (
+    let lengths = (program.len(), state.len());
+    let (theirs, program_words, state_words) =
+        match by_second((&lent.text, &lent.turns), lengths, change) {
+            Err(refusal) => (Err(refusal), lent.program.clone(), lent.state.clone()),
+            Ok((read, run)) => (
                 Ok((run.end, run.moves as usize)),
                 [&layout::program(&read), &lent.program[TABLE_WORDS..]].concat(),
                 [&layout::state(&run.state), &lent.state[TABLE_WORDS..]].concat(),
-            )
-        }
-    };
+            ),
+        };
     if ours != theirs {
         return Err(format!(
             "the box says {:?}, the second interpreter {:?}",
@@ -160,7 +190,10 @@ fn matches(guarded: &Ran, stripped: &Ran) -> Result<(), String> {
     let finished = |end: &End| *end == End::Finished;
     let stuck = *guarded_end != End::Stuck || *stripped_end == End::Stuck;
     if finished(guarded_end) != finished(stripped_end) || !stuck {
-        return Err(format!("guarded {:?}, stripped {:?}", guarded_end, stripped_end));
+        return Err(format!(
+            "guarded {:?}, stripped {:?}",
+            guarded_end, stripped_end
+        ));
     }
     same_words(
         "the guarded table, erased,",
@@ -171,8 +204,11 @@ fn matches(guarded: &Ran, stripped: &Ran) -> Result<(), String> {
 
 fn both(lent: &Lent, counts: &mut Counts) -> Result<(), String> {
     let guarded = one(lent, Program::clone)?;
-    counts.add(&guarded.answer);
-    if let Some(place) = LENGTHS.iter().position(|length| *length == lent.turns.len()) {
+    counts.answers.add(&guarded.answer);
+    if let Some(place) = LENGTHS
+        .iter()
+        .position(|length| *length == lent.turns.len())
+    {
         counts.lists[place] += 1;
     }
     let other = Lent {
@@ -183,7 +219,7 @@ fn both(lent: &Lent, counts: &mut Counts) -> Result<(), String> {
         return Ok(());
     }
     let stripped = one(&other, strip)?;
-    counts.add(&stripped.answer);
+    counts.answers.add(&stripped.answer);
     match guarded.answer {
         Ok((End::Stopped(stop), _)) if stop.number == PERMISSION || stop.number == CAST => {
             counts.guarded_alone += 1;
@@ -203,8 +239,7 @@ pub fn many(seed: u64, count: u64) -> Result<Counts, (Vec<u8>, String)> {
     for n in 0..count {
         let lent = lent(seed, n);
         if let Err(fault) = both(&lent, &mut counts) {
-            let shown = [lent.text, generate::turns_text(&lent.turns)].concat();
-            return Err((shown, fault));
+            return Err((shown(lent.text, &lent.turns), fault));
         }
     }
     Ok(counts)

@@ -25,6 +25,7 @@ pub mod stripped;
 
 pub mod damage;
 pub mod generate;
+pub mod graphs;
 pub mod histogram;
 pub mod plain;
 pub mod random;

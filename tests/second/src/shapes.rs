@@ -1,6 +1,7 @@
 //! Special shapes that plain scripts seldom have: mosts reached and exceeded, frames, threads and
 //! objects used up, answers on one channel, locals met by another thread, and long inputs.
 
+use crate::graphs;
 use crate::numbers::*;
 use crate::random::Random;
 use crate::turns::{list, rounds};
@@ -9,7 +10,7 @@ use crate::turns::{list, rounds};
 pub type Shape = (String, Vec<u8>);
 
 pub fn shape(random: &mut Random) -> Shape {
-    match random.weighted(&[5, 5, 6, 3, 6, 4, 4, 8, 12, 16, 5, 8, 8, 10]) {
+    match random.weighted(&[5, 5, 6, 3, 6, 4, 4, 8, 12, 16, 5, 8, 8, 10, 12, 8]) {
         0 => many_kinds(random),
         1 => many_blocks(random),
         2 => many_slots(random),
@@ -23,7 +24,9 @@ pub fn shape(random: &mut Random) -> Shape {
         10 => objects_used_up(random),
         11 => threads_used_up(random),
         12 => frames_used_up(random),
-        _ => local_to_a_full_channel(random),
+        13 => local_to_a_full_channel(random),
+        14 => graphs::woven(random),
+        _ => graphs::deep(random),
     }
 }
 

@@ -6,12 +6,15 @@ mod common;
 use common::*;
 use second::demand3::{check, check_many, check_pair};
 use second::generate;
+use second::graphs::{deep, woven};
 use second::histogram::Histogram;
 use second::input::{accepted, boxrun, boxrun_stripped};
 use second::machine::{run, End, Machine, Outcome};
+use second::random::Random;
 use second::reach::reach;
 use second::reading::read_lines;
 use second::script::{Cap, Expr};
+use second::shapes::Shape;
 use second::stripped::{erase, strip, strip_text};
 
 const SEED: u64 = 20_260_117;
@@ -131,6 +134,24 @@ fn reach_of_random_runs() {
         }
     }
     assert!(reached_any > 500);
+}
+
+/// The shapes of many objects reach all that there can be, and fill all frames.
+#[test]
+fn woven_and_deep_shapes_reach_far() {
+    let farthest = |shape: fn(&mut Random) -> Shape| {
+        let runs = (0..200).map(|n| {
+            let (script, turns) = shape(&mut Random::of(SEED, n));
+            let state = run_of(&script, &turns).state;
+            let reached = reach(&state, 0).unwrap().len();
+            (reached, state.threads[0].frames.len())
+        });
+        runs.fold((0, 0), |far, one| (far.0.max(one.0), far.1.max(one.1)))
+    };
+    assert_eq!(farthest(woven).0, 256);
+    let (reached, frames) = farthest(deep);
+    assert!(reached > 150);
+    assert_eq!(frames, 16);
 }
 
 /// Whatever the input, one answer comes first and every line ends in LF.

@@ -104,6 +104,72 @@ fn all_frames_count() {
     assert_eq!(reached(&in_a_call(), &[0; 6], 0), vec![0, 1, 3]);
 }
 
+/// Object 1 is in a slot of the outermost frame alone, and object 0 in object 1 alone; the method's
+/// frame has objects 2 and 3.
+#[test]
+fn on_through_fields_from_an_outer_frame() {
+    let script = text(&[
+        "(kind (fields 0) (does 1))",
+        "(kind (fields 1) (does))",
+        "(thread)",
+        "(let (new imm 0))",
+        "(let (new imm 1 (take 1)))",
+        "(let (new imm 0))",
+        "(let (call 3 0 (read 3)))",
+        "(give (read 3))",
+        "(method)",
+        "(let (new imm 0))",
+        "(give (read 2))",
+    ]);
+    assert_eq!(reached(&script, &[0; 4], 0), vec![0, 1, 2]);
+    assert_eq!(reached(&script, &[0; 5], 0), vec![0, 1, 2, 3]);
+}
+
+/// Object 1 holds itself once the first swap is made; the second puts it into object 2, and no slot
+/// has it any more.
+#[test]
+fn an_object_that_holds_itself() {
+    let script = text(&[
+        "(kind (fields 0) (does))",
+        "(kind (fields 1) (does))",
+        "(thread)",
+        "(let (new unsafe 0))",
+        "(let (new unsafe 1 (take 1)))",
+        "(let (swap 2 0 (read 2)))",
+        "(let (cast unsafe (take 3)))",
+        "(let (new unsafe 1 (take 4)))",
+        "(let (swap 5 0 (take 2)))",
+        "(give (read 6))",
+    ]);
+    assert_eq!(reached(&script, &[0; 3], 0), vec![0, 1]);
+    assert_eq!(reached(&script, &[0; 5], 0), vec![0, 1, 2]);
+    assert_eq!(reached(&script, &[0; 6], 0), vec![0, 1, 2]);
+    assert_eq!(reached(&script, &[0; 7], 0), vec![]);
+}
+
+/// The sender still reads what it has sent; thread 1 reaches it when it has received it, and then
+/// both do.
+#[test]
+fn threads_may_reach_the_same_object() {
+    let script = text(&[
+        "(kind (fields 0) (does))",
+        "(kind (fields 1) (does))",
+        "(thread)",
+        "(let (spawn 1))",
+        "(let (new imm 0))",
+        "(let (new imm 1 (take 2)))",
+        "(let (send 1 (read 3)))",
+        "(give (read 3))",
+        "(thread)",
+        "(let (recv 0))",
+        "(give (read 1))",
+    ]);
+    let both = |turns: &[u8]| (reached(&script, turns, 0), reached(&script, turns, 1));
+    assert_eq!(both(&[0, 0, 0, 0]), (vec![0, 1], vec![]));
+    assert_eq!(both(&[0, 0, 0, 0, 1]), (vec![0, 1], vec![0, 1]));
+    assert_eq!(both(&[0, 0, 0, 0, 1, 0, 0]), (vec![], vec![0, 1]));
+}
+
 /// A chain of objects from one slot, and what is no longer held by any.
 #[test]
 fn a_stopped_run_is_reported_on_as_it_stands() {

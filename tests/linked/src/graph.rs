@@ -1,0 +1,73 @@
+//! What a report is tried on: whether the objects that a thread reaches need all that a walk must do.
+
+use second::numbers::MOST_OBJECTS;
+use second::reach::reach;
+use second::state::{State, Value};
+
+/// A state, and what a thread of it reaches.
+pub struct Graph<'a> {
+    pub state: &'a State,
+    pub objects: &'a [u16],
+}
+
+impl Graph<'_> {
+    /// Objects that hold none of those left are dropped, until all are or a ring is left.
+    pub fn has_ring(&self) -> bool {
+        let mut left = self.objects.to_vec();
+        loop {
+            let mut is_left = [false; MOST_OBJECTS];
+            left.iter()
+                .for_each(|number| is_left[usize::from(*number)] = true);
+            let before = left.len();
+            left.retain(|number| self.held(*number).any(|other| is_left[usize::from(other)]));
+            if left.len() == before {
+                return before > 0;
+            }
+        }
+    }
+
+    fn held(&self, number: u16) -> impl Iterator<Item = u16> + '_ {
+        let fields = &self.state.object(number).fields;
+        fields.iter().filter_map(|value| match value {
+            Value::Obj(number) => Some(*number),
+            Value::Absent | Value::Chan(_) => None,
+        })
+    }
+
+    /// Fields hold one object twice.
+    pub fn shares(&self) -> bool {
+        let mut held: Vec<u16> = self
+            .objects
+            .iter()
+            .flat_map(|number| self.held(*number))
+            .collect();
+        let all = held.len();
+        held.sort_unstable();
+        held.dedup();
+        held.len() < all
+    }
+
+    /// The innermost frame alone reaches fewer.
+    pub fn needs_outer_frames(&self, thread: usize) -> bool {
+        let frames = &self.state.threads[thread].frames;
+        if frames.len() < 2 {
+            return false;
+        }
+        let mut state = self.state.clone();
+        state.threads[thread].frames.drain(..frames.len() - 1);
+        reach(&state, thread).map_or(false, |inner| inner.len() < self.objects.len())
+    }
+
+    /// A slot holds a channel whose message is none of the objects.
+    pub fn leaves_message(&self, thread: usize) -> bool {
+        let slots = self.state.threads[thread]
+            .frames
+            .iter()
+            .flat_map(|frame| &frame.slots);
+        let mut messages = slots.filter_map(|value| match value {
+            Value::Chan(number) => Some(self.state.channel(*number).message),
+            Value::Absent | Value::Obj(_) => None,
+        });
+        messages.any(|value| matches!(value, Value::Obj(number) if !self.objects.contains(&number)))
+    }
+}

@@ -1,0 +1,114 @@
+//! Shapes of many objects: methods make nodes that hold each other, in chains, webs and rings, so
+//! that a thread reaches far and through many frames.
+
+use crate::numbers::{MOST_FIELDS, MOST_FRAMES};
+use crate::random::Random;
+use crate::shapes::Shape;
+use crate::turns::rounds;
+
+/// All objects of a script have one capability: which, how many fields a node has, and how often a
+/// line is a swap.
+struct Nodes {
+    cap: &'static str,
+    fields: usize,
+    swaps: usize,
+}
+
+fn nodes(random: &mut Random) -> Nodes {
+    let cap = ["unsafe", "local", "imm"][random.weighted(&[70, 15, 15])];
+    let swaps = [0, 10, 40][random.below(3)];
+    Nodes {
+        cap,
+        fields: random.between(1, MOST_FIELDS),
+        swaps: if cap == "imm" { 0 } else { swaps },
+    }
+}
+
+impl Nodes {
+    /// Lines of a method, and the slot of the last node: each node holds the one before it, the
+    /// first the argument, and whatever else there is; swaps close rings.
+    fn knots(&self, random: &mut Random, lines: usize) -> (String, usize) {
+        let (mut text, mut last, mut made) = (String::new(), 1, Vec::new());
+        for slot in 2..2 + lines {
+            let any = |random: &mut Random| format!(" (read {})", random.between(1, slot - 1));
+            match random.pick(&made) {
+                Some(node) if random.chance(self.swaps) => {
+                    let field = random.below(self.fields);
+                    text.push_str(&format!("(let (swap {} {}{}))\n", node, field, any(random)));
+                }
+                _ => {
+                    let others: String = (1..self.fields).map(|_| any(random)).collect();
+                    let new = format!("(let (new {} 1 (read {}){}))\n", self.cap, last, others);
+                    text.push_str(&new);
+                    last = slot;
+                    made.push(slot);
+                }
+            }
+        }
+        (text, last)
+    }
+
+    /// The first kind does the methods, and the second is the nodes'.
+    fn kinds(&self, does: &str) -> String {
+        format!(
+            "(kind (fields 0) (does {}))\n(kind (fields {}) (does))\n",
+            does, self.fields
+        )
+    }
+}
+
+/// Chains of nodes by two layers of calls, up to all objects that there can be; a second thread may
+/// get a node and build on it.
+pub fn woven(random: &mut Random) -> Shape {
+    let nodes = nodes(random);
+    let cap = nodes.cap;
+    let (passed, threads) = if cap != "local" && random.chance(50) {
+        ("(send 2 (read 3))", 2)
+    } else {
+        ("(read 3)", 1)
+    };
+    let first = format!(
+        "(thread)\n(let (new {} 0))\n(let (spawn 1))\n(let (call 1 0 (read 1)))\n(let {})\n\
+         (let (call 1 0 (read 3)))\n(let (call 1 0 (read 5)))\n(give (read 6))\n",
+        cap, passed
+    );
+    let second = format!(
+        "(thread)\n(let (recv 0))\n(let (new {} 0))\n(let (call 2 0 (read 1)))\n(give (read 3))\n",
+        cap
+    );
+    let most = random.chance(40);
+    let calls = if most { 14 } else { random.between(1, 14) };
+    let chained: String = (1..=calls)
+        .map(|slot| format!("(let (call 0 1 (read {})))\n", slot))
+        .collect();
+    let lines = if most { 14 } else { random.between(3, 14) };
+    let (knots, last) = nodes.knots(random, lines);
+    let methods = format!(
+        "(method)\n{}(give (read {}))\n(method)\n{}(give (read {}))\n",
+        chained,
+        calls + 1,
+        knots,
+        last
+    );
+    let length = if most { 700 } else { random.between(20, 500) };
+    let text = [nodes.kinds("2 3"), first, second, methods].concat();
+    (text, rounds(threads, length))
+}
+
+/// A method that makes nodes and calls itself, so that each frame holds its own.
+pub fn deep(random: &mut Random) -> Shape {
+    let nodes = nodes(random);
+    let first = format!(
+        "(thread)\n(let (new {0} 0))\n(let (new {0} 0))\n(let (call 1 0 (take 2)))\n(give (read 1))\n",
+        nodes.cap
+    );
+    let lines = random.between(1, 13);
+    let (knots, last) = nodes.knots(random, lines);
+    let word = ["read", "take"][random.below(2)];
+    let method = format!(
+        "(method)\n{}(let (call 0 0 ({} {})))\n(give (read 1))\n",
+        knots, word, last
+    );
+    let turns = rounds(1, random.between(3, (lines + 1) * MOST_FRAMES + 6));
+    ([nodes.kinds("1"), first, method].concat(), turns)
+}
