@@ -1,4 +1,4 @@
-//! Links the static libraries of the box, from where `rt staticlib` puts them.
+//! Links the static library of the box, from where `rt staticlib` puts it.
 
 use std::env;
 use std::path::PathBuf;
@@ -7,11 +7,9 @@ fn main() {
     let here = PathBuf::from(env::var("CARGO_MANIFEST_DIR").unwrap_or_default());
     let libraries = here.join("../../target/staticlib");
     println!("cargo:rustc-link-search=native={}", libraries.display());
-    for name in ["reader", "run", "host"] {
-        println!("cargo:rustc-link-lib=static={}", name);
-        println!(
-            "cargo:rerun-if-changed={}",
-            libraries.join(format!("lib{}.a", name)).display()
-        );
-    }
+    println!("cargo:rustc-link-lib=static=host");
+    println!(
+        "cargo:rerun-if-changed={}",
+        libraries.join("libhost.a").display()
+    );
 }

@@ -71,7 +71,7 @@ pub extern "C" fn box_read(text: &[u8], program: &mut [u8], line: &mut usize) ->
     match answer {
         reader::Answer::Refused(number, place) => {
             *line = place;
-            number
+            number // of the refusal
         }
         reader::Answer::Read => {
             store(program, &words);
@@ -110,7 +110,7 @@ pub extern "C" fn box_run(
     }
     let mut p = [0u16; 8192];
     let mut s = [0u16; 8192];
-    let end = run::run_run(
+    let end = run::run_in_numbers(
         text,
         turns,
         &mut p,

@@ -12,7 +12,7 @@ use scanning::scan_lines;
 ghost use mathlib.Core.Path.{_≡_};
 ghost use Rattle.rules.specs.Calls.{readCall, programAfter};
 ghost use Rattle.rules.specs.Mosts.{mosts};
-ghost use Rattle.reader.specs.Answers.{answerOf, numberOf, lineOf};
+ghost use Rattle.reader.specs.Answers.{answerOf};
 
 // What reading answers: the script was read; or it is turned away, with document 01's number and the line.
 pub enum Answer {
@@ -50,26 +50,6 @@ pub fn read(text: &[u8], table: &mut [u16]) -> Answer
             table::put_counts(&mut words, kinds, blocks, lines);
             table::copy_table(table, &words);
             Answer::Read
-        }
-    }
-}
-
-// The same for a host that lends words: the number, 0 where the script was read; the line goes to a word of the host's.
-#[no_mangle]
-pub extern "C" fn reader_read(text: &[u8], table: &mut [u16], line: &mut usize) -> u16
-    ensures { λ r. ⌜ r ≡ numberOf (readCall mosts (now (text .entry)) (now (table .entry))) ⌝ }
-    ensures { λ _. ⌜ now (line .exit) ≡ lineOf (readCall mosts (now (text .entry)) (now (table .entry))) ⌝ }
-    ensures { λ _. ⌜ now (table .exit) ≡ programAfter (readCall mosts (now (text .entry)) (now (table .entry))) (now (table .entry)) ⌝ }
-{
-    let r = read(text, table);
-    match r {
-        Answer::Read => {
-            *line = 0;
-            0
-        }
-        Answer::Refused(number, place) => {
-            *line = place;
-            number
         }
     }
 }

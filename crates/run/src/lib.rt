@@ -61,10 +61,9 @@ pub fn run(text: &[u8], turns: &[u8], program: &mut [u16], state: &mut [u16]) ->
     }
 }
 
-// The same for a host that lends words: it answers which end it is (0 finished, 1 stuck, 2 open, 3 stopped, 4 refused); the numbers go to
-// words of the host's, 0 where there is none.
-#[no_mangle]
-pub extern "C" fn run_run(
+// The same in numbers: it answers which end it is (0 finished, 1 stuck, 2 open, 3 stopped, 4 refused); the numbers go to words
+// of the caller's, 0 where there is none.
+pub fn run_in_numbers(
     text: &[u8],
     turns: &[u8],
     program: &mut [u16],

@@ -9,7 +9,8 @@ use second::reading;
 
 use crate::chart::{self, Row};
 use crate::loads::{self, Load};
-use crate::{full, library};
+use crate::full;
+use crate::library::bytes;
 
 fn median(mut times: Vec<f64>) -> f64 {
     times.sort_by(|a, b| a.total_cmp(b));
@@ -32,14 +33,14 @@ fn medians(calls: usize, mut ours: impl FnMut(), mut theirs: impl FnMut()) -> (f
     (median(left), median(right))
 }
 
-/// Reading 16,384 bytes, by the byte. The table is lent full of old words.
+/// Reading 16,384 bytes, by the byte. The table is lent full of old bytes.
 fn reading_row(calls: usize) -> Row {
     let text = full::script(1);
-    let mut table = vec![0xa5a5; TABLE_WORDS];
+    let mut table = vec![0xa5; 2 * TABLE_WORDS];
     let (ours, second) = medians(
         calls,
         || {
-            let _ = black_box(library::read(black_box(&text), &mut table));
+            let _ = black_box(bytes::read(black_box(&text), &mut table));
         },
         || {
             let _ = black_box(reading::read(black_box(&text)));
@@ -56,11 +57,11 @@ fn reading_row(calls: usize) -> Row {
 
 /// The turns of a load: a whole run less the same run on no turns, by turn.
 fn run_row(calls: usize, load: &Load, lua: &str) -> Result<Row, String> {
-    let (mut program, mut state) = (vec![0xa5a5; TABLE_WORDS], vec![0xa5a5; TABLE_WORDS]);
-    let ours = library::run(&load.text, &load.turns, &mut program, &mut state)
+    let (mut program, mut state) = (vec![0xa5; 2 * TABLE_WORDS], vec![0xa5; 2 * TABLE_WORDS]);
+    let ours = bytes::run(&load.text, &load.turns, &mut program, &mut state)
         .map_err(|refusal| format!("{}: {:?}", load.name, refusal))?;
     let mut box_run = |turns: &[u8]| {
-        let _ = black_box(library::run(
+        let _ = black_box(bytes::run(
             black_box(&load.text),
             turns,
             &mut program,

@@ -1,76 +1,41 @@
-//! The compiled box: the reader and the run on words, and in `bytes` the calls of a C host. The only unsafe code of the tests stands here.
+//! The compiled box: in `bytes` the calls of a C host, the only unsafe code of the tests; and the same on tables of words.
 
 pub mod bytes;
 
 use second::machine::{End, Stop};
 use second::numbers::Refusal;
 
-extern "C" {
-    fn reader_read(
-        text: *const u8,
-        text_length: usize,
-        table: *mut u16,
-        table_length: usize,
-        line: *mut usize,
-    ) -> u16;
-    fn run_run(
-        text: *const u8,
-        text_length: usize,
-        turns: *const u8,
-        turns_length: usize,
-        program: *mut u16,
-        program_length: usize,
-        state: *mut u16,
-        state_length: usize,
-        number: *mut usize,
-        thread: *mut usize,
-        block: *mut usize,
-        line: *mut usize,
-        moves: *mut usize,
-    ) -> u16;
+/// Words as the bytes that cross, low byte first.
+fn as_bytes(words: &[u16]) -> Vec<u8> {
+    words.iter().flat_map(|word| word.to_le_bytes()).collect()
+}
+
+fn take_back(bytes: &[u8], words: &mut [u16]) {
+    for (word, pair) in words.iter_mut().zip(bytes.chunks(2)) {
+        *word = u16::from_le_bytes([pair[0], pair[1]]);
+    }
 }
 
 /// Reads a script into a lent table of words: nothing, or the refusal with its line.
 pub fn read(text: &[u8], table: &mut [u16]) -> Result<(), Refusal> {
-    let mut line = usize::MAX;
-    let (words, length) = (table.as_mut_ptr(), table.len());
-    // All three live through the call; the library writes to the table and to the line alone.
-    let number = unsafe { reader_read(text.as_ptr(), text.len(), words, length, &mut line) };
-    match number {
-        0 => Ok(()),
-        _ => Err(refused(number.into(), line)),
-    }
+    let mut lent = as_bytes(table);
+    let answer = bytes::read(text, &mut lent);
+    take_back(&lent, table);
+    answer
 }
 
-/// Runs a script on lent tables: its end and its moves, or the refusal with its line.
+/// Runs a script on lent tables of words: its end and its moves, or the refusal with its line.
 pub fn run(
     text: &[u8],
     turns: &[u8],
     program: &mut [u16],
     state: &mut [u16],
 ) -> Result<(End, usize), Refusal> {
-    let [mut number, mut thread, mut block, mut line, mut moves] = [usize::MAX; 5];
-    let (program_words, program_length) = (program.as_mut_ptr(), program.len());
-    let (state_words, state_length) = (state.as_mut_ptr(), state.len());
-    // All live through the call; the library writes to the tables and to the numbers alone.
-    let end = unsafe {
-        run_run(
-            text.as_ptr(),
-            text.len(),
-            turns.as_ptr(),
-            turns.len(),
-            program_words,
-            program_length,
-            state_words,
-            state_length,
-            &mut number,
-            &mut thread,
-            &mut block,
-            &mut line,
-            &mut moves,
-        )
-    };
-    told(end, [number, thread, block, line, moves])
+    let (mut lent_program, mut lent_state) = (as_bytes(program), as_bytes(state));
+    let answer = bytes::run(text, turns, &mut lent_program, &mut lent_state);
+    take_back(&lent_program, program);
+    take_back(&lent_state, state);
+    answer
 }
 
 /// A number that an answer does not have must be 0.

@@ -26,14 +26,14 @@ returns c =
     let x = C.run-early turns program state (run-refused text turns program state (c .before .early .ensures) (c .if1 .taken)) in
     (x .answers, (x .program-is, (x .state-is, x .demand-3)))
 
-slice-aggregate-run-run : tie.Need-slice-aggregate-run-run
-slice-aggregate-run-run c = search needs
+slice-aggregate-run-in-numbers : tie.Need-slice-aggregate-run-in-numbers
+slice-aggregate-run-in-numbers c = search needs
 
-slice-aggregate-run-run-2 : tie.Need-slice-aggregate-run-run-2
-slice-aggregate-run-run-2 c = search needs
+slice-aggregate-run-in-numbers-2 : tie.Need-slice-aggregate-run-in-numbers-2
+slice-aggregate-run-in-numbers-2 c = search needs
 
-run-run-requires : tie.Need-run-run-requires
-run-run-requires c κs = search needs
+run-in-numbers-requires : tie.Need-run-in-numbers-requires
+run-in-numbers-requires c κs = search needs
 
 returns-2 : tie.Need-returns-2
 returns-2 c =
@@ -45,7 +45,7 @@ returns-2 c =
     let own : List ℕ = replicate 8192 0 in
     let long = length-replicate {A = ℕ} 8192 0 in
     let same = run-same text turns program state (c .before .before .before .before .before .before .before .before .before .before .before .before .early .ensures) own own long long (c .before .before .before .before .before .before .before .before .before .before .before .if1 .left) in
-    let ran = c .before .before .before .run-run .ensures in
+    let ran = c .before .before .before .run-in-numbers .ensures in
     let x = C.run-of-same same (C.run-refused _ turns program state (c .if2 .taken) (ran .0)) in
     (x .answers, (x .program-is, (x .state-is, x .demand-3)))
 
@@ -89,7 +89,7 @@ returns-3 c =
     let own : List ℕ = replicate 8192 0 in
     let long = length-replicate {A = ℕ} 8192 0 in
     let same = run-same text turns program state (c .before .before .before .before .before .before .before .before .before .before .before .before .before .before .before .before .before .before .before .before .before .before .early .ensures) own own long long (c .before .before .before .before .before .before .before .before .before .before .before .before .before .before .before .before .before .before .before .before .before .if1 .left) in
-    let ran = c .before .before .before .before .before .before .before .before .before .before .before .before .before .run-run .ensures in
+    let ran = c .before .before .before .before .before .before .before .before .before .before .before .before .before .run-in-numbers .ensures in
     let x = C.run-of-same same (C.run-done _ turns own own program state long long (c .before .before .before .before .before .before .before .before .before .before .if2 .left) (ran .0) (ran .1 .0) (ran .1 .1) (c .before .before .before .before .before .before .before .store .ensures) (c .before .before .store2 .ensures)) in
     (x .answers, (x .program-is, (x .state-is, x .demand-3)))
 
@@ -100,9 +100,9 @@ box-run-spec =
     early-requires
     cast-number
     returns
-    slice-aggregate-run-run
-    slice-aggregate-run-run-2
-    run-run-requires
+    slice-aggregate-run-in-numbers
+    slice-aggregate-run-in-numbers-2
+    run-in-numbers-requires
     returns-2
     slice-aggregate-store
     store-requires

@@ -1,9 +1,9 @@
--- `run::run_run` meets its contract: the answer of `run` by its numbers; both tables are as `run` leaves them.
+-- `run::run_in_numbers` meets its contract: the answer of `run` by its numbers; both tables are as `run` leaves them.
 use mathlib.Core.Path.{sym, _∙_}
 use Rattle.run.proofs.Answering.{tells-finished, tells-stuck, tells-open, tells-stopped, tells-refused}
 use borrow.Author.Needs.{needs}
-use Rattle.run.proofs.run_run.Statement.{statement}
-use Rattle.run.proofs.run_run.Tie as tie
+use Rattle.run.proofs.run_in_numbers.Statement.{statement}
+use Rattle.run.proofs.run_in_numbers.Tie as tie
 
 run-requires : tie.Need-run-requires
 run-requires c κs = search needs
@@ -105,8 +105,8 @@ returns-5 c =
     let ran = c .before .before .before .before .before .before .before .run .ensures in
     (tells-refused _ (sym (c .before .answer5 .given .1) ∙ ran .0), (ran .1 .0, ran .1 .1 .0))
 
-pub run-run-spec : {M : Type 1} → statement M
-run-run-spec =
+pub run-in-numbers-spec : {M : Type 1} → statement M
+run-in-numbers-spec =
     tie.close
     (tie.spec
     run-requires
