@@ -10,12 +10,12 @@ use lib.ListN.{length, getD, length-map, List·getD-eq-default}
 use borrow.Author.Tests.{lt-ltb, le-ltb}
 use Rattle.rules.specs.declared.Value.{Value}
 use Rattle.rules.specs.declared.Value.the-variants.{Absent, Obj, Chan}
-use Rattle.rules.specs.Script.{Program, noKind, linesOf, kindAt}
-use Rattle.rules.specs.Valid.{KindOk}
+use Rattle.rules.specs.Script.{Program, linesOf, kindAt}
 use Rattle.rules.specs.State.{State, Frame, objectAt}
 use Rattle.rules.specs.Tables.{operandOf}
 use Rattle.rules.specs.Turn.{_>>=_, _>>_, check, permit, isForeign, asObject, object, callLine}
-use Rattle.rules.proofs.ListLaws.{impossible, every-at}
+use Rattle.rules.proofs.ListLaws.{impossible}
+use Rattle.rules.proofs.Keeps.{kind-ok}
 use Rattle.table.specs.declared.state.Here.{Here}
 use Rattle.table.specs.Program.{Filled, KindMethod}
 use Rattle.table.specs.State.{Sees, Any}
@@ -51,12 +51,11 @@ some-item (x ∷ ms) (suc j) some = omega (arith, some-item ms j some)
 
 -- no kind has a fifth method
 pub no-fifth-method : (p s : List ℕ) (n : ℕ) {j : ℕ} → 4 ≤ j → MethodItem p s n j 0
-unfolding kindAt
 no-fifth-method p s n {j} past =
     record {
       is = λ P S counts rest₁ rest₂ filled held valid made there.
           let k = objectAt (S .objects) n .kind in
-          let few = every-at (KindOk P) (P .kinds) k noKind there (valid .kinds) .few-methods in
+          let few = kind-ok _ P valid k there .few-methods in
           let ms = kindAt P k .methods in
           sym (List·getD-eq-default (map suc ms) 0 (omega (arith, few, length-map ms suc)));
     }

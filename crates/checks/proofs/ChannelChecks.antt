@@ -13,11 +13,12 @@ use Rattle.rules.specs.Tables.{operandOf}
 use Rattle.rules.specs.Turn.{_>>=_, _>>_, check, waitUnless, permit, isLocal, isAbsent, asObject, asChannel, object, recvLine, sentLine, putLine}
 use Rattle.table.specs.declared.state.Here.{Here}
 use Rattle.table.specs.State.{InTable, Held, Sees, Any}
+use Rattle.table.proofs.Places.{message-in-table}
 use Rattle.checks.specs.declared.lines.Step.{Step}
 use Rattle.checks.specs.declared.lines.Step.the-variants.{Next, Waits, NoValue, WrongThing, Other}
 use Rattle.checks.specs.Checked.{resultOf, outcomeOf, isPass, InObjects, putInto, Checks}
 use Rattle.checks.proofs.CheckLaws.{stays, then-ok, same-after}
-use Rattle.checks.proofs.Standing.{SlotSeen, TargetSeen, MessageSeen, OperandChecked, slot-in-objects, message-in-table, slot-read, target-read, message-read, operand-goes}
+use Rattle.checks.proofs.Standing.{SlotSeen, TargetSeen, MessageSeen, OperandChecked, slot-in-objects, slot-read, target-read, message-read, operand-goes}
 
 -- ---- recv and sent: the target v in slot i, its message u
 
@@ -123,7 +124,7 @@ module _ {s : List ℕ} {h : Here} (i w : ℕ) {k : Step} (first : OperandChecke
         record {
           checks = λ P n S f fs rest st named.
               let value-is = slot-read st (w / 2) j place value (named .1 .0) in
-              let answer = into .sees S rest (st .held) (subst (λ x. InObjects x S) value-is (slot-in-objects st (w / 2)), message-in-table st c) in
+              let answer = into .sees S rest (st .held) (subst (λ x. InObjects x S) value-is (slot-in-objects st (w / 2)), message-in-table (st .fits) c) in
               answer
               ∙ rw (operand-goes st w first passed (named .1 .0), target-read st i w target (named .0) ∙ is, value-is)
               (same-after (asObject u) _ _ λ n.

@@ -8,6 +8,7 @@ use lib.ListN.{length, getD, List·getD-eq-default}
 use borrow.Author.Tests.{ltb-false, eq-eqb, ne-eqb}
 use Rattle.rules.specs.declared.Value.{Value}
 use Rattle.rules.specs.declared.Value.the-variants.{Absent, Obj, Chan}
+use Rattle.rules.specs.Mosts.{mosts}
 use Rattle.rules.specs.Numbers as No
 use Rattle.rules.specs.Lists.{Every}
 use Rattle.rules.specs.Script.{Program}
@@ -26,17 +27,17 @@ use Rattle.checks.proofs.Standing.{SlotSeen, TargetSeen, OperandChecked
 
 -- ---- A field that is there
 
-object-is-there : (v : Value) → IsObject 256 v → isAbsent v ≡ false
+object-is-there : (o : ℕ) (v : Value) → IsObject o v → isAbsent v ≡ false
 unfolding isAbsent
-object-is-there Absent h = absurd h
-object-is-there (Obj n) h = refl
-object-is-there (Chan c) h = absurd h
+object-is-there o Absent h = absurd h
+object-is-there o (Obj n) h = refl
+object-is-there o (Chan c) h = absurd h
 
 -- each field is an object: a place past them alone reads absent
-has-field : (vs : List Value) (j : ℕ) → Every (IsObject 256) vs → ltb j (length vs) ≡ not (isAbsent (slotAt vs j))
+has-field : (o : ℕ) (vs : List Value) (j : ℕ) → Every (IsObject o) vs → ltb j (length vs) ≡ not (isAbsent (slotAt vs j))
 unfolding slotAt isAbsent
-has-field vs j h = by-bool (ltb j (length vs))
-    (λ t. rw (t, object-is-there (getD vs j Absent) (every-at (IsObject 256) vs j Absent (below t) h)))
+has-field o vs j h = by-bool (ltb j (length vs))
+    (λ t. rw (t, object-is-there o (getD vs j Absent) (every-at (IsObject o) vs j Absent (below t) h)))
     (λ t. rw (t, List·getD-eq-default vs Absent (ltb-false j (length vs) t)))
 
 -- ---- field: the target x in slot i
@@ -67,7 +68,7 @@ module _ {s : List ℕ} {h : Here} (i j : ℕ) {x : Value} (target : SlotSeen s 
           ≡ outcomeOf (fieldLine (hereAt S (h .thread) f fs) i j)
       unfolding fieldLine asObject object _>>=_ _>>_
       field-answer =
-          rw (slot-read st i _ refl target (named .0) ∙ is, field-is, has-field (objectAt (S .objects) o .fields) j (fielded st o made .fields))
+          rw (slot-read st i _ refl target (named .0) ∙ is, field-is, has-field (mosts .objects) (objectAt (S .objects) o .fields) j (fielded st o made .fields))
           (same-after (check _ No.noField) _ _ λ _. then-ok (permit _ _ false) _)
 
     pub field-missing : isAbsent v ≡ true → Checks s h (i ∷ []) (λ P H. fieldLine H i j) NoField
@@ -150,14 +151,14 @@ module _ (t : ℕ) (os : List Object) (n j : ℕ) where
   unfolding swapInto asObject _>>=_
   into-channel c = refl
 
-  module _ (m : ℕ) (fields : Every (IsObject 256) (objectAt os n .fields)) where
+  module _ (m : ℕ) (fields : Every (IsObject (mosts .objects)) (objectAt os n .fields)) where
     pub into-missing : isAbsent (slotAt (objectAt os n .fields) j) ≡ true → resultOf NoField ≡ outcomeOf (swapInto t os n j (Obj m))
     unfolding swapInto asObject check _>>=_ _>>_
-    into-missing missing = rw (has-field (objectAt os n .fields) j fields, missing)
+    into-missing missing = rw (has-field (mosts .objects) (objectAt os n .fields) j fields, missing)
 
     pub into-field : isAbsent (slotAt (objectAt os n .fields) j) ≡ false → outcomeOf (permitSwap t (objectAt os n) (objectAt os m)) ≡ outcomeOf (swapInto t os n j (Obj m))
     unfolding swapInto asObject check _>>=_ _>>_
-    into-field there = rw (has-field (objectAt os n .fields) j fields, there)
+    into-field there = rw (has-field (mosts .objects) (objectAt os n .fields) j fields, there)
 
 -- ---- swap: the operand's word w, the target x in slot i as the operand leaves it
 

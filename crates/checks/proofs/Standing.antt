@@ -13,13 +13,14 @@ use Rattle.rules.specs.Mosts.{mosts}
 use Rattle.rules.specs.Script.{Program}
 use Rattle.rules.specs.State.{Frame, State, objectAt, channelAt, slotAt}
 use Rattle.rules.specs.Tables.{operandOf}
-use Rattle.rules.specs.Turn.{ok, isAbsent, operand, leftBy, object}
-use Rattle.rules.specs.Fits.{InRange, IsObject, ObjectFits, ChannelFits}
+use Rattle.rules.specs.Turn.{ok, isAbsent, operand, leftBy}
+use Rattle.rules.specs.Fits.{InRange, IsObject}
 use Rattle.rules.proofs.ListLaws.{every-map, every-get}
 use Rattle.rules.proofs.Keeps.{HereFits, here-fits, is-object-more, object-in-range, slot-range, object-fits, channel-fits}
 use Rattle.table.specs.declared.state.Here.{Here}
 use Rattle.table.specs.State.{InTable, Sees, FieldIn, frameAt}
 use Rattle.table.proofs.StateEdits.{innermost-frame}
+use Rattle.table.proofs.Places.{in-table, has-place, message-in-table}
 use Rattle.checks.specs.declared.lines.Step.{Step}
 use Rattle.checks.specs.Checked.{isPass, Fielded, InObjects, hereAt, Stand, Checks}
 use Rattle.checks.proofs.CheckLaws.{operand-gives, left-was-there}
@@ -43,20 +44,14 @@ OperandChecked s h w k = Checks s h (w / 2 ∷ []) (λ P H. operand (H .state .o
 
 -- ---- Values in range
 
--- a value in the range of a run has a place in the table
-pub in-table : (o c : ℕ) (v : Value) → o ≤ 256 → c ≤ 16 → InRange o c v → InTable v
-in-table o c Absent few-objects few-channels within = tt
-in-table o c (Obj n) few-objects few-channels within = omega arith
-in-table o c (Chan k) few-objects few-channels within = omega arith
-
 in-objects : (S : State) (c : ℕ) (v : Value) → InRange (length (S .objects)) c v → InObjects v S
 in-objects S c Absent within = tt
 in-objects S c (Obj n) within = within
 in-objects S c (Chan k) within = tt
 
--- an object has one too
-object-in-table : (v : Value) → IsObject 256 v → InTable v
-object-in-table v is = in-table 256 0 v (omega arith) (omega arith) (object-in-range 256 0 v is)
+-- an object has a place in the table
+object-in-table : (v : Value) → IsObject (mosts .objects) v → InTable v
+object-in-table v is = in-table (mosts .objects) 0 v (omega arith) (omega arith) (object-in-range _ 0 v is)
 
 object-in-objects : (S : State) (v : Value) → IsObject (length (S .objects)) v → InObjects v S
 object-in-objects S v is = in-objects S 0 v (object-in-range (length (S .objects)) 0 v is)
@@ -87,7 +82,7 @@ module _ {s : List ℕ} {h : Here} {P : Program} {n : ℕ} {S : State} {f : Fram
   slot-in-range i = slot-range _ _ (f .slots) i (fits-here .frame .slots)
 
   pub slot-in-table : (i : ℕ) → InTable (slotAt (f .slots) i)
-  slot-in-table i = in-table _ _ (slotAt (f .slots) i) (st .fits .few-objects) (st .fits .few-threads) (slot-in-range i)
+  slot-in-table i = has-place (st .fits) (slotAt (f .slots) i) (slot-in-range i)
 
   pub slot-in-objects : (i : ℕ) → InObjects (slotAt (f .slots) i) S
   slot-in-objects i = in-objects S _ (slotAt (f .slots) i) (slot-in-range i)
@@ -102,36 +97,26 @@ module _ {s : List ℕ} {h : Here} {P : Program} {n : ℕ} {S : State} {f : Fram
       rw (st .fits .channel-each) below
 
   -- what an object holds
-  object-is : (o : ℕ) → o < length (S .objects) → ObjectFits P (length (S .objects)) (length (S .threads)) (objectAt (S .objects) o)
-  unfolding object
-  object-is o there = object-fits mosts P n (hereAt S (h .thread) f fs) fits-here o there
-
   pub fielded : (o : ℕ) → o < length (S .objects) → Fielded o S
   fielded o there =
       record {
         made = there;
-        few = object-is o there .few;
-        fields = every-map (is-object-more (st .fits .few-objects)) (objectAt (S .objects) o .fields) (object-is o there .fields);
+        few = object-fits (st .fits) o there .few;
+        fields = every-map (is-object-more (st .fits .few-objects)) (objectAt (S .objects) o .fields) (object-fits (st .fits) o there .fields);
       }
 
   pub field-in-objects : (o j : ℕ) → o < length (S .objects) → InObjects (slotAt (objectAt (S .objects) o .fields) j) S
   unfolding slotAt
   field-in-objects o j there =
       let fields = objectAt (S .objects) o .fields in
-      every-get (λ v. InObjects v S) fields j Absent tt (every-map (object-in-objects S) fields (object-is o there .fields))
+      every-get (λ v. InObjects v S) fields j Absent tt (every-map (object-in-objects S) fields (object-fits (st .fits) o there .fields))
 
   pub kind-is-there : (o : ℕ) → o < length (S .objects) → objectAt (S .objects) o .kind < length (P .kinds)
-  kind-is-there o there = object-is o there .kind
+  kind-is-there o there = object-fits (st .fits) o there .kind
 
-  -- what a channel holds; its message's number is at most that of the moves
-  channel-is : (c : ℕ) → ChannelFits n (length (S .objects)) (length (S .threads)) (channelAt S c)
-  channel-is c = channel-fits mosts P n (hereAt S (h .thread) f fs) fits-here c
-
-  pub message-in-table : (c : ℕ) → InTable (channelAt S c .message)
-  message-in-table c = in-table _ _ (channelAt S c .message) (st .fits .few-objects) (st .fits .few-threads) (channel-is c .message)
-
+  -- the number of a channel's message is at most that of the moves
   pub messages-few : (c : ℕ) → channelAt S c .number ≤ n
-  messages-few c = channel-is c .number
+  messages-few c = channel-fits (st .fits) c .number
 
   -- slot i, at the place j: a filled slot is one of 16
   pub slot-place : (i : ℕ) → i < length (f .slots) → i % 16 ≡ i
@@ -154,7 +139,7 @@ module _ {s : List ℕ} {h : Here} {P : Program} {n : ℕ} {S : State} {f : Fram
   target-object i w o is = slot-object i o (left-was-there (f .slots) (operandOf w) i refl is)
 
   pub message-read : {v : Value} (c : ℕ) → MessageSeen s c v → channelAt S c .message ≡ v
-  message-read c read = sym (read .sees S rest (st .held) (message-in-table c))
+  message-read c read = sym (read .sees S rest (st .held) (message-in-table (st .fits) c))
 
   -- the operand of word w, whose check k passes
   pub operand-goes : (w : ℕ) {k : Step} → OperandChecked s h w k → isPass k ≡ true → w / 2 < length (f .slots)

@@ -1,5 +1,5 @@
 -- What the checks of a line answer: the rule's own result, read off the tables.
-use Prim.Native.Nat.{ℕ, suc, _/_, _≤_, _<_}
+use Prim.Native.Nat.{ℕ, suc, _≤_, _<_}
 use mathlib.Core.Path.{_≡_}
 use mathlib.Core.Bool.{Bool, true, false}
 use mathlib.Core.List.{List, [], _∷_, map}
@@ -15,7 +15,6 @@ use Rattle.rules.specs.Lists.{Every}
 use Rattle.rules.specs.Script.{Program, linesOf, kindAt}
 use Rattle.rules.specs.Valid.{Valid}
 use Rattle.rules.specs.State.{Object, Frame, State, objectAt, threadAt, channelAt}
-use Rattle.rules.specs.Tables.{operandOf}
 use Rattle.rules.specs.Turn as R
 use Rattle.rules.specs.Turn.{Res, ok, wait, stop, _>>=_, _>>_, check, waitUnless, permit, isLocal, isAbsent, asObject, permitSwap}
 use Rattle.rules.specs.Fits.{IsObject, Fits}
@@ -77,7 +76,7 @@ Made n S = n < length (S .objects)
 pub record Fielded (n : ℕ) (S : State) : Type 0 where
   pub made : n < length (S .objects)
   pub few : length (objectAt (S .objects) n .fields) ≤ Most.fields
-  pub fields : Every (IsObject 256) (objectAt (S .objects) n .fields)
+  pub fields : Every (IsObject (mosts .objects)) (objectAt (S .objects) n .fields)
 
 abbrev pub InObjects : Value → State → Type 0
 InObjects Absent S = Unit {0}

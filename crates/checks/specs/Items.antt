@@ -8,6 +8,7 @@ use lib.ListN.{length}
 use Rattle.rules.specs.declared.Cap.{Cap}
 use Rattle.rules.specs.declared.Value.{Value}
 use Rattle.rules.specs.declared.Value.the-variants.{Absent, Obj, Chan}
+use Rattle.rules.specs.Mosts as Most
 use Rattle.rules.specs.Mosts.{mosts}
 use Rattle.rules.specs.Numbers as No
 use Rattle.rules.specs.Lists.{pad, any, Every}
@@ -72,13 +73,13 @@ AllInObjects vs S = Every (λ v. InObjects v S) vs
 
 -- the operands of a new; the values that they gave
 pub record ChecksItems (s : List ℕ) (h : Here) (items : List ℕ) (k : Step) : Type 0 where
-  pub checks : (ws : List Operand) → items ≡ pad 4 0 (map operandItem ws) → length ws ≤ 4
+  pub checks : (ws : List Operand) → items ≡ pad Most.operands 0 (map operandItem ws) → length ws ≤ Most.operands
       → Checks s h (map slotOf ws) (λ P H. operands (H .state .objects) (H .frame .slots) ws) k
 
 pub record ChecksHeld (s : List ℕ) (t : ℕ) (c : Cap) (values : List Value) (k : Step) : Type 0 where
-  pub checks : (us : List Value) → values ≡ pad 4 Absent us → length us ≤ 4 → Every (λ u. isAbsent u ≡ false) us
+  pub checks : (us : List Value) → values ≡ pad Most.operands Absent us → length us ≤ Most.operands → Every (λ u. isAbsent u ≡ false) us
       → Sees s (AllInObjects us) (λ S. outcomeOf (holdAll t c S us)) (resultOf k)
 
 pub record ChecksNew (s : List ℕ) (h : Here) (c : Cap) (items : List ℕ) (k : Step) : Type 0 where
-  pub checks : (ws : List Operand) → items ≡ pad 4 0 (map operandItem ws) → length ws ≤ 4
+  pub checks : (ws : List Operand) → items ≡ pad Most.operands 0 (map operandItem ws) → length ws ≤ Most.operands
       → (kind : ℕ) → Checks s h (map slotOf ws) (λ P H. R.newLine mosts H c kind ws) k

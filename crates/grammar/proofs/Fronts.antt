@@ -81,18 +81,18 @@ unfit-front j l h = go (fit (ruleAt j .template) l) refl
     go unfit e = refl
 
 -- where no form fits; where no other form does; and where one does
-pub front-none : (l : List ℕ) → ((j : ℕ) → j < length forms → Fits-front j l → ⊥) → front l ≡ unfit
+front-none : (l : List ℕ) → ((j : ℕ) → j < length forms → Fits-front j l → ⊥) → front l ≡ unfit
 unfolding front
 front-none l h = none-gives (front-in-order l) forms noRule (λ j j<n. unfit-front j l (h j j<n))
 
-pub front-by : (i : ℕ) (l : List ℕ) → i < length forms → ((j : ℕ) → j < length forms → Fits-front j l → j ≡ i) → front l ≡ tried (ruleAt i) l
+front-by : (i : ℕ) (l : List ℕ) → i < length forms → ((j : ℕ) → j < length forms → Fits-front j l → j ≡ i) → front l ≡ tried (ruleAt i) l
 unfolding front
 front-by i l i<n h = only-gives (front-in-order l) forms noRule i i<n (λ j j<n e. unfit-front j l (λ f. e (h j j<n f)))
 
 front-begins : (i : ℕ) (l : List ℕ) → Fits-front i l → Begins (ruleAt i .template) l
 front-begins i l f = rw (fit-prints (ruleAt i .template) l (f .parts) (f .left) (f .fits)) (print-begins (ruleAt i .template) (f .parts) (f .left))
 
-pub front-is : (i : ℕ) (l : List ℕ) → i < length forms → (f : Fits-front i l) → front l ≡ took (ruleAt i .make (f .parts)) (f .left)
+front-is : (i : ℕ) (l : List ℕ) → i < length forms → (f : Fits-front i l) → front l ≡ took (ruleAt i .make (f .parts)) (f .left)
 unfolding _>>=_
 front-is i l i<n f = front-by i l i<n (λ j j<n g. one-beginning j i l j<n i<n (front-begins j l g) (front-begins i l f)) ∙ rw (f .fits)
 
@@ -271,7 +271,7 @@ telling-at (r ∷ rs) d n (suc i) k h i<n e v =
     telling-at rs d (suc n) i k (and-true (all (λ u. telling n (head u (r .template))) ways) (allTelling (suc n) rs) h .1) (le-of-suc-le-suc i<n) (omega arith) v
 
 -- a form that fits is told by the text's bytes, of which there are nine or more
-pub front-tells : (i : ℕ) (l : List ℕ) → i < length forms → Fits-front i l → (onlyForm l ≡ suc i) × (9 ≤ length l)
+front-tells : (i : ℕ) (l : List ℕ) → i < length forms → Fits-front i l → (onlyForm l ≡ suc i) × (9 ≤ length l)
 unfolding telling
 front-tells i l i<n f =
     let b = front-begins i l f in
@@ -281,7 +281,7 @@ front-tells i l i<n f =
     rw (b .text) (onlyForm-front h (b .rest) n ∙ eqb-true (onlyForm h) (suc i) (t .0), omega (arith, length-append h (b .rest)))
 
 -- a text that is shorter than any form
-pub front-short : (l : List ℕ) → length l < 9 → front l ≡ unfit
+front-short : (l : List ℕ) → length l < 9 → front l ≡ unfit
 front-short l h = front-none l (λ j j<n f. let t = front-tells j l j<n f .1 in omega arith)
 
 -- ---- The line at a place

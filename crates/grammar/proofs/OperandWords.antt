@@ -6,7 +6,7 @@ use mathlib.Core.Path.{_≡_, refl, sym, ap, _∙_}
 use lib.Dec.{eqb}
 use borrow.Author.Tests.{eqb-true, eqb-false, eq-eqb, ne-eqb}
 use Rattle.rules.specs.Script.{rank}
-use Rattle.rules.specs.Reading.{slotOf, takesFirst}
+use Rattle.rules.specs.Reading.{takesFirst}
 use Rattle.rules.specs.Tables.{operandWord, operandItem, operandOf, capOf}
 use Rattle.rules.proofs.ListLaws.{by-bool}
 
@@ -18,9 +18,6 @@ operand-word w = by-bool (eqb (w % 2) 1)
 -- as an item of a list it is one more
 pub operand-item : (w : ℕ) → w + 1 ≡ operandItem (operandOf w)
 operand-item w = add-one w ∙ ap suc (sym (operand-word w))
-
-pub operand-slot : (w : ℕ) → slotOf (operandOf w) ≡ w / 2
-operand-slot w = by-bool (eqb (w % 2) 1) (λ t. rw t) (λ t. rw t)
 
 pub operand-first : (w : ℕ) → takesFirst (operandOf w) ≡ eqb w 1
 unfolding takesFirst

@@ -15,11 +15,12 @@ use Rattle.rules.specs.Script.{Operand, value, field, swap, call, new, cast, sp
 use Rattle.rules.specs.Reading.{slotOf, operandsIn, targetsIn, numbersIn, slotsIn, takesFirst, over255}
 use Rattle.rules.specs.Tables.{operandItem, lineWords, row, operandOf, capOf}
 use Rattle.rules.proofs.ListLaws.{by-bool, or-false as or-false-both}
+use Rattle.rules.proofs.TableWords.{slot-of-word}
 use Rattle.grammar.specs.Items.{past, Listed}
 use Rattle.grammar.specs.Decoded.{overLine, lineRow, Tells, OperandRest, PlaceRest}
 use Rattle.grammar.specs.declared.forms.Line.{Line}
 use Rattle.grammar.specs.declared.parts.Items.{Items}
-use Rattle.grammar.proofs.OperandWords.{operand-word, operand-slot, operand-first, cap-rank}
+use Rattle.grammar.proofs.OperandWords.{operand-word, operand-first, cap-rank}
 
 -- ---- Lines of a fixed number of words
 
@@ -83,13 +84,13 @@ module _ {r : Line} where
         → Tells r (line (bind (cast (capOf k) (operandOf x))))
     unfolding what-forms-name
     cast-tells k h w o n = tells (line (bind (cast (capOf k) (operandOf x)))) (rw (cap-rank k h, operand-word x) w)
-        (rw (operand-slot x) (simp or-false o)) (rw (operand-slot x) (simp max-zero n)) (rw (operand-first x) (simp or-false t))
+        (rw (slot-of-word x) (simp or-false o)) (rw (slot-of-word x) (simp max-zero n)) (rw (operand-first x) (simp or-false t))
 
     pub send-tells : (s : ℕ) → lineRow r ≡ 12 ∷ s ∷ x ∷ 0 ∷ 0 ∷ 0 ∷ 0 ∷ 0 ∷ [] → r .over ≡ (ltb Most.number s || ltb Most.number (x / 2)) → r .need ≡ max (s + 1) (x / 2 + 1)
         → Tells r (line (bind (send s (operandOf x))))
     unfolding what-forms-name
     send-tells s w o n = tells (line (bind (send s (operandOf x)))) (rw (operand-word x) w)
-        (rw (operand-slot x) (simp or-false o)) (rw (operand-slot x) (simp max-zero n)) (rw (operand-first x) (simp or-false t))
+        (rw (slot-of-word x) (simp or-false o)) (rw (slot-of-word x) (simp max-zero n)) (rw (operand-first x) (simp or-false t))
 
 -- ---- Lines with a list
 

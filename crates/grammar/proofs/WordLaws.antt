@@ -4,7 +4,7 @@ use native.Mathlib.Nat.{zero-add, pow-suc, mul-assoc, suc-mul, one-le-pow, pow-l
 use native.Mathlib.Numerals.{add-one}
 use native.Mathlib.Omega.{arith}
 use mathlib.Core.Path.{_≡_, refl, ap, _∙_}
-use mathlib.Core.Bool.{true, false, _&&_, cond, false≢true}
+use mathlib.Core.Bool.{true, _&&_, cond, false≢true}
 use mathlib.Core.List.{List, [], _∷_}
 use lib.Dec.{eqb, ltb}
 use lib.ListN.{length, take, drop, getD, length-drop}

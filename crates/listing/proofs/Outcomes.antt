@@ -2,8 +2,8 @@
 use Prim.Native.Nat.{ℕ, _≤_, _<_}
 use native.Mathlib.Nat.{zero-add}
 use native.Mathlib.Omega.{arith}
-use mathlib.Core.Path.{_≡_, refl, sym, ap, _∙_}
-use mathlib.Core.Bool.{Bool, true, false, _||_}
+use mathlib.Core.Path.{_≡_, refl, sym, ap, _∙_, subst}
+use mathlib.Core.Bool.{true, false, _||_}
 use mathlib.Core.List.{List}
 use lib.Dec.{ltb}
 use lib.ListN.{length, drop, length-append}
@@ -11,20 +11,20 @@ use borrow.Author.Tests.{lt-ltb, le-ltb, ltb-false}
 use Rattle.rules.specs.Mosts as Most
 use Rattle.rules.specs.Mosts.{mosts}
 use Rattle.rules.specs.Numbers as No
-use Rattle.rules.specs.Script.{Program}
-use Rattle.rules.specs.Reading.{Reading, turnedAway, accepted, script, reading}
-use Rattle.rules.specs.State.{State}
+use Rattle.rules.specs.Reading.{Reading, turnedAway, accepted, reading}
 use Rattle.rules.specs.Run as R
-use Rattle.rules.specs.Run.{Stop, none, stopped, finished, stuck, openEnd, refused, ended, halted, run, answer}
+use Rattle.rules.specs.Run.{finished, stuck, openEnd, refused, ended, halted, run, answer}
 use Rattle.rules.specs.Calls.{longText, longTurns, shortTable, runCall, runAnswer, stateAfter}
 use Rattle.rules.specs.Listing.{answerLine, stateLines, listing}
 use Rattle.rules.specs.Input.{ranOn, printed}
 use Rattle.rules.proofs.ListLaws.{impossible, by-bool, or-false}
-use Rattle.rules.proofs.Accepted.{accepted-valid}
+use Rattle.rules.proofs.Accepted.{accepted-valid, reading-accepted}
 use Rattle.rules.proofs.Keeps.{fits-run}
 use Rattle.table.specs.State.{Any}
 use Rattle.run.specs.declared.Answer.{Answer}
+use Rattle.run.specs.declared.Answer.the-variants as A
 use Rattle.run.specs.Answers.{answerOf}
+use Rattle.run.proofs.AnswerTells.{Made, run-made}
 use Rattle.listing.specs.declared.Printed.{Printed}
 use Rattle.listing.specs.declared.Printed.the-variants.{Refused, Written}
 use Rattle.listing.specs.Writing.{over, Wrote, Writes}
@@ -40,19 +40,12 @@ answer-line (ended stuck m) = refl
 answer-line (ended openEnd m) = refl
 answer-line (halted k t b l m) = refl
 
-no-refusal : (P : Program) (S : State) (m : ℕ) (x : Stop) → isRefusal (answerOf (R.answerOf mosts P S m x)) ≡ false
-unfolding R.answerOf
-no-refusal P S m none = go (R.endOf mosts P S)
-  where
-    go : (e : R.End) → isRefusal (answerOf (ended e m)) ≡ false
-    go finished = refl
-    go stuck = refl
-    go openEnd = refl
-no-refusal P S m (stopped k t b l) = refl
-
-run-no-refusal : (P : Program) (turns : List ℕ) → isRefusal (answerOf (answer mosts P (run mosts P turns))) ≡ false
-unfolding answer
-run-no-refusal P turns = let r = run mosts P turns in no-refusal P (r .state) (r .moves) (r .stop)
+no-refusal : (a : Answer) → Made a → isRefusal a ≡ false
+no-refusal (A.Refused k n) made = absurd made
+no-refusal (A.Finished m) made = refl
+no-refusal (A.Stuck m) made = refl
+no-refusal (A.Open m) made = refl
+no-refusal (A.Stopped k t b l m) made = refl
 
 -- ---- The run's text, of the reading
 
@@ -60,14 +53,9 @@ module _ (turns : List ℕ) {a : Answer} where
   refused-text : (C : Reading) → a ≡ answerOf (runAnswer mosts turns C) → isRefusal a ≡ true → answerText a ≡ printed (ranOn mosts turns C)
   refused-text (turnedAway k n) answers refusal = ap answerText answers
   refused-text (accepted P) answers refusal =
-      let never : isRefusal a ≡ false = ap isRefusal answers ∙ run-no-refusal P turns in
+      let never : isRefusal a ≡ false = no-refusal a (subst Made (sym answers) (run-made P turns)) in
       let both = sym refusal ∙ never in
       impossible cc
-
-read-accepted : (long : Bool) (text : List ℕ) (P : Program) → reading mosts long false text ≡ accepted P → (long ≡ false) × (script mosts text ≡ accepted P)
-unfolding reading
-read-accepted true text P e = impossible cc
-read-accepted false text P e = (refl, e)
 
 few-turns : (text turns : List ℕ) → (longText text || longTurns turns) ≡ false → length turns ≤ Most.turns
 unfolding longTurns
@@ -82,8 +70,8 @@ module _ (text turns state : List ℕ) {a : Answer} {s l l₁ l₂ : List ℕ} {
       impossible cc
   made-text (accepted P) is answers leaves made w ws =
       let S = run mosts P turns .state in
-      let so = read-accepted (longText text || longTurns turns) text P is in
-      let fits = fits-run P turns (accepted-valid mosts text P (so .1)) (few-turns text turns (so .0)) in
+      let so = reading-accepted mosts (longText text || longTurns turns) false text P is in
+      let fits = fits-run P turns (accepted-valid mosts text P (so .2)) (few-turns text turns (so .0)) in
       let line : answerText a ≡ answerLine (answer mosts P (run mosts P turns)) = ap answerText answers ∙ answer-line (answer mosts P (run mosts P turns)) in
       same-text 26408 refl (omega arith) (same-text 40 line (omega arith) w ▹ ws .writes P Most.turns S (drop Most.words state) (record { words = leaves }) fits tt)
 

@@ -3,7 +3,7 @@ use Prim.Native.Nat.{ℕ, suc, _+_, _-_, _*_, _%_, _≤_, _<_}
 use native.Mathlib.Nat.{zero-add, mod-eq-of-lt}
 use native.Mathlib.Numerals.{add-one}
 use native.Mathlib.Omega.{arith}
-use mathlib.Core.Path.{_≡_, refl, sym, ap, _∙_, subst}
+use mathlib.Core.Path.{_≡_, refl, sym, ap, _∙_}
 use mathlib.Core.List.{List, [], _∷_, _++_, append-assoc}
 use lib.ListN.{length, take, drop}
 use lib.Seq.{take-all}
@@ -12,44 +12,19 @@ use Rattle.rules.specs.Mosts as Most
 use Rattle.rules.specs.Mosts.{mosts}
 use Rattle.rules.specs.Text.{bytes, space}
 use Rattle.rules.specs.Script.{Program}
-use Rattle.rules.specs.State.{noObject, Frame, noThread, emptyChannel, State, objectAt, threadAt, channelAt, slotAt}
+use Rattle.rules.specs.State.{noObject, Frame, noThread, State, objectAt, threadAt, channelAt, slotAt}
 use Rattle.rules.specs.Tables.{senderWord}
-use Rattle.rules.specs.Fits.{InRange, ObjectFits, FrameFits, ThreadFits, ChannelFits, Fits}
+use Rattle.rules.specs.Fits.{Fits}
 use Rattle.rules.specs.Listing.{valueText, objectLine, channelLine, senderText, threadLine, numbered}
-use Rattle.rules.proofs.ListLaws.{every-map, every-get, every-at}
-use Rattle.rules.proofs.Keeps.{slot-range, object-in-range, here-fits}
+use Rattle.rules.proofs.Keeps.{object-fits, thread-fits}
 use Rattle.table.specs.State.{InTable, Held, Sees, Any, FieldIn, frameAt}
 use Rattle.table.proofs.StateEdits.{innermost-frame}
-use Rattle.checks.proofs.Standing.{in-table}
+use Rattle.table.proofs.Places.{has-place, field-in, frame-slots-fit, slot-in-range}
 use Rattle.listing.specs.Writing.{Wrote, Writes, numberPart, fieldPart, valueParts, frameParts, Inner}
 use Rattle.listing.proofs.StateTexts.{fixed, of-seen, _▹_, same-texts, none-yet, under}
 use Rattle.listing.proofs.LineTexts.{finished-line, running-line, ready-is, waiting-is, no-parts, slot-next, field-next, no-lines, line-next, none-past-first, channel-next}
 
--- ---- What a state of a run says of its parts
-
-module _ {P : Program} {n : ℕ} {S : State} (fits : Fits mosts P n S) where
-  in-place : (v : Value) → InRange (length (S .objects)) (length (S .threads)) v → InTable v
-  in-place v within = in-table _ _ v (fits .few-objects) (fits .few-threads) within
-
-  object-is : (o : ℕ) → o < length (S .objects) → ObjectFits P (length (S .objects)) (length (S .threads)) (objectAt (S .objects) o)
-  unfolding objectAt
-  object-is o there = every-at _ (S .objects) o noObject there (fits .objects)
-
-  field-in : (o j : ℕ) → o < length (S .objects) → FieldIn o j S
-  field-in o j there =
-      let fields = objectAt (S .objects) o .fields in
-      record { few = object-is o there .few; in-table = in-place (slotAt fields j) (slot-range _ _ fields j (every-map (object-in-range _ _) fields (object-is o there .fields))) }
-
-  pub message-in : (c : ℕ) → InTable (channelAt S c .message)
-  unfolding channelAt
-  message-in c =
-      let its = every-get (ChannelFits n (length (S .objects)) (length (S .threads))) (S .channels) c emptyChannel (record { message = tt; number = omega arith }) (fits .channels) in
-      in-place (channelAt S c .message) (its .message)
-
-  few-frames : (t : ℕ) → length (threadAt S t .frames) ≤ Most.frames
-  unfolding threadAt
-  few-frames t =
-      every-get (ThreadFits P n (length (S .objects)) (length (S .threads))) (S .threads) t noThread (record { few = omega arith; frames = tt; sender = tt }) (fits .threads) .few
+-- ---- The innermost frame
 
 -- the innermost frame of a thread that has frames
 record Innermost (S : State) (t k : ℕ) : Type 0 where
@@ -65,11 +40,6 @@ innermost S t k count = go (threadAt S t .frames) refl count
     go [] e c = absurd (omega (arith, c))
     go (f ∷ fs) e c = record { frame = f; outer = fs; is = e; there = innermost-frame S t e (omega (arith, c)) }
 
-inner-fits : {P : Program} {n : ℕ} {S : State} → Fits mosts P n S → (t k : ℕ) → Inner t k S → FrameFits P (length (S .objects)) (length (S .threads)) (frameAt S t k)
-inner-fits {P} {n} {S} fits t k count =
-    let i = innermost S t k count in
-    subst (FrameFits P (length (S .objects)) (length (S .threads))) (sym (i .there)) (here-fits mosts P n S t (i .frame) (i .outer) fits (i .is) .frame)
-
 -- ---- Fields
 
 module _ {s l : List ℕ} {at : ℕ} (o : ℕ) where
@@ -82,14 +52,14 @@ module _ {s l : List ℕ} {at : ℕ} (o : ℕ) where
       → Writes (13 * (j + 1)) s l l₂ at r (λ S. o < length (S .objects)) (λ S. valueParts (take (j + 1) (objectAt (S .objects) o .fields)))
   field-after j a seen w =
       same-texts (13 * (j + 1))
-      (λ P n S rest held fits made. field-next (length (S .objects)) (objectAt (S .objects) o .fields) j (object-is fits o made .fields))
+      (λ P n S rest held fits made. field-next (length (S .objects)) (objectAt (S .objects) o .fields) j (object-fits fits o made .fields))
       (omega arith) (a ▹ of-seen {Q = λ S. o < length (S .objects)} fieldPart (λ P n S fits made. field-in fits o j made) seen w)
 
   pub all-fields : {l₁ : List ℕ} {m : ℕ} (j : ℕ) → Most.fields ≤ j → j ≤ Most.fields
       → Writes (13 * j) s l l₁ at m (λ S. o < length (S .objects)) (λ S. valueParts (take j (objectAt (S .objects) o .fields)))
       → Writes 52 s l l₁ at m (λ S. o < length (S .objects)) (λ S. valueParts (objectAt (S .objects) o .fields))
   all-fields j all few a =
-      same-texts 52 (λ P n S rest held fits made. ap valueParts (take-all j (objectAt (S .objects) o .fields) (omega (arith, object-is fits o made .few)))) (omega arith) a
+      same-texts 52 (λ P n S rest held fits made. ap valueParts (take-all j (objectAt (S .objects) o .fields) (omega (arith, object-fits fits o made .few)))) (omega arith) a
 
 -- ---- Slots
 
@@ -101,7 +71,7 @@ module _ {s : List ℕ} (t k : ℕ) where
     slot-count : (P : Program) (n : ℕ) (S : State) (rest : List ℕ) → Held s S rest → Fits mosts P n S → Inner t k S → d % 17 ≡ length (frameAt S t k .slots)
     slot-count P n S rest held fits inner =
         let same = counted .sees S rest held tt in
-        rw same (mod-eq-of-lt (omega (arith, inner-fits fits t k inner .few)))
+        rw same (mod-eq-of-lt (omega (arith, frame-slots-fit fits t k .few)))
 
     pub slot-after : {l l₁ l₂ : List ℕ} {at m r : ℕ} {v : Value} (i : ℕ) → i < d % 17
         → Writes (13 * i) s l l₁ at m (Inner t k) (λ S. valueParts (take i (frameAt S t k .slots)))
@@ -112,7 +82,7 @@ module _ {s : List ℕ} (t k : ℕ) where
         (λ P n S rest held fits inner. slot-next (frameAt S t k .slots) i (rw (slot-count P n S rest held fits inner) at more))
         (omega arith)
         (a ▹ of-seen {Q = Inner t k} (λ v. space ∷ valueText v)
-        (λ P n S fits inner. in-place fits (slotAt (frameAt S t k .slots) i) (slot-range _ _ (frameAt S t k .slots) i (inner-fits fits t k inner .slots))) seen w)
+        (λ P n S fits inner. has-place fits (slotAt (frameAt S t k .slots) i) (slot-in-range fits t k i)) seen w)
 
     pub all-slots : {l l₁ : List ℕ} {at m : ℕ} (i : ℕ) → i ≤ 16 → d % 17 ≤ i → Writes (13 * i) s l l₁ at m (Inner t k) (λ S. valueParts (take i (frameAt S t k .slots)))
         → Writes 208 s l l₁ at m (Inner t k) (λ S. valueParts (frameAt S t k .slots))
@@ -230,6 +200,6 @@ module _ {s l l₁ : List ℕ} {at r : ℕ} (t : ℕ) where
         inner : (P : Program) (n : ℕ) (S : State) (rest : List ℕ) → Held s S rest → Fits mosts P n S → Inner t k S
         inner P n S rest held fits =
             let count : d ≡ length (threadAt S t .frames) = counted .sees S rest held tt in
-            let few = few-frames fits t in
+            let few = thread-fits fits t .few in
             let last : (d - 1) % 16 ≡ d - 1 = mod-eq-of-lt (omega (arith, count, few)) in
             omega (arith, count, some, place, last)

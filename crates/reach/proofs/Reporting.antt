@@ -3,7 +3,7 @@ use Prim.Native.Nat.{ℕ, _%_, _≤_, _<_}
 use native.Mathlib.Nat.{mod-eq-of-lt}
 use native.Mathlib.Omega.{arith}
 use mathlib.Core.Path.{_≡_, refl, sym, ap, _∙_, subst}
-use mathlib.Core.Bool.{Bool, true, false, cond}
+use mathlib.Core.Bool.{Bool, false, cond}
 use mathlib.Core.List.{List, [], _++_}
 use lib.Dec.{ltb}
 use lib.ListN.{length, getD, drop, replicate, length-append}
@@ -13,24 +13,24 @@ use Rattle.rules.specs.Mosts as Most
 use Rattle.rules.specs.Mosts.{mosts}
 use Rattle.rules.specs.Numbers as No
 use Rattle.rules.specs.Script.{Program}
-use Rattle.rules.specs.Reading.{Reading, turnedAway, accepted, script, reading}
+use Rattle.rules.specs.Reading.{Reading, turnedAway, accepted, reading}
 use Rattle.rules.specs.Valid.{Valid}
 use Rattle.rules.specs.State.{Object, State}
 use Rattle.rules.specs.Fits.{Fits}
-use Rattle.rules.specs.Run as R
-use Rattle.rules.specs.Run.{Stop, none, stopped, run, finished, stuck, openEnd, ended, answer}
+use Rattle.rules.specs.Run.{run}
 use Rattle.rules.specs.Tables.{stateWords}
 use Rattle.rules.specs.Reach.{count, times, ReachedFrom, roots, Lists}
 use Rattle.rules.specs.Calls.{longText, longTurns, shortTable, runCall, runAnswer, reachCall, programAfter, stateAfter, unreported, reached, Reports, ReportsOn, ReachReport}
-use Rattle.rules.proofs.ListLaws.{impossible, by-bool}
-use Rattle.rules.proofs.Accepted.{accepted-valid}
+use Rattle.rules.proofs.ListLaws.{by-bool}
+use Rattle.rules.proofs.Accepted.{accepted-valid, reading-accepted}
 use Rattle.rules.proofs.Keeps.{fits-run}
 use Rattle.rules.proofs.Walks.{walked-lists, roots-made, reached-range}
 use Rattle.rules.proofs.TableWords.{state-words-length}
 use Rattle.table.specs.State.{Held, Sees, Any}
 use Rattle.run.specs.declared.Answer.{Answer}
-use Rattle.run.specs.declared.Answer.the-variants.{Refused, Finished, Stuck, Open, Stopped}
+use Rattle.run.specs.declared.Answer.the-variants.{Refused}
 use Rattle.run.specs.Answers.{answerOf}
+use Rattle.run.proofs.AnswerTells.{IsAccepted, Made, made-is, refusal-is}
 use Rattle.reach.specs.declared.Report.{Report}
 use Rattle.reach.specs.declared.Report.the-variants as T
 use Rattle.reach.specs.Walking.{reportOf, Marked, WalkedRoots, WalksThread, ListsMarked, ReportsState}
@@ -119,34 +119,6 @@ module _ (text turns program state list : List ℕ) where
       rw (le-ltb (length list) Most.reachList long)
       (by-bool (shortTable program) (λ t. rw t refl) (λ t. rw t (by-bool (shortTable state) (λ u. rw u refl) (λ u. rw u refl))))
 
--- ---- What the run answers tells the reading
-
-never-refused : (P : Program) (S : State) (m : ℕ) (x : Stop) {k n : ℕ} → Refused k n ≡ answerOf (R.answerOf mosts P S m x) → ⊥
-unfolding R.answerOf
-never-refused P S m none e = ended-not (R.endOf mosts P S) m e
-  where
-    ended-not : (x : R.End) (m : ℕ) {k n : ℕ} → Refused k n ≡ answerOf (ended x m) → ⊥
-    ended-not finished m e = impossible cc
-    ended-not stuck m e = impossible cc
-    ended-not openEnd m e = impossible cc
-never-refused P S m (stopped i t b l) e = impossible cc
-
-refusal-is : (turns : List ℕ) (C : Reading) {k n : ℕ} → Refused k n ≡ answerOf (runAnswer mosts turns C) → C ≡ turnedAway k n
-unfolding answer
-refusal-is turns (turnedAway i j) {k} {n} e =
-    let number : i ≡ k = cc in
-    let line : j ≡ n = cc in
-    rw (number, line) refl
-refusal-is turns (accepted P) e = absurd (never-refused P (run mosts P turns .state) (run mosts P turns .moves) (run mosts P turns .stop) e)
-
--- an answer of a run that was made
-abbrev pub Ran : Answer → Type 0
-Ran (Refused k n) = ⊥
-Ran (Finished m) = Unit {0}
-Ran (Stuck m) = Unit {0}
-Ran (Open m) = Unit {0}
-Ran (Stopped k t b l m) = Unit {0}
-
 -- ---- What the report ensures, of the reading C
 
 pub record Told (C : Reading) (turns : List ℕ) (t : ℕ) (program state list : List ℕ) (r : Report) (p s list₁ : List ℕ) : Type 0 where
@@ -172,29 +144,14 @@ module _ (C : Reading) (turns : List ℕ) (t : ℕ) (program state list : List �
       let same-state = rw is at state-is in
       rw (same-program, same-state) (turned-away turns t program state list is)
 
--- neither 1 nor 9
-script-accepted : (long short : Bool) (text : List ℕ) (P : Program) → reading mosts long short text ≡ accepted P → script mosts text ≡ accepted P
-unfolding reading
-script-accepted true short text P e = impossible cc
-script-accepted false true text P e = impossible cc
-script-accepted false false text P e = e
-
 run-valid : (text turns program state : List ℕ) (P : Program) → runCall mosts text turns program state ≡ accepted P → Valid mosts P
 unfolding runCall
-run-valid text turns program state P e = accepted-valid mosts text P (script-accepted _ _ text P e)
-
-record IsAccepted (C : Reading) : Type 0 where
-  program : Program
-  is : C ≡ accepted program
-
-ran-is : (turns : List ℕ) (C : Reading) → Ran (answerOf (runAnswer mosts turns C)) → IsAccepted C
-ran-is turns (turnedAway k n) ran = absurd ran
-ran-is turns (accepted P) ran = record { program = P; is = refl }
+run-valid text turns program state P e = accepted-valid mosts text P (reading-accepted mosts _ _ text P e .2)
 
 module _ (text turns program state : List ℕ) {s : List ℕ} {a b : Answer} (answers : a ≡ answerOf (runAnswer mosts turns (runCall mosts text turns program state)))
-    (state-is : s ≡ stateAfter mosts turns (runCall mosts text turns program state) state) (is : a ≡ b) (ran : Ran b) where
+    (state-is : s ≡ stateAfter mosts turns (runCall mosts text turns program state) state) (is : a ≡ b) (made : Made b) where
   run-is : IsAccepted (runCall mosts text turns program state)
-  run-is = ran-is turns (runCall mosts text turns program state) (subst Ran (sym is ∙ answers) ran)
+  run-is = made-is turns (runCall mosts text turns program state) (subst Made (sym is ∙ answers) made)
 
   state-there : s ≡ stateWords (run mosts (run-is .program) turns .state) ++ drop Most.words state
   state-there = state-is ∙ ap (λ (C : Reading). stateAfter mosts turns C state) (run-is .is)

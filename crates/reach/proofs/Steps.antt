@@ -14,18 +14,17 @@ use Rattle.rules.specs.declared.Value.{Value}
 use Rattle.rules.specs.declared.Value.the-variants.{Absent, Obj, Chan}
 use Rattle.rules.specs.Mosts as Most
 use Rattle.rules.specs.Mosts.{mosts}
-use Rattle.rules.specs.Lists.{Every}
 use Rattle.rules.specs.Script.{Program}
-use Rattle.rules.specs.State.{Object, noObject, Frame, noThread, State, objectAt, threadAt, slotAt}
+use Rattle.rules.specs.State.{Object, Frame, State, objectAt, threadAt, slotAt}
 use Rattle.rules.specs.Tables.{noFrame, outermostFirst}
-use Rattle.rules.specs.Fits.{InRange, ObjectFits, FrameFits, ThreadFits, Fits}
+use Rattle.rules.specs.Fits.{Fits}
 use Rattle.rules.specs.Reach.{count, slotsOf, roots, Walked, done, skip, meet}
-use Rattle.rules.proofs.ListLaws.{impossible, by-bool, below, every-map, every-get, every-at, every-snoc}
+use Rattle.rules.proofs.ListLaws.{impossible, by-bool, below}
 use Rattle.rules.proofs.Counts.{object-met, count-append}
-use Rattle.rules.proofs.Keeps.{slot-range, object-in-range, each-frame}
+use Rattle.rules.proofs.Keeps.{object-fits, thread-fits}
 use Rattle.rules.proofs.TableWords.{length-outermost}
 use Rattle.table.specs.State.{InTable, Held, Sees, Any, FieldIn, frameAt}
-use Rattle.checks.proofs.Standing.{in-table}
+use Rattle.table.proofs.Places.{has-place, field-in-range, field-in, frame-slots-fit, slot-in-range}
 use Rattle.reach.specs.Walking.{Walks, Of, WalksThread}
 use Rattle.reach.proofs.Marks.{mark-met, no-mark-not-met, mark-set}
 
@@ -65,62 +64,20 @@ pub record SeenAt (s : List ℕ) (Q : State → Type 0) (row : State → List Va
   pub is : (P : Program) (n : ℕ) (S : State) (rest : List ℕ) → Held s S rest → Fits mosts P n S → Q S → v ≡ slotAt (row S) j
   pub within : (P : Program) (n : ℕ) (S : State) (rest : List ℕ) → Held s S rest → Fits mosts P n S → Q S → Of v S
 
-module _ {P : Program} {n : ℕ} {S : State} (fits : Fits mosts P n S) where
-  has-place : (v : Value) → Of v S → InTable v
-  has-place v within = in-table _ _ v (fits .few-objects) (fits .few-threads) within
-
-  object-is : (o : ℕ) → o < length (S .objects) → ObjectFits P (length (S .objects)) (length (S .threads)) (objectAt (S .objects) o)
-  unfolding objectAt
-  object-is o there = every-at _ (S .objects) o noObject there (fits .objects)
-
-  field-of : (o j : ℕ) → o < length (S .objects) → Of (slotAt (objectAt (S .objects) o .fields) j) S
-  field-of o j there =
-      let fields = objectAt (S .objects) o .fields in
-      slot-range _ _ fields j (every-map (object-in-range _ _) fields (object-is o there .fields))
-
-  thread-is : (t : ℕ) → ThreadFits P n (length (S .objects)) (length (S .threads)) (threadAt S t)
-  unfolding threadAt
-  thread-is t = every-get (ThreadFits P n (length (S .objects)) (length (S .threads))) (S .threads) t noThread (record { few = omega arith; frames = tt; sender = tt }) (fits .threads)
-
--- the slots of a frame, filled or not
-record SlotsFit (o c : ℕ) (f : Frame) : Type 0 where
-  few : length (f .slots) ≤ Most.slots
-  within : Every (InRange o c) (f .slots)
-
-slots-fit : {P : Program} {o c : ℕ} (f : Frame) → FrameFits P o c f → SlotsFit o c f
-slots-fit f h = record { few = h .few; within = h .slots }
-
-every-outermost : (Q : Frame → Type 0) (fs : List Frame) → Every Q fs → Every Q (outermostFirst fs)
-unfolding outermostFirst
-every-outermost Q [] e = tt
-every-outermost Q (f ∷ fs) e = every-snoc Q (outermostFirst fs) f (e .0) (every-outermost Q fs (e .1))
-
-frame-is : {P : Program} {n : ℕ} {S : State} → Fits mosts P n S → (t k : ℕ) → SlotsFit (length (S .objects)) (length (S .threads)) (frameAt S t k)
-unfolding frameAt
-frame-is {P} {n} {S} fits t k =
-    let o = length (S .objects) in
-    let c = length (S .threads) in
-    let fs = threadAt S t .frames in
-    every-get (SlotsFit o c) (outermostFirst fs) k noFrame (record { few = omega arith; within = tt })
-    (every-outermost (SlotsFit o c) fs (every-map slots-fit fs (each-frame P o c fs (thread-is fits t .frames))))
-
 module _ {s : List ℕ} {v : Value} where
   pub field-seen : (o j : ℕ) → Sees s (FieldIn o j) (λ S. slotAt (objectAt (S .objects) o .fields) j) v → SeenAt s (Of (Obj o)) (λ S. objectAt (S .objects) o .fields) j v
   field-seen o j seen =
-      record { is = is; within = λ P n S rest held fits there. subst (λ (x : Value). Of x S) (sym (is P n S rest held fits there)) (field-of fits o j there) }
+      record { is = is; within = λ P n S rest held fits there. subst (λ (x : Value). Of x S) (sym (is P n S rest held fits there)) (field-in-range fits o j there) }
     where
       is : (P : Program) (n : ℕ) (S : State) (rest : List ℕ) → Held s S rest → Fits mosts P n S → o < length (S .objects) → v ≡ slotAt (objectAt (S .objects) o .fields) j
-      is P n S rest held fits there = seen .sees S rest held (record { few = object-is fits o there .few; in-table = has-place fits (slotAt (objectAt (S .objects) o .fields) j) (field-of fits o j there) })
+      is P n S rest held fits there = seen .sees S rest held (field-in fits o j there)
 
   pub slot-seen : (t k i : ℕ) → Sees s (λ S. InTable (slotAt (frameAt S t k .slots) i)) (λ S. slotAt (frameAt S t k .slots) i) v → SeenAt s Any (λ S. frameAt S t k .slots) i v
   slot-seen t k i seen =
-      record { is = is; within = λ P n S rest held fits any. subst (λ (x : Value). Of x S) (sym (is P n S rest held fits any)) (slot-of fits) }
+      record { is = is; within = λ P n S rest held fits any. subst (λ (x : Value). Of x S) (sym (is P n S rest held fits any)) (slot-in-range fits t k i) }
     where
-      slot-of : {P : Program} {n : ℕ} {S : State} → Fits mosts P n S → Of (slotAt (frameAt S t k .slots) i) S
-      slot-of {S = S} fits = slot-range (length (S .objects)) (length (S .threads)) (frameAt S t k .slots) i (frame-is fits t k .within)
-
       is : (P : Program) (n : ℕ) (S : State) (rest : List ℕ) → Held s S rest → Fits mosts P n S → Any S → v ≡ slotAt (frameAt S t k .slots) i
-      is P n S rest held fits any = seen .sees S rest held (has-place fits (slotAt (frameAt S t k .slots) i) (slot-of fits))
+      is P n S rest held fits any = seen .sees S rest held (has-place fits (slotAt (frameAt S t k .slots) i) (slot-in-range fits t k i))
 
 -- ---- Along a row
 
@@ -182,13 +139,13 @@ module _ {s : List ℕ} {marks : List Bool} {v : Value} where
       })
     where
       fields : Walks s (set marks o true) (Of (Obj o)) (λ S. objectAt (S .objects) o .fields) marks₁
-      fields = row-ends (λ S. objectAt (S .objects) o .fields) j (λ P n S fits q. omega (arith, object-is fits o q .few)) w
+      fields = row-ends (λ S. objectAt (S .objects) o .fields) j (λ P n S fits q. omega (arith, object-fits fits o q .few)) w
 
 -- ---- Frames
 
 pub frame-walked : {s : List ℕ} {marks marks₁ : List Bool} (t k i : ℕ) → Most.slots ≤ i
     → Walks s marks Any (λ S. take i (frameAt S t k .slots)) marks₁ → Walks s marks Any (λ S. frameAt S t k .slots) marks₁
-frame-walked t k i all w = row-ends (λ S. frameAt S t k .slots) i (λ P n S fits any. omega (arith, frame-is fits t k .few)) w
+frame-walked t k i all w = row-ends (λ S. frameAt S t k .slots) i (λ P n S fits any. omega (arith, frame-slots-fit fits t k .few)) w
 
 slots-snoc : (fs : List Frame) (f : Frame) → slotsOf (fs ++ (f ∷ [])) ≡ slotsOf fs ++ f .slots
 unfolding slotsOf
@@ -226,7 +183,7 @@ module _ {s : List ℕ} {marks : List Bool} (t : ℕ) where
         record {
           walks = λ P n S rest met held fits q marked.
               let there : k < length (threadAt S t .frames) = omega (arith, counted .sees S rest held tt) in
-              let place : k % 16 ≡ k = mod-eq-of-lt (omega (arith, there, thread-is fits t .few)) in
+              let place : k % 16 ≡ k = mod-eq-of-lt (omega (arith, there, thread-fits fits t .few)) in
               let so = w .walks P n S rest met held fits tt marked in
               let then = u .walks P n S rest (so .out) held fits tt (so .marked) in
               record { out = then .out; walked = rw (slots-next t k S there) (walk-then (so .walked) (rw place at (then .walked))); marked = then .marked };

@@ -36,14 +36,14 @@ lf-nowhere s i h = rw (drop-of-length-le s h)
 -- ---- The first line
 
 -- what stands before the first LF is the front of the text, and is the first line without its LF
-pub withoutLf-front : (l : List ℕ) → take (length (withoutLf l)) l ≡ withoutLf l
+withoutLf-front : (l : List ℕ) → take (length (withoutLf l)) l ≡ withoutLf l
 unfolding withoutLf
 withoutLf-front [] = refl
 withoutLf-front (c ∷ l) = by-bool (eqb c lf)
     (λ t. rw t)
     (λ t. rw (t, withoutLf-front l))
 
-pub first-line-withoutLf : (l : List ℕ) → withoutLf (getD (lines l) 0 []) ≡ withoutLf l
+first-line-withoutLf : (l : List ℕ) → withoutLf (getD (lines l) 0 []) ≡ withoutLf l
 unfolding withoutLf lines
 first-line-withoutLf [] = refl
 first-line-withoutLf (c ∷ l) = go (eqb c lf) refl (lines l) (first-line-withoutLf l)
@@ -54,7 +54,7 @@ first-line-withoutLf (c ∷ l) = go (eqb c lf) refl (lines l) (first-line-withou
     go false e (k ∷ ls) h = rw (e, h)
 
 -- where an LF stands in the text, the first line ends with it
-pub ended-line : (l : List ℕ) → length (withoutLf l) < length l → lines l ≡ (withoutLf l ++ (lf ∷ [])) ∷ lines (drop (length (withoutLf l) + 1) l)
+ended-line : (l : List ℕ) → length (withoutLf l) < length l → lines l ≡ (withoutLf l ++ (lf ∷ [])) ∷ lines (drop (length (withoutLf l) + 1) l)
 unfolding withoutLf lines
 ended-line [] h = absurd (not-suc-le-zero h)
 ended-line (c ∷ l) h = by-bool (eqb c lf)
@@ -62,7 +62,7 @@ ended-line (c ∷ l) h = by-bool (eqb c lf)
     (λ t. rw (t, ended-line l (le-of-suc-le-suc (rw t at h))) (simp add-one))
 
 -- where none does, it is all of the text
-pub last-line : (c : ℕ) (l : List ℕ) → length (c ∷ l) ≤ length (withoutLf (c ∷ l)) → (withoutLf (c ∷ l) ≡ c ∷ l) × (lines (c ∷ l) ≡ (c ∷ l) ∷ [])
+last-line : (c : ℕ) (l : List ℕ) → length (c ∷ l) ≤ length (withoutLf (c ∷ l)) → (withoutLf (c ∷ l) ≡ c ∷ l) × (lines (c ∷ l) ≡ (c ∷ l) ∷ [])
 unfolding withoutLf lines
 last-line c [] h = by-bool (eqb c lf)
     (λ t. absurd (not-suc-le-zero (rw t at h)))
@@ -87,12 +87,12 @@ unfolding stray any
 stray-nowhere s i h = rw (drop-of-length-le s h)
 
 -- LF is allowed
-pub stray-before-lf : (l : List ℕ) → stray (l ++ (lf ∷ [])) ≡ stray l
+stray-before-lf : (l : List ℕ) → stray (l ++ (lf ∷ [])) ≡ stray l
 unfolding stray any allowed
 stray-before-lf [] = refl
 stray-before-lf (c ∷ l) = ap (λ (b : Bool). not (allowed c) || b) (stray-before-lf l)
 
-pub first-line-stray : (l : List ℕ) → stray (getD (lines l) 0 []) ≡ stray (withoutLf l)
+first-line-stray : (l : List ℕ) → stray (getD (lines l) 0 []) ≡ stray (withoutLf l)
 unfolding lines withoutLf
 first-line-stray [] = refl
 first-line-stray (c ∷ l) = go (decLt (length (withoutLf (c ∷ l))) (length (c ∷ l)))

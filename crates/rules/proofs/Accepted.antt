@@ -3,7 +3,7 @@ use Prim.Native.Nat.{ℕ, suc, _+_, _*_, _≤_, _<_}
 use native.Mathlib.Omega.{arith}
 use native.Mathlib.Numerals.{add-one}
 use mathlib.Core.Path.{_≡_, refl, ap, sym, _∙_, subst}
-use mathlib.Core.Bool.{true, false, not, _&&_, false≢true, true≢false}
+use mathlib.Core.Bool.{Bool, true, false, not, _&&_, false≢true, true≢false}
 use mathlib.Core.List.{List, [], _∷_, map}
 use lib.Dec.{ltb, leb, eqb}
 use lib.ListN.{length, getD}
@@ -13,7 +13,7 @@ use Rattle.rules.specs.Mosts as Most
 use Rattle.rules.specs.Lists.{any, Every}
 use Rattle.rules.specs.Text.{lines}
 use Rattle.rules.specs.Script.{Operand, reads, takes, Expr, value, field, swap, call, new, cast, spawn, send, recv, bind, give, Sort, thread, method, Kind, Block, Form, kind, opens, line, Program, programOf, letLines, blockLines, kindLines, linesOf, noBlock, kindAt, blockAt}
-use Rattle.rules.specs.Reading.{slotOf, targetsIn, operandsIn, numbersIn, slotsIn, outside, within, nothing, firstSlots, slotsFilled, inMethod, overMost, over255, isUnbound, takesFirst, takesSelf, oneMore, readOn, Scan, faulty, scanned, scan, sameSort, isSort, dangles, opened, turnedAway, accepted, link, linked, script}
+use Rattle.rules.specs.Reading.{slotOf, targetsIn, operandsIn, numbersIn, slotsIn, outside, within, nothing, firstSlots, slotsFilled, inMethod, overMost, over255, isUnbound, takesFirst, takesSelf, oneMore, readOn, Scan, faulty, scanned, scan, sameSort, isSort, dangles, opened, turnedAway, accepted, link, linked, script, reading}
 use Rattle.rules.specs.Valid.{OperandOk, IsBlock, IsKind, ExprOk, LetsOk, BlockOk, KindOk, letCount, Valid}
 use Rattle.rules.proofs.ListLaws.{impossible, or-false, or-false₃, and-true, other-arm, every-map, every-parts, any-false}
 use Rattle.rules.proofs.Scanned.{sofar, Passed, Scanned, ended, passed, scan-passed, lines-scanned}
@@ -241,7 +241,6 @@ module _ (m : Mosts) (P : Program) where
 -- the forms that were read are the lines of P: scanned without fault, and none dangles
 record Accepted (m : Mosts) (text : List ℕ) (P : Program) : Type 0 where
   forms : scan m nothing 0 (lines text) ≡ scanned (linesOf P)
-  program : programOf (linesOf P) ≡ P
   scanned : Scanned m nothing (linesOf P)
   linked : Linked P 0 (linesOf P)
 
@@ -257,7 +256,6 @@ accepted-read m text P h =
     let same : Fs ≡ linesOf P = sym (rw p at (lines-scanned m Fs s)) in
     record {
       forms = e ∙ ap scanned same;
-      program = ap programOf (sym same) ∙ p;
       scanned = subst (λ (X : List Form). Scanned m nothing X) same s;
       linked = subst (λ (X : List Form). Linked P 0 X) same t;
     }
@@ -265,11 +263,16 @@ accepted-read m text P h =
 pub accepted-valid : (m : Mosts) (text : List ℕ) (P : Program) → script m text ≡ accepted P → Valid m P
 accepted-valid m text P h = let a = accepted-read m text P h in valid-lines m P (a .scanned) (a .linked)
 
+-- a reading that accepts found neither 1 nor 9
+pub reading-accepted : (m : Mosts) (long short : Bool) (text : List ℕ) (P : Program) → reading m long short text ≡ accepted P
+    → (long ≡ false) × (short ≡ false) × (script m text ≡ accepted P)
+unfolding reading
+reading-accepted m true short text P e = impossible cc
+reading-accepted m false true text P e = impossible cc
+reading-accepted m false false text P e = (refl, refl, e)
+
 pub accepted-lines : (m : Mosts) (text : List ℕ) (P : Program) → script m text ≡ accepted P → scan m nothing 0 (lines text) ≡ scanned (linesOf P)
 accepted-lines m text P h = accepted-read m text P h .forms
-
-pub accepted-program : (m : Mosts) (text : List ℕ) (P : Program) → script m text ≡ accepted P → programOf (linesOf P) ≡ P
-accepted-program m text P h = accepted-read m text P h .program
 
 -- ---- The number of lines
 
@@ -293,7 +296,7 @@ pub line-count : (P : Program) → length (linesOf P) ≡ length (P .kinds) + (2
 unfolding linesOf
 line-count P = omega (arith, length-kinds (P .kinds) (blockLines (P .blocks)), length-blocks (P .blocks))
 
-pub few-lines : (m : Mosts) (P : Program) → Valid m P → length (linesOf P) ≤ m .kinds + (2 * m .blocks + m .lets)
+few-lines : (m : Mosts) (P : Program) → Valid m P → length (linesOf P) ≤ m .kinds + (2 * m .blocks + m .lets)
 few-lines m P v = omega (arith, line-count P, v .few-kinds, v .few-blocks, v .few-lets)
 
 -- at document 01's mosts: the lines that the program table has room for

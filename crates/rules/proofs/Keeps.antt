@@ -68,7 +68,7 @@ module _ (m : Mosts) (P : Program) (valid : Valid m P) where
       let last = line-give (blockAt P b .lets) (blockAt P b .result) l w at-line line in
       rw (last .0, ← (last .1)) (block-ok b there .result)
 
-  pub method-ok : (k i : ℕ) → k < length (P .kinds) → i < length (kindAt P k .methods) → IsBlock P method (getD (kindAt P k .methods) i 0)
+  method-ok : (k i : ℕ) → k < length (P .kinds) → i < length (kindAt P k .methods) → IsBlock P method (getD (kindAt P k .methods) i 0)
   method-ok k i there has-method = every-at (IsBlock P method) (kindAt P k .methods) i 0 has-method (kind-ok k there .methods)
 
 -- ---- More objects, threads and moves
@@ -109,7 +109,7 @@ module _ (P : Program) {o o′ c c′ : ℕ} (ho : o ≤ o′) (hc : c ≤ c′)
     channel-more : (x : Channel) → ChannelFits n o c x → ChannelFits n′ o′ c′ x
     channel-more x h = record { message = range-more ho hc (x .message) (h .message); number = omega (arith, h .number) }
 
-pub fits-more : (m : Mosts) (P : Program) (S : State) {n n′ : ℕ} → n ≤ n′ → Fits m P n S → Fits m P n′ S
+fits-more : (m : Mosts) (P : Program) (S : State) {n n′ : ℕ} → n ≤ n′ → Fits m P n S → Fits m P n′ S
 fits-more m P S hn h =
     record {
       few-objects = h .few-objects;
@@ -208,18 +208,18 @@ module _ (o c : ℕ) where
   unfolding slotAt
   slot-range vs s slots = every-get (InRange o c) vs s Absent tt slots
 
-  pub value-range : {os : List Object} {vs left : List Value} {w : Operand} {v : Value} → Gave os vs w v left → Every (InRange o c) vs → InRange o c v
+  value-range : {os : List Object} {vs left : List Value} {w : Operand} {v : Value} → Gave os vs w v left → Every (InRange o c) vs → InRange o c v
   value-range {vs = vs} {w = w} gave slots = subst (InRange o c) (gave .value) (slot-range vs (slotOf w) slots)
 
-  pub left-range : {os : List Object} {vs left : List Value} {v : Value} (w : Operand) → Gave os vs w v left → Every (InRange o c) vs → Every (InRange o c) left
+  left-range : {os : List Object} {vs left : List Value} {v : Value} (w : Operand) → Gave os vs w v left → Every (InRange o c) vs → Every (InRange o c) left
   left-range (reads s) gave slots = rw (gave .slots) slots
   left-range {vs = vs} (takes s) gave slots = rw (gave .slots) (every-set (InRange o c) vs s Absent tt slots)
 
-  pub all-values-range : {os : List Object} {vs us left : List Value} {ws : List Operand} → GaveAll os vs ws us left → Every (InRange o c) vs → Every (InRange o c) us
+  all-values-range : {os : List Object} {vs us left : List Value} {ws : List Operand} → GaveAll os vs ws us left → Every (InRange o c) vs → Every (InRange o c) us
   all-values-range no-more slots = tt
   all-values-range (one-more {w = w} gave rest) slots = (value-range gave slots, all-values-range rest (left-range w gave slots))
 
-  pub all-left-range : {os : List Object} {vs us left : List Value} {ws : List Operand} → GaveAll os vs ws us left → Every (InRange o c) vs → Every (InRange o c) left
+  all-left-range : {os : List Object} {vs us left : List Value} {ws : List Operand} → GaveAll os vs ws us left → Every (InRange o c) vs → Every (InRange o c) left
   all-left-range no-more slots = slots
   all-left-range (one-more {w = w} gave rest) slots = all-left-range rest (left-range w gave slots)
 
@@ -235,6 +235,26 @@ module _ (o c : ℕ) where
 pub each-frame : (P : Program) (o c : ℕ) (fs : List Frame) → FramesFit P o c fs → Every (FrameFits P o c) fs
 each-frame P o c [] h = tt
 each-frame P o c (f ∷ fs) h = (h .0, every-map (λ g k. k .frame) fs (h .1))
+
+-- ---- The parts of a state that fits; past the end of a list stands what fits any program
+
+module _ {m : Mosts} {P : Program} {n : ℕ} {S : State} (fits : Fits m P n S) where
+  pub object-fits : (i : ℕ) → i < length (S .objects) → ObjectFits P (length (S .objects)) (length (S .threads)) (objectAt (S .objects) i)
+  unfolding objectAt
+  object-fits i there = every-at _ (S .objects) i noObject there (fits .objects)
+
+  pub fields-in-range : (i : ℕ) → i < length (S .objects) → Every (InRange (length (S .objects)) (length (S .threads))) (objectAt (S .objects) i .fields)
+  fields-in-range i there = every-map (object-in-range _ _) (objectAt (S .objects) i .fields) (object-fits i there .fields)
+
+  pub thread-fits : (t : ℕ) → ThreadFits P n (length (S .objects)) (length (S .threads)) (threadAt S t)
+  unfolding threadAt
+  thread-fits t =
+      every-get (ThreadFits P n (length (S .objects)) (length (S .threads))) (S .threads) t noThread (record { few = omega arith; frames = tt; sender = tt }) (fits .threads)
+
+  pub channel-fits : (c : ℕ) → ChannelFits n (length (S .objects)) (length (S .threads)) (channelAt S c)
+  unfolding channelAt
+  channel-fits c =
+      every-get (ChannelFits n (length (S .objects)) (length (S .threads))) (S .channels) c emptyChannel (record { message = tt; number = omega arith }) (fits .channels)
 
 -- ---- Where a turn stands
 
@@ -254,8 +274,7 @@ pub here-fits : (m : Mosts) (P : Program) (n : ℕ) (S : State) (t : ℕ) (f : F
     → HereFits m P n (hereAt S t f fs)
 unfolding threadAt
 here-fits m P n S t f fs fits frames =
-    let its : ThreadFits P n (length (S .objects)) (length (S .threads)) (threadAt S t) =
-    every-get (ThreadFits P n (length (S .objects)) (length (S .threads))) (S .threads) t noThread (record { few = omega arith; frames = tt; sender = tt }) (fits .threads) in
+    let its = thread-fits fits t in
     let few : length (f ∷ fs) ≤ Most.frames = rw frames at (its .few) in
     let both : FramesFit P (length (S .objects)) (length (S .threads)) (f ∷ fs) = rw frames at (its .frames) in
     record { state = fits; self = thread-there (S .threads) t f fs frames; few = few; frame = both .0; callers = both .1 }
@@ -277,16 +296,13 @@ module _ (m : Mosts) (P : Program) (n : ℕ) (H : Here) (here : HereFits m P n H
   target-in : (vs : List Value) (s : ℕ) (v : Value) → ValuesIn vs → slotAt vs s ≡ v → ValueIn v
   target-in vs s v slots target = subst ValueIn target (slot-range _ _ vs s slots)
 
-  pub object-fits : (i : ℕ) → i < length (H .state .objects) → ObjectFits P (length (H .state .objects)) (length (H .state .threads)) (object H i)
-  unfolding object objectAt
-  object-fits i there = every-at _ (H .state .objects) i noObject there (here .state .objects)
+  object-here : (i : ℕ) → i < length (H .state .objects) → ObjectFits P (length (H .state .objects)) (length (H .state .threads)) (object H i)
+  unfolding object
+  object-here i there = object-fits (here .state) i there
 
   fields-in : (i : ℕ) → i < length (H .state .objects) → ValuesIn (object H i .fields)
-  fields-in i there = every-map (object-in-range _ _) (object H i .fields) (object-fits i there .fields)
-
-  pub channel-fits : (c : ℕ) → ChannelFits n (length (H .state .objects)) (length (H .state .threads)) (channelAt (H .state) c)
-  unfolding channelAt
-  channel-fits c = every-get _ (H .state .channels) c emptyChannel (record { message = tt; number = omega arith }) (here .state .channels)
+  unfolding object
+  fields-in i there = fields-in-range (here .state) i there
 
   -- ---- Each way to move
 
@@ -327,7 +343,7 @@ module _ (m : Mosts) (P : Program) (n : ℕ) (H : Here) (here : HereFits m P n H
         → ObjectFits P (length (H .state .objects)) (length (H .state .threads)) (setField (object H i) f (Obj u))
     unfolding setField
     set-field-fits f i u hi hu =
-        let old = object-fits i hi in
+        let old = object-here i hi in
         let kept = length-set (object H i .fields) f (Obj u) in
         record {
           kind = old .kind;
@@ -353,7 +369,7 @@ module _ (m : Mosts) (P : Program) (n : ℕ) (H : Here) (here : HereFits m P n H
     call-fits at-let s i w j v vs called =
         let left = left-in w (called .gave) in
         let target = target-in vs s (Obj j) left (called .target) in
-        let is-method = method-ok m P valid (object H j .kind) i (object-fits j target .kind) (called .has-method) in
+        let is-method = method-ok m P valid (object H j .kind) i (object-here j target .kind) (called .has-method) in
         put-thread-fits m P (suc n) (H .state) counted (H .self) _ ready (called .room) (
           first-line-fits m P valid method _ is-method (Obj j ∷ v ∷ []) refl (target, (value-in (called .gave), tt)),
           (record { frame = left-fits P _ _ (H .frame) vs (here .frame) (called .gave .count) left; at-let = at-let }, here .callers),
@@ -392,7 +408,8 @@ module _ (m : Mosts) (P : Program) (n : ℕ) (H : Here) (here : HereFits m P n H
         → Fits m P (suc n) (putThread (putMessage H c i) (H .self) (withSlots (H .frame) vs ∷ H .callers) (waiting (nextNumber H c)))
     unfolding putChannel
     put-fits s w c i vs put =
-        let number : nextNumber H c ≤ suc n = omega (arith, channel-fits c .number) in
+        let its = channel-fits (here .state) c in
+        let number : nextNumber H c ≤ suc n = omega (arith, its .number) in
         put-thread-fits m P (suc n) _ (put-channel-fits m P (suc n) (H .state) counted c _ (record { message = value-in (put .gave); number = number }))
         (H .self) _ _ (here .few) (left-fits P _ _ (H .frame) vs (here .frame) (put .gave .count) (left-in w (put .gave)), here .callers) number
 
@@ -403,8 +420,9 @@ module _ (m : Mosts) (P : Program) (n : ℕ) (H : Here) (here : HereFits m P n H
     recv-fits : AtLet → (c : ℕ) → Fits m P (suc n) (gives (emptied H c) H (H .frame .slots) (channelAt (H .state) c .message))
     unfolding putChannel
     recv-fits at-let c =
-        gives-fits at-let _ (put-channel-fits m P (suc n) (H .state) counted c _ (record { message = tt; number = omega (arith, channel-fits c .number) })) (le-refl _) (le-refl _)
-        (H .frame .slots) _ refl (here .frame .slots) (channel-fits c .message)
+        let its = channel-fits (here .state) c in
+        gives-fits at-let _ (put-channel-fits m P (suc n) (H .state) counted c _ (record { message = tt; number = omega (arith, its .number) })) (le-refl _) (le-refl _)
+        (H .frame .slots) _ refl (here .frame .slots) (its .message)
 
     return-fits : (f : Frame) (fs : List Frame) (v : Value) → H .callers ≡ f ∷ fs → ValueIn v → Fits m P (suc n) (putThread (H .state) (H .self) (filled f (f .slots) v ∷ fs) ready)
     return-fits f fs v e value =

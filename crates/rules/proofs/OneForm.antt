@@ -128,7 +128,7 @@ one-beginning i j l i<n j<n b c = go (decLt i j) (decLt j i)
     go (no h) (yes k) = absurd (apart-begin (ruleAt j) (ruleAt i) l (apart-at forms _ j i forms-apart k i<n) c b)
     go (no h) (no k) = omega arith
 
-pub line-begins : (i : ℕ) (l : List ℕ) → Fits-line i l → Begins (ruleAt i .template) l
+line-begins : (i : ℕ) (l : List ℕ) → Fits-line i l → Begins (ruleAt i .template) l
 line-begins i l f = rw (fit-prints (ruleAt i .template) l (f .parts) [] (f .fits)) (print-begins (ruleAt i .template) (f .parts) [])
 
 pub one-form : (i j : ℕ) (l : List ℕ) → i < length forms → j < length forms → Fits-line i l → Fits-line j l → i ≡ j
@@ -181,7 +181,7 @@ unfit-line j l h = go (fit (ruleAt j .template) l) refl
     go unfit e = refl
 
 -- where no other form fits, to try this one is enough
-pub decode-by : (i : ℕ) (l : List ℕ) → i < length forms → ((j : ℕ) → j < length forms → Fits-line j l → j ≡ i) → decode l ≡ tried (ruleAt i) l
+decode-by : (i : ℕ) (l : List ℕ) → i < length forms → ((j : ℕ) → j < length forms → Fits-line j l → j ≡ i) → decode l ≡ tried (ruleAt i) l
 unfolding decode
 decode-by i l i<n h = only-gives (decode-in-order l) forms _ i i<n (λ j j<n e. unfit-line j l (λ f. e (h j j<n f)))
 

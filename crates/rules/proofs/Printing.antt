@@ -165,14 +165,14 @@ capBy-front : (k : Cap) (l : List ℕ) → Says (Front capWord Any l) (capBy k l
 unfolding capBy
 capBy-front k l = says-then (literal-front (capWord k) l) (λ _ l₁ p. taken (record { text = p .text; such = tt }))
 
-pub capability-front : (l : List ℕ) → Says (Front capWord Any l) (capability l)
+capability-front : (l : List ℕ) → Says (Front capWord Any l) (capability l)
 unfolding capability
 capability-front l =
     says-either (capBy-front Imm l)
     (says-either (capBy-front Iso l)
     (says-either (capBy-front Local l) (capBy-front Unsafe l)))
 
-pub many-front : {A : Type 0} {r : List ℕ → Taken A} {f : A → List ℕ} {Q : A → Type 0} → ((k : List ℕ) → Says (Front f Q k) (r k))
+many-front : {A : Type 0} {r : List ℕ → Taken A} {f : A → List ℕ} {Q : A → Type 0} → ((k : List ℕ) → Says (Front f Q k) (r k))
     → (n : ℕ) (l : List ℕ) → Says (Front (printMany f) (Every Q) l) (many r n l)
 unfolding many printMany
 many-front h zero l = taken (record { text = refl; such = tt })
@@ -342,7 +342,7 @@ digits-of n h = go (decLt n 10) (decLt n 100)
     go (no a) (yes b) = record { list = n / 10 ∷ n % 10 ∷ []; short = rw (ne-eqb (n / 10) 0 (λ e. omega arith)); each = omega arith; value = omega arith }
     go (no a) (no b) = record { list = n / 100 ∷ n / 10 % 10 ∷ n % 10 ∷ []; short = rw (ne-eqb (n / 100) 0 (λ e. omega arith)); each = omega arith; value = omega arith }
 
-pub number-back : (n : ℕ) (l : List ℕ) → Small n → Starts afterOne l → number (decimal n ++ l) ≡ took n l
+number-back : (n : ℕ) (l : List ℕ) → Small n → Starts afterOne l → number (decimal n ++ l) ≡ took n l
 unfolding number
 number-back n l h e =
     let d = digits-of n h in

@@ -29,7 +29,7 @@ pub program-words-length : (P : Program) → length (programWords P) ≡ Most.wo
 unfolding programWords
 program-words-length P = length-pad Most.words 0 (usedProgramWords P)
 
-pub used-program-words-length : (P : Program) → length (usedProgramWords P) ≡ 72 + length (linesOf P) * 8
+used-program-words-length : (P : Program) → length (usedProgramWords P) ≡ 72 + length (linesOf P) * 8
 unfolding usedProgramWords row
 used-program-words-length P = simp (length-append, length-pad, length-cells row 8 (λ F. length-pad 8 0 (lineWords F))) (omega arith)
 
@@ -98,7 +98,7 @@ rank-small Iso = omega arith
 rank-small Local = omega arith
 rank-small Unsafe = omega arith
 
-every-outermost : (Q : Frame → Type 0) (fs : List Frame) → Every Q fs → Every Q (outermostFirst fs)
+pub every-outermost : (Q : Frame → Type 0) (fs : List Frame) → Every Q fs → Every Q (outermostFirst fs)
 unfolding outermostFirst
 every-outermost Q [] e = tt
 every-outermost Q (f ∷ fs) e = every-snoc Q (outermostFirst fs) f (e .0) (every-outermost Q fs (e .1))

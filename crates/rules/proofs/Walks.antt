@@ -12,16 +12,16 @@ use Rattle.rules.specs.declared.Value.the-variants.{Absent, Obj, Chan}
 use Rattle.rules.specs.declared.Mosts.{Mosts}
 use Rattle.rules.specs.Lists.{among, Every}
 use Rattle.rules.specs.Script.{Program}
-use Rattle.rules.specs.State.{Object, noObject, Frame, Thread, noThread, State, objectAt, threadAt}
+use Rattle.rules.specs.State.{Object, noObject, Frame, State, objectAt, threadAt}
 use Rattle.rules.specs.Stripped.{eraseObject, erase}
-use Rattle.rules.specs.Fits.{InRange, ObjectFits, ThreadFits, Fits}
+use Rattle.rules.specs.Fits.{InRange, ObjectFits, Fits}
 use Rattle.rules.specs.Reach.{countOne, count, times, Reaches, here, more, ReachedFrom, slotsOf, roots, Lists, Walked, done, skip, meet, walk, visit, visits, reachList}
 use Rattle.rules.proofs.ListLaws.{by-bool, every-map, every-get, every-append}
-use Rattle.rules.proofs.Keeps.{object-in-range, each-frame}
+use Rattle.rules.proofs.Keeps.{object-in-range, each-frame, thread-fits}
 use Rattle.rules.proofs.Simulation.{object-erased}
 use Rattle.rules.proofs.Counts.{sum-cases, object-self, object-equal, object-met, count-append, times-snoc, count-range, times-among, times-not-among, few-entries}
 
-pub reaches-trans : (os : List Object) (a b x : ℕ) → Reaches os a b → Reaches os b x → Reaches os a x
+reaches-trans : (os : List Object) (a b x : ℕ) → Reaches os a b → Reaches os b x → Reaches os a x
 reaches-trans os a b x p (here e) = rw (← e) p
 reaches-trans os a b x p (more {y = y} q h) = more (reaches-trans os a b y p q) h
 
@@ -186,12 +186,10 @@ module _ {m : Mosts} {P : Program} {n : ℕ} {S : State} (fits : Fits m P n S) w
       of-object o h = every-map (object-in-range _ _) (o .fields) (h .fields)
 
   pub roots-made : (t : ℕ) → Every (Made S) (roots S t)
-  unfolding roots threadAt
+  unfolding roots
   roots-made t =
-      slots-made S (threadAt S t .frames) (every-get (λ h. Every (λ f. Every (Made S) (f .slots)) (h .frames)) (S .threads) t noThread tt (every-map of-thread (S .threads) (fits .threads)))
-    where
-      of-thread : (h : Thread) → ThreadFits P n (length (S .objects)) (length (S .threads)) h → Every (λ f. Every (Made S) (f .slots)) (h .frames)
-      of-thread h k = every-map (λ f l. l .slots) (h .frames) (each-frame P _ _ (h .frames) (k .frames))
+      let fs = threadAt S t .frames in
+      slots-made S fs (every-map (λ f l. l .slots) fs (each-frame P _ _ fs (thread-fits fits t .frames)))
 
   pub reached-range : (vs : List Value) → Every (Made S) vs → (x : ℕ) → ReachedFrom (S .objects) vs x → x < length (S .objects)
   reached-range vs h x r = through x (r .reaches)
@@ -203,9 +201,6 @@ module _ {m : Mosts} {P : Program} {n : ℕ} {S : State} (fits : Fits m P n S) w
   -- whatever the order
   pub lists-few : (t : ℕ) (out : List ℕ) → Lists (S .objects) (roots S t) out → length out ≤ length (S .objects)
   lists-few t out l = few-entries (length (S .objects)) out (λ x h. reached-range (roots S t) (roots-made t) x (l .reached x .0 h)) (l .once)
-
-  pub reach-few : (t : ℕ) → length (reachList (S .objects) (roots S t)) ≤ length (S .objects)
-  reach-few t = lists-few t (reachList (S .objects) (roots S t)) (reach-lists (S .objects) (roots S t))
 
 -- ---- capabilities play no part
 

@@ -1,7 +1,7 @@
 -- What a run comes to: 1, 9, the reader's refusal, or the turns played from the fresh start.
 use Prim.Native.Nat.{ℕ, _≤_, _<_}
 use native.Mathlib.Omega.{arith}
-use mathlib.Core.Path.{_≡_, refl, sym, ap, _∙_}
+use mathlib.Core.Path.{_≡_, refl, sym, ap, _∙_, subst}
 use mathlib.Core.List.{List, _++_}
 use lib.Dec.{ltb}
 use lib.ListN.{length, take, drop, length-append}
@@ -11,7 +11,7 @@ use Rattle.rules.specs.Mosts as Most
 use Rattle.rules.specs.Mosts.{mosts}
 use Rattle.rules.specs.Numbers as No
 use Rattle.rules.specs.Script.{Program}
-use Rattle.rules.specs.Reading.{Reading, turnedAway, accepted, script, reading}
+use Rattle.rules.specs.Reading.{Reading, turnedAway, accepted, reading}
 use Rattle.rules.specs.Valid.{Valid}
 use Rattle.rules.specs.State.{start}
 use Rattle.rules.specs.Run as R
@@ -19,7 +19,7 @@ use Rattle.rules.specs.Run.{Stop, none, stopped, run, finished, stuck, openEnd,
 use Rattle.rules.specs.Tables.{programWords, stateWords}
 use Rattle.rules.specs.Calls.{longText, longTurns, shortTable, readCall, programAfter, runCall, runAnswer, stateAfter}
 use Rattle.rules.proofs.ListLaws.{impossible, by-bool}
-use Rattle.rules.proofs.Accepted.{accepted-valid, table-lines}
+use Rattle.rules.proofs.Accepted.{accepted-valid, reading-accepted, table-lines}
 use Rattle.rules.proofs.Keeps.{fits-run}
 use Rattle.rules.proofs.Demand3.{stripped-matches}
 use Rattle.rules.proofs.TableWords.{program-words-length, state-words-length}
@@ -35,6 +35,7 @@ use Rattle.run.specs.declared.playing.Played.{Played}
 use Rattle.run.specs.declared.playing.Played.the-variants.{Through, Stopped}
 use Rattle.run.specs.Answers.{answerOf, Tells, Guarded, Demand3}
 use Rattle.run.specs.Played.{playedBy, Plays, Ends, RunsProgram}
+use Rattle.run.proofs.AnswerTells.{IsAccepted}
 
 -- ---- 1 and 9, then the reader's
 
@@ -68,25 +69,16 @@ refusal-is (turnedAway i j) {k} {n} e =
     rw (number, line) refl
 refusal-is (accepted P) e = impossible cc
 
-pub record IsAccepted (C : Reading) : Type 0 where
-  pub program : Program
-  pub is : C ≡ accepted program
-
-pub read-is : (C : Reading) → Read ≡ Reader.answerOf C → IsAccepted C
+read-is : (C : Reading) → Read ≡ Reader.answerOf C → IsAccepted C
 read-is (turnedAway k n) e = impossible cc
 read-is (accepted P) e = record { program = P; is = refl }
 
 -- ---- A program that was read
 
-script-accepted : (text program : List ℕ) (P : Program) → readCall mosts text program ≡ accepted P → script mosts text ≡ accepted P
-unfolding readCall reading
-script-accepted text program P e =
-    by-bool (longText text) (λ t. impossible (let no = rw t at e in cc))
-    (λ t. by-bool (shortTable program) (λ u. impossible (let no = rw (t, u) at e in cc)) (λ u. rw (t, u) at e))
-
 module _ (text program : List ℕ) (P : Program) (is : readCall mosts text program ≡ accepted P) where
   pub valid : Valid mosts P
-  valid = accepted-valid mosts text P (script-accepted text program P is)
+  unfolding readCall
+  valid = accepted-valid mosts text P (reading-accepted mosts _ _ text P is .2)
 
   pub loaded : {p : List ℕ} → p ≡ programWords P ++ drop Most.words program → Loaded p P
   loaded words =
@@ -202,37 +194,19 @@ module _ (text turns program state : List ℕ) {p : List ℕ} (read : Read ≡ R
 
 -- ---- The answer by its numbers
 
-pub tells-finished : (a : R.Answer) {m : ℕ} → A.Finished m ≡ answerOf a → Tells a 0 0 0 0 0 m
-tells-finished (refused k n) e = impossible cc
-tells-finished (ended finished n) e = record { end-is = refl; number-is = refl; thread-is = refl; block-is = refl; line-is = refl; moves-is = cc }
-tells-finished (ended stuck n) e = impossible cc
-tells-finished (ended openEnd n) e = impossible cc
-tells-finished (halted k t b l n) e = impossible cc
+abbrev TellsBy : R.Answer → Answer → Type 0
+TellsBy a (A.Finished m) = Tells a 0 0 0 0 0 m
+TellsBy a (A.Stuck m) = Tells a 1 0 0 0 0 m
+TellsBy a (A.Open m) = Tells a 2 0 0 0 0 m
+TellsBy a (A.Stopped k t b l m) = Tells a 3 k t b l m
+TellsBy a (A.Refused k n) = Tells a 4 k 0 0 n 0
 
-pub tells-stuck : (a : R.Answer) {m : ℕ} → A.Stuck m ≡ answerOf a → Tells a 1 0 0 0 0 m
-tells-stuck (refused k n) e = impossible cc
-tells-stuck (ended finished n) e = impossible cc
-tells-stuck (ended stuck n) e = record { end-is = refl; number-is = refl; thread-is = refl; block-is = refl; line-is = refl; moves-is = cc }
-tells-stuck (ended openEnd n) e = impossible cc
-tells-stuck (halted k t b l n) e = impossible cc
+tells : (a : R.Answer) → TellsBy a (answerOf a)
+tells (refused k n) = record { end-is = refl; number-is = refl; thread-is = refl; block-is = refl; line-is = refl; moves-is = refl }
+tells (ended finished m) = record { end-is = refl; number-is = refl; thread-is = refl; block-is = refl; line-is = refl; moves-is = refl }
+tells (ended stuck m) = record { end-is = refl; number-is = refl; thread-is = refl; block-is = refl; line-is = refl; moves-is = refl }
+tells (ended openEnd m) = record { end-is = refl; number-is = refl; thread-is = refl; block-is = refl; line-is = refl; moves-is = refl }
+tells (halted k t b l m) = record { end-is = refl; number-is = refl; thread-is = refl; block-is = refl; line-is = refl; moves-is = refl }
 
-pub tells-open : (a : R.Answer) {m : ℕ} → A.Open m ≡ answerOf a → Tells a 2 0 0 0 0 m
-tells-open (refused k n) e = impossible cc
-tells-open (ended finished n) e = impossible cc
-tells-open (ended stuck n) e = impossible cc
-tells-open (ended openEnd n) e = record { end-is = refl; number-is = refl; thread-is = refl; block-is = refl; line-is = refl; moves-is = cc }
-tells-open (halted k t b l n) e = impossible cc
-
-pub tells-stopped : (a : R.Answer) {k t b l m : ℕ} → A.Stopped k t b l m ≡ answerOf a → Tells a 3 k t b l m
-tells-stopped (refused i n) e = impossible cc
-tells-stopped (ended finished n) e = impossible cc
-tells-stopped (ended stuck n) e = impossible cc
-tells-stopped (ended openEnd n) e = impossible cc
-tells-stopped (halted i u c j n) e = record { end-is = refl; number-is = cc; thread-is = cc; block-is = cc; line-is = cc; moves-is = cc }
-
-pub tells-refused : (a : R.Answer) {k n : ℕ} → A.Refused k n ≡ answerOf a → Tells a 4 k 0 0 n 0
-tells-refused (refused i j) e = record { end-is = refl; number-is = cc; thread-is = refl; block-is = refl; line-is = cc; moves-is = refl }
-tells-refused (ended finished n) e = impossible cc
-tells-refused (ended stuck n) e = impossible cc
-tells-refused (ended openEnd n) e = impossible cc
-tells-refused (halted i u c j n) e = impossible cc
+pub tells-answer : (a : R.Answer) {r : Answer} → r ≡ answerOf a → TellsBy a r
+tells-answer a e = subst (TellsBy a) (sym e) (tells a)

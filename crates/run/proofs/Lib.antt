@@ -3,5 +3,6 @@
 mod OtherThreads
 mod TurnByTurn
 mod EndLaws
--- from the text to the answer
+-- what the answer tells of the reading; from the text to the answer
+pub mod AnswerTells
 mod Answering

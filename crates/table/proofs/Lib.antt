@@ -4,6 +4,8 @@ pub mod ProgramTable
 pub mod ProgramLines
 -- edits of the abstract state
 pub mod StateEdits
+-- a place for each value of a state of a run
+pub mod Places
 -- the state table's words; what is read of it
 pub mod StateTable
 pub mod StateReads

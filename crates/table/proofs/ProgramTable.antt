@@ -56,7 +56,7 @@ program-words-by-lines P = refl
 
 -- ---- The first lines of blocks
 
-pub first-lines-append : (n : ℕ) (Fs Gs : List Form) → firstLines n (Fs ++ Gs) ≡ firstLines n Fs ++ firstLines (n + length Fs) Gs
+first-lines-append : (n : ℕ) (Fs Gs : List Form) → firstLines n (Fs ++ Gs) ≡ firstLines n Fs ++ firstLines (n + length Fs) Gs
 unfolding firstLines
 first-lines-append n [] Gs = rw (add-zero n)
 first-lines-append n (kind K ∷ Fs) Gs = rw (add-suc n (length Fs), ← suc-add n (length Fs)) (first-lines-append (suc n) Fs Gs)
@@ -64,7 +64,7 @@ first-lines-append n (opens o ∷ Fs) Gs = rw (add-suc n (length Fs), ← suc-ad
 first-lines-append n (line x ∷ Fs) Gs = rw (add-suc n (length Fs), ← suc-add n (length Fs)) (first-lines-append (suc n) Fs Gs)
 
 -- one for each block
-pub first-lines-length : (n : ℕ) (Fs : List Form) → length (firstLines n Fs) ≡ length (blocksOf Fs)
+first-lines-length : (n : ℕ) (Fs : List Form) → length (firstLines n Fs) ≡ length (blocksOf Fs)
 unfolding firstLines blocksOf
 first-lines-length n [] = refl
 first-lines-length n (kind K ∷ Fs) = first-lines-length (suc n) Fs

@@ -53,7 +53,7 @@ module _ (k : ℕ) (g : Frame → Frame) where
       (sym (set-append-left (outermostFirst fs) (f ∷ []) k (g (getD (outermostFirst fs) k noFrame)) there)))
 
 -- two edits that agree on the frame
-pub edits-agree : (k : ℕ) (g h : Frame → Frame) (fs : List Frame) → k < length fs
+edits-agree : (k : ℕ) (g h : Frame → Frame) (fs : List Frame) → k < length fs
     → g (getD (outermostFirst fs) k noFrame) ≡ h (getD (outermostFirst fs) k noFrame) → onFrame k g fs ≡ onFrame k h fs
 unfolding onFrame outermostFirst
 edits-agree k g h [] i e = refl

@@ -56,14 +56,14 @@ splice-inside l zs b at ys h k =
     ∙ ap (λ n. take b l ++ (splice zs at ys ++ drop (b + n) l)) (sym (length-splice zs ys at k))
 
 -- a word written inside it; a read inside it
-pub set-splice : (l ys : List ℕ) (at j w : ℕ) → at + length ys < suc (length l) → j < length ys → set (splice l at ys) (at + j) w ≡ splice l at (set ys j w)
+set-splice : (l ys : List ℕ) (at j w : ℕ) → at + length ys < suc (length l) → j < length ys → set (splice l at ys) (at + j) w ≡ splice l at (set ys j w)
 unfolding splice
 set-splice l ys at j w h k =
     set-past (take at l) (ys ++ drop (at + length ys) l) at j w (length-take-le at l (omega arith))
     ∙ ap (take at l ++_) (set-append-left ys (drop (at + length ys) l) j w k)
     ∙ ap (λ n. take at l ++ (set ys j w ++ drop (at + n) l)) (sym (length-set ys j w))
 
-pub get-splice : (l ys : List ℕ) (at j : ℕ) → at + length ys < suc (length l) → j < length ys → getD (splice l at ys) (at + j) 0 ≡ getD ys j 0
+get-splice : (l ys : List ℕ) (at j : ℕ) → at + length ys < suc (length l) → j < length ys → getD (splice l at ys) (at + j) 0 ≡ getD ys j 0
 unfolding splice
 get-splice l ys at j h k =
     get-past (take at l) (ys ++ drop (at + length ys) l) at j 0 (length-take-le at l (omega arith)) ∙ List·getD-append ys (drop (at + length ys) l) 0 j k
@@ -160,22 +160,29 @@ module _ (a b : ℕ) (os : List Object) (ts : List Thread) (cs : List Channel) w
       (omega (arith, object-words-length x, length-records objectWords 8 object-words-length 256 unmade os))
       ∙ ap (λ (l : List ℕ). counts ++ (l ++ others)) e
 
+  -- past the counts and the objects
+  past-objects : (i : ℕ) (ys : List ℕ) → splice (tableOf a b os ts cs) (2056 + i) ys
+      ≡ pad 8 0 (a ∷ b ∷ []) ++ (cells objectWords (pad 256 unmade os) ++ splice (cells threadWords (pad 16 noThread ts) ++ cells channelWords (pad 16 emptyChannel cs)) i ys)
+  unfolding tableOf
+  past-objects i ys =
+      let counts = pad 8 0 (a ∷ b ∷ []) in
+      let objects = cells objectWords (pad 256 unmade os) in
+      let others = cells threadWords (pad 16 noThread ts) ++ cells channelWords (pad 16 emptyChannel cs) in
+      let place : 2056 + i ≡ 8 + (2048 + i) = omega arith in
+      ap (λ k. splice (counts ++ (objects ++ others)) k ys) place ∙ splice-past counts (objects ++ others) 8 (2048 + i) ys (length-pad 8 0 (a ∷ b ∷ []))
+      ∙ ap (counts ++_) (splice-past objects others 2048 i ys (length-records objectWords 8 object-words-length 256 unmade os))
+
   threads-to : (t : ℕ) (x : Thread) (ts₁ : List Thread) → t < 16
       → splice (cells threadWords (pad 16 noThread ts)) (t * 306) (threadWords x) ≡ cells threadWords (pad 16 noThread ts₁)
       → splice (tableOf a b os ts cs) (2056 + t * 306) (threadWords x) ≡ tableOf a b os ts₁ cs
   unfolding tableOf
   threads-to t x ts₁ h e =
-      let counts = pad 8 0 (a ∷ b ∷ []) in
-      let objects = cells objectWords (pad 256 unmade os) in
       let threads = cells threadWords (pad 16 noThread ts) in
       let channels = cells channelWords (pad 16 emptyChannel cs) in
-      let place : 2056 + t * 306 ≡ 8 + (2048 + t * 306) = omega arith in
-      ap (λ i. splice (counts ++ (objects ++ (threads ++ channels))) i (threadWords x)) place
-      ∙ splice-past counts (objects ++ (threads ++ channels)) 8 (2048 + t * 306) (threadWords x) (length-pad 8 0 (a ∷ b ∷ []))
-      ∙ ap (counts ++_) (
-      splice-between objects threads channels 2048 (t * 306) (threadWords x) (length-records objectWords 8 object-words-length 256 unmade os)
-      (omega (arith, thread-words-length x, length-records threadWords 306 thread-words-length 16 noThread ts))
-      ∙ ap (λ (l : List ℕ). objects ++ (l ++ channels)) e
+      past-objects (t * 306) (threadWords x)
+      ∙ ap (λ (l : List ℕ). pad 8 0 (a ∷ b ∷ []) ++ (cells objectWords (pad 256 unmade os) ++ l)) (
+      splice-before threads channels (t * 306) (threadWords x) (omega (arith, thread-words-length x, length-records threadWords 306 thread-words-length 16 noThread ts))
+      ∙ ap (λ (l : List ℕ). l ++ channels) e
       )
 
   channels-to : (c : ℕ) (x : Channel) (cs₁ : List Channel)
@@ -183,18 +190,12 @@ module _ (a b : ℕ) (os : List Object) (ts : List Thread) (cs : List Channel) w
       → splice (tableOf a b os ts cs) (6952 + c * 2) (channelWords x) ≡ tableOf a b os ts cs₁
   unfolding tableOf
   channels-to c x cs₁ e =
-      let counts = pad 8 0 (a ∷ b ∷ []) in
-      let objects = cells objectWords (pad 256 unmade os) in
       let threads = cells threadWords (pad 16 noThread ts) in
-      let channels = cells channelWords (pad 16 emptyChannel cs) in
-      let place : 6952 + c * 2 ≡ 8 + (2048 + (4896 + c * 2)) = omega arith in
-      ap (λ i. splice (counts ++ (objects ++ (threads ++ channels))) i (channelWords x)) place
-      ∙ splice-past counts (objects ++ (threads ++ channels)) 8 (2048 + (4896 + c * 2)) (channelWords x) (length-pad 8 0 (a ∷ b ∷ []))
-      ∙ ap (counts ++_) (
-      splice-past objects (threads ++ channels) 2048 (4896 + c * 2) (channelWords x) (length-records objectWords 8 object-words-length 256 unmade os)
-      ∙ ap (objects ++_) (
-      splice-past threads channels 4896 (c * 2) (channelWords x) (length-records threadWords 306 thread-words-length 16 noThread ts) ∙ ap (threads ++_) e
-      )
+      let place : 6952 + c * 2 ≡ 2056 + (4896 + c * 2) = omega arith in
+      ap (λ i. splice (tableOf a b os ts cs) i (channelWords x)) place ∙ past-objects (4896 + c * 2) (channelWords x)
+      ∙ ap (λ (l : List ℕ). pad 8 0 (a ∷ b ∷ []) ++ (cells objectWords (pad 256 unmade os) ++ l)) (
+      splice-past threads (cells channelWords (pad 16 emptyChannel cs)) 4896 (c * 2) (channelWords x) (length-records threadWords 306 thread-words-length 16 noThread ts)
+      ∙ ap (threads ++_) e
       )
 
   -- a channel that holds nothing is made up
@@ -285,7 +286,7 @@ module _ {l rest : List ℕ} {S : State} (held : Held l S rest) where
   pub threads-at : getD l 1 0 ≡ length (S .threads)
   threads-at = used-get (used held) 1 (omega arith) ∙ second-count (length (S .objects)) (length (S .threads)) (S .objects) (S .threads) (S .channels)
 
-  pub object-at : (o : ℕ) → o < 256 → l ≡ splice l (8 + o * 8) (objectWords (getD (S .objects) o unmade))
+  object-at : (o : ℕ) → o < 256 → l ≡ splice l (8 + o * 8) (objectWords (getD (S .objects) o unmade))
   object-at o h =
       let x : Object = getD (S .objects) o unmade in
       used-same (used held) (8 + o * 8) (objectWords x) (omega (arith, object-words-length x))
@@ -323,7 +324,7 @@ module _ {l rest : List ℕ} {S : State} (held : Held l S rest) where
       let place : 2058 + t * 306 + k * 19 ≡ 2056 + t * 306 + (2 + k * 19) = omega arith in
       ap (λ i. splice l i (frameWords f)) place ∙ thread-splice t (2 + k * 19) (frameWords f) h (omega (arith, frame-words-length f))
 
-  pub frame-at : (t k : ℕ) → t < 16 → k < 16 → l ≡ splice l (2058 + t * 306 + k * 19) (frameWords (frameAt S t k))
+  frame-at : (t k : ℕ) → t < 16 → k < 16 → l ≡ splice l (2058 + t * 306 + k * 19) (frameWords (frameAt S t k))
   unfolding frameAt threadWords
   frame-at t k h m =
       let fs = threadAt S t .frames in
@@ -331,7 +332,7 @@ module _ {l rest : List ℕ} {S : State} (held : Held l S rest) where
       ∙ ap (splice l (2056 + t * 306)) (sym (frames-to fs (threadAt S t .sender) k (frameAt S t k) (outermostFirst fs) (record-is frameWords 19 frame-words-length 16 noFrame (outermostFirst fs) k m)))
       ∙ sym (frame-splice t k (frameAt S t k) h m)
 
-  pub channel-at : (c : ℕ) → c < 16 → l ≡ splice l (6952 + c * 2) (channelWords (channelAt S c))
+  channel-at : (c : ℕ) → c < 16 → l ≡ splice l (6952 + c * 2) (channelWords (channelAt S c))
   unfolding channelAt
   channel-at c h =
       let x : Channel = getD (S .channels) c emptyChannel in

@@ -9,6 +9,7 @@ use Rattle.rules.specs.declared.Cap.{Cap}
 use Rattle.rules.specs.declared.Value.{Value}
 use Rattle.rules.specs.declared.Value.the-variants.{Absent, Obj, Chan}
 use Rattle.rules.specs.Mosts as Most
+use Rattle.rules.specs.Mosts.{mosts}
 use Rattle.rules.specs.Lists.{pad, Every}
 use Rattle.rules.specs.Script.{Operand, line, Program, rank, linesOf, blockAt, lineAt}
 use Rattle.rules.specs.Reading.{slotOf}
@@ -20,15 +21,15 @@ use Rattle.table.specs.declared.state.Here.{Here}
 
 -- ---- Values
 
--- a word read back; channels stand in 16 places
+-- a word read back; channels stand in as many places as threads
 abbrev pub valueOf : ℕ → Value
-valueOf w = cond (eqb w 0) Absent (cond (ltb w 257) (Obj (w - 1)) (Chan ((w - 257) % 16)))
+valueOf w = cond (eqb w 0) Absent (cond (ltb w 257) (Obj (w - 1)) (Chan ((w - 257) % mosts .threads)))
 
 -- an object or a channel that has a place in the table
 abbrev pub InTable : Value → Type 0
 InTable Absent = Unit {0}
-InTable (Obj n) = n < 256
-InTable (Chan c) = c < 16
+InTable (Obj n) = n < mosts .objects
+InTable (Chan c) = c < mosts .threads
 
 -- ---- The table
 
@@ -52,10 +53,10 @@ Any S = Unit {0}
 
 -- the places are those of the thread's frame; the line's words lie in the program table
 pub record Placed (h : Here) : Type 0 where
-  pub thread : h .thread < 16
-  pub depth : h .depth < 16
+  pub thread : h .thread < mosts .threads
+  pub depth : h .depth < Most.frames
   pub frame : h .frame ≡ 2058 + h .thread * 306 + h .depth * 19
-  pub row : h .row + 8 ≤ 8192
+  pub row : h .row + 8 ≤ Most.words
   pub aligned : h .row % 8 ≡ 0
 
 -- frame k of thread t, counted from the outermost
@@ -94,7 +95,7 @@ pub record HasSlot (t k i : ℕ) (S : State) : Type 0 where
 
 -- the place of line l of block b, where the thread stands, and the line's words in it
 pub record OnLine (p : List ℕ) (P : Program) (b l : ℕ) (h : Here) : Type 0 where
-  pub place : h .row ≡ (72 + (getD p (8 + b) 0 + l) * 8) % 8192
+  pub place : h .row ≡ (72 + (getD p (8 + b) 0 + l) * 8) % Most.words
   pub words : (k : ℕ) → k < 8 → getD p (h .row + k) 0 ≡ getD (row (line (lineAt P b l))) k 0
 
 -- ---- Objects, channels, threads
@@ -159,7 +160,7 @@ pub record Next (n : ℕ) (S : State) : Type 0 where
   pub channels : length (S .channels) ≡ length (S .threads)
 
 pub record Makes (t k n cap kind : ℕ) (items : List ℕ) (e e₁ : List ℕ) : Type 0 where
-  pub makes : (c : Cap) (ws : List Operand) → cap ≡ rank c → items ≡ pad 4 0 (map operandItem ws)
+  pub makes : (c : Cap) (ws : List Operand) → cap ≡ rank c → items ≡ pad Most.operands 0 (map operandItem ws)
       → Every (λ w. slotOf w < Most.slots) ws
       → Becomes e (λ S. n ≡ length (S .objects)) (λ S. made (record { cap = c; kind = kind; creator = t; fields = map (λ w. slotAt (frameAt S t k .slots) (slotOf w)) ws }) S) e₁
 

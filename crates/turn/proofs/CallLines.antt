@@ -1,5 +1,5 @@
 -- The lines call and give: a frame is pushed, then the operand's slot in its caller is left; the caller is given the slot's value, then the frame ends.
-use Prim.Native.Nat.{ℕ, suc, _-_, _/_, _%_, _≤_, _<_}
+use Prim.Native.Nat.{ℕ, suc, _-_, _/_, _%_, _<_}
 use native.Mathlib.Omega.{arith}
 use mathlib.Core.Path.{_≡_, refl, sym, ap, _∙_, subst}
 use mathlib.Core.List.{List, [], _∷_, map}
@@ -14,7 +14,7 @@ use Rattle.rules.specs.Script.{Operand, Program, call, bind, give, kindAt}
 use Rattle.rules.specs.State.{Frame, Sender, ready, Thread, State, objectAt, threadAt, slotAt}
 use Rattle.rules.specs.Tables.{operandOf, outermostFirst, noFrame}
 use Rattle.rules.specs.Turn.{leftBy, object, putThread, filled, withSlots, isAbsent, giveLine, letLine, perform}
-use Rattle.rules.proofs.ListLaws.{impossible, get-there}
+use Rattle.rules.proofs.ListLaws.{get-there}
 use Rattle.rules.proofs.Moves.{MethodCalled, Step, by-call, by-return, by-finish}
 use Rattle.rules.proofs.Keeps.{block-ok}
 use Rattle.rules.proofs.TableWords.{length-outermost, slot-of-word}

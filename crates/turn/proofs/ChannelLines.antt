@@ -11,7 +11,7 @@ use Rattle.rules.specs.declared.Value.the-variants.{Absent, Chan}
 use Rattle.rules.specs.Mosts.{mosts}
 use Rattle.rules.specs.Numbers as No
 use Rattle.rules.specs.Script.{Program, spawn, recv, bind, lineAt}
-use Rattle.rules.specs.State.{Frame, ready, Thread, noThread, State, threadAt, channelAt, slotAt}
+use Rattle.rules.specs.State.{Frame, ready, Thread, noThread, State, threadAt, channelAt}
 use Rattle.rules.specs.Turn.{check, putThread, putChannel, filled, gives, started, spawnLine, recvLine, letLine, perform}
 use Rattle.rules.proofs.ListLaws.{length-snoc}
 use Rattle.rules.proofs.Moves.{Step, by-spawn, by-recv}

@@ -53,7 +53,7 @@ module _ {t k : ℕ} {f : Frame} {fs : List Frame} {S : State} (in-frame : Insid
   pub frame-inside : frameAt S t k ≡ f
   frame-inside = innermost-frame S t (in-frame .frames) (in-frame .depth)
 
-  pub has-frame : HasFrame t k S
+  has-frame : HasFrame t k S
   has-frame = record { thread = in-frame .thread; frame = rw (in-frame .frames) (omega (arith, in-frame .depth)) }
 
   pub has-room : length (f .slots) < Most.slots → f .line < Most.turns → HasRoom t k S

@@ -75,7 +75,7 @@ pub record Loaded (p : List ℕ) (P : Program) : Type 0 where
 
 -- a new whose operands are these items
 pub record PerformsNew (s : List ℕ) (h : Here) (c : Cap) (kind : ℕ) (items : List ℕ) (r : Step) (s₁ : List ℕ) : Type 0 where
-  pub performs : (ws : List Operand) → items ≡ pad 4 0 (map operandItem ws) → Performs Always s h (bind (new c kind ws)) r s₁
+  pub performs : (ws : List Operand) → items ≡ pad Most.operands 0 (map operandItem ws) → Performs Always s h (bind (new c kind ws)) r s₁
 
 -- a send on the channel in slot i, by a sender whose word is d
 pub record PerformsSent (s : List ℕ) (h : Here) (i d : ℕ) (r : Step) (s₁ : List ℕ) : Type 0 where

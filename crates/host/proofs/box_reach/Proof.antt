@@ -44,7 +44,9 @@ enum-known-report c = search needs
 
 returns-2 : tie.Need-returns-2
 returns-2 c =
-    let a = c .before .before .before .before .before .before .before .before .before .before .before .before .before .before .before .before .before .before .args in
+    let at-reach = c .before .before .before .before .before .before .before in
+    let at-if1 = at-reach .before .before .before .before in
+    let a = at-if1 .before .before .before .before .before .before .before .args in
     let text = now (a .text) in
     let turns = now (a .turns) in
     let program = now (a .program) in
@@ -53,9 +55,9 @@ returns-2 c =
     let own : List ℕ = replicate 8192 0 in
     let long = length-replicate {A = ℕ} 8192 0 in
     let objects : List ℕ = replicate 256 0 in
-    let same = reach-same text turns program state list (c .before .before .before .before .before .before .before .before .before .before .before .before .early .ensures) own own objects long long (length-replicate {A = ℕ} 256 0) (c .before .before .before .before .before .before .before .before .before .before .before .if1 .left) in
+    let same = reach-same text turns program state list (at-if1 .before .early .ensures) own own objects long long (length-replicate {A = ℕ} 256 0) (at-if1 .if1 .left) in
     let C₀ = reachCall mosts text turns own own objects in
-    let reach = c .before .before .before .before .before .before .before .reach .ensures in
+    let reach = at-reach .reach .ensures in
     let told = C.as-told turns (a .thread) program state list objects _ C₀ (c .before .before .report .given .1) (reach .0) in
     let x = C.reach-of-same same (C.reach-refused turns (a .thread) program state list objects _ C₀ (c .if2 .taken) told) in
     (x .report, (x .program-is, x .state-is))
@@ -65,26 +67,28 @@ slice-aggregate-store c = search needs
 
 store-requires : tie.Need-store-requires
 store-requires c κs =
-    let a = c .before .before .before .before .before .before .before .before .before .before .before .before .before .before .before .before .before .before .before .before .args in
+    let at-if1 = c .before .before .before .before .before .before .before .before .before .before .before .before .before in
+    let a = at-if1 .before .before .before .before .before .before .before .args in
     let text = now (a .text) in
     let turns = now (a .turns) in
     let program = now (a .program) in
     let state = now (a .state) in
     let list = now (a .list) in
-    omega (arith, reach-room text turns program state list (c .before .before .before .before .before .before .before .before .before .before .before .before .before .before .early .ensures) (c .before .before .before .before .before .before .before .before .before .before .before .before .before .if1 .left) .0)
+    omega (arith, reach-room text turns program state list (at-if1 .before .early .ensures) (at-if1 .if1 .left) .0)
 
 slice-aggregate-store-2 : tie.Need-slice-aggregate-store-2
 slice-aggregate-store-2 c = search needs
 
 store-requires-2 : tie.Need-store-requires-2
 store-requires-2 c κs =
-    let a = c .before .before .before .before .before .before .before .before .before .before .before .before .before .before .before .before .before .before .before .before .before .before .before .before .before .args in
+    let at-if1 = c .before .before .before .before .before .before .before .before .before .before .before .before .before .before .before .before .before .before in
+    let a = at-if1 .before .before .before .before .before .before .before .args in
     let text = now (a .text) in
     let turns = now (a .turns) in
     let program = now (a .program) in
     let state = now (a .state) in
     let list = now (a .list) in
-    omega (arith, reach-room text turns program state list (c .before .before .before .before .before .before .before .before .before .before .before .before .before .before .before .before .before .before .before .early .ensures) (c .before .before .before .before .before .before .before .before .before .before .before .before .before .before .before .before .before .before .if1 .left) .1)
+    omega (arith, reach-room text turns program state list (at-if1 .before .early .ensures) (at-if1 .if1 .left) .1)
 
 enum-known-report-2 : tie.Need-enum-known-report-2
 enum-known-report-2 c = search needs
@@ -94,26 +98,28 @@ slice-aggregate-store-3 c = search needs
 
 store-requires-3 : tie.Need-store-requires-3
 store-requires-3 c κs =
-    let a = c .before .before .before .before .before .before .before .before .before .before .before .before .before .before .before .before .before .before .before .args in
+    let at-if1 = c .before .before .before .before .before .before .before .before .before .before .before .before in
+    let a = at-if1 .before .before .before .before .before .before .before .args in
     let text = now (a .text) in
     let turns = now (a .turns) in
     let program = now (a .program) in
     let state = now (a .state) in
     let list = now (a .list) in
-    omega (arith, reach-room text turns program state list (c .before .before .before .before .before .before .before .before .before .before .before .before .before .early .ensures) (c .before .before .before .before .before .before .before .before .before .before .before .before .if1 .left) .0)
+    omega (arith, reach-room text turns program state list (at-if1 .before .early .ensures) (at-if1 .if1 .left) .0)
 
 slice-aggregate-store-4 : tie.Need-slice-aggregate-store-4
 slice-aggregate-store-4 c = search needs
 
 store-requires-4 : tie.Need-store-requires-4
 store-requires-4 c κs =
-    let a = c .before .before .before .before .before .before .before .before .before .before .before .before .before .before .before .before .before .before .before .before .before .before .before .before .args in
+    let at-if1 = c .before .before .before .before .before .before .before .before .before .before .before .before .before .before .before .before .before in
+    let a = at-if1 .before .before .before .before .before .before .before .args in
     let text = now (a .text) in
     let turns = now (a .turns) in
     let program = now (a .program) in
     let state = now (a .state) in
     let list = now (a .list) in
-    omega (arith, reach-room text turns program state list (c .before .before .before .before .before .before .before .before .before .before .before .before .before .before .before .before .before .before .early .ensures) (c .before .before .before .before .before .before .before .before .before .before .before .before .before .before .before .before .before .if1 .left) .1)
+    omega (arith, reach-room text turns program state list (at-if1 .before .early .ensures) (at-if1 .if1 .left) .1)
 
 slice-aggregate-store-5 : tie.Need-slice-aggregate-store-5
 slice-aggregate-store-5 c = search needs
@@ -126,7 +132,12 @@ store-requires-5 c κs =
     let program = now (a .program) in
     let state = now (a .state) in
     let list = now (a .list) in
-    omega (arith, reach-room text turns program state list (c .before .before .before .before .before .before .before .before .before .before .before .before .before .before .before .before .before .before .before .before .before .before .before .early .ensures) (c .before .before .before .before .before .before .before .before .before .before .before .before .before .before .before .before .before .before .before .before .before .before .if1 .left) .2)
+    omega (
+      arith,
+      reach-room text turns program state list
+          (c .before .before .before .before .before .before .before .before .before .before .before .before .before .before .before .before .before .before .before .before .before .before .before .early .ensures)
+          (c .before .before .before .before .before .before .before .before .before .before .before .before .before .before .before .before .before .before .before .before .before .before .if1 .left) .2,
+    )
 
 same-length : tie.Need-same-length
 same-length c = search needs
@@ -136,7 +147,11 @@ same-length-2 c = search needs
 
 returns-3 : tie.Need-returns-3
 returns-3 c =
-    let a = c .before .before .before .before .before .before .before .before .before .before .before .before .before .before .before .before .before .before .before .before .before .before .before .before .before .before .before .before .args in
+    let at-store = c .before .before .before .before .before .before .before in
+    let at-if2 = at-store .before .before .before in
+    let at-reach = at-if2 .before .before .before .before .before .before .before in
+    let at-if1 = at-reach .before .before .before .before in
+    let a = at-if1 .before .before .before .before .before .before .before .args in
     let text = now (a .text) in
     let turns = now (a .turns) in
     let program = now (a .program) in
@@ -145,11 +160,12 @@ returns-3 c =
     let own : List ℕ = replicate 8192 0 in
     let long = length-replicate {A = ℕ} 8192 0 in
     let objects : List ℕ = replicate 256 0 in
-    let same = reach-same text turns program state list (c .before .before .before .before .before .before .before .before .before .before .before .before .before .before .before .before .before .before .before .before .before .before .early .ensures) own own objects long long (length-replicate {A = ℕ} 256 0) (c .before .before .before .before .before .before .before .before .before .before .before .before .before .before .before .before .before .before .before .before .before .if1 .left) in
+    let same = reach-same text turns program state list (at-if1 .before .early .ensures) own own objects long long (length-replicate {A = ℕ} 256 0) (at-if1 .if1 .left) in
     let C₀ = reachCall mosts text turns own own objects in
-    let reach = c .before .before .before .before .before .before .before .before .before .before .before .before .before .before .before .before .before .reach .ensures in
-    let told = C.as-told turns (a .thread) program state list objects _ C₀ (c .before .before .before .before .before .before .before .before .before .before .before .before .report .given .1) (reach .0) in
-    let x = C.reach-of-same same (C.reach-no-thread turns (a .thread) program state list objects _ own own long long C₀ (reach-at-most-9 text turns own own objects) (c .before .before .before .before .before .before .before .before .before .before .if2 .left) told (reach .1 .0) (reach .1 .1) (c .before .before .before .before .before .before .before .store .ensures) (c .before .before .store2 .ensures)) in
+    let reach = at-reach .reach .ensures in
+    let told = C.as-told turns (a .thread) program state list objects _ C₀ (at-if2 .before .before .report .given .1) (reach .0) in
+    let x = C.reach-of-same same (C.reach-no-thread turns (a .thread) program state list objects _ own own long long C₀ (reach-at-most-9 text turns own own objects) (at-if2 .if2 .left) told
+    (reach .1 .0) (reach .1 .1) (at-store .store .ensures) (c .before .before .store2 .ensures)) in
     (x .report, (x .program-is, x .state-is))
 
 same-length-3 : tie.Need-same-length-3
@@ -163,7 +179,12 @@ same-length-5 c = search needs
 
 returns-4 : tie.Need-returns-4
 returns-4 c =
-    let a = c .before .before .before .before .before .before .before .before .before .before .before .before .before .before .before .before .before .before .before .before .before .before .before .before .before .before .before .before .before .before .before .before .args in
+    let at-store4 = c .before .before .before .before .before .before .before in
+    let at-store3 = at-store4 .before .before .before .before .before in
+    let at-report2 = at-store3 .before .before .before .before in
+    let at-reach = at-report2 .before .before .before .before .before in
+    let at-if1 = at-reach .before .before .before .before in
+    let a = at-if1 .before .before .before .before .before .before .before .args in
     let text = now (a .text) in
     let turns = now (a .turns) in
     let program = now (a .program) in
@@ -172,11 +193,12 @@ returns-4 c =
     let own : List ℕ = replicate 8192 0 in
     let long = length-replicate {A = ℕ} 8192 0 in
     let objects : List ℕ = replicate 256 0 in
-    let same = reach-same text turns program state list (c .before .before .before .before .before .before .before .before .before .before .before .before .before .before .before .before .before .before .before .before .before .before .before .before .before .before .early .ensures) own own objects long long (length-replicate {A = ℕ} 256 0) (c .before .before .before .before .before .before .before .before .before .before .before .before .before .before .before .before .before .before .before .before .before .before .before .before .before .if1 .left) in
+    let same = reach-same text turns program state list (at-if1 .before .early .ensures) own own objects long long (length-replicate {A = ℕ} 256 0) (at-if1 .if1 .left) in
     let C₀ = reachCall mosts text turns own own objects in
-    let reach = c .before .before .before .before .before .before .before .before .before .before .before .before .before .before .before .before .before .before .before .before .before .reach .ensures in
-    let told = C.as-told turns (a .thread) program state list objects _ C₀ (c .before .before .before .before .before .before .before .before .before .before .before .before .before .before .before .before .report2 .given .1) (reach .0) in
-    let x = C.reach-of-same same (C.reach-done turns (a .thread) program state list objects _ own own long long C₀ (length-replicate {A = ℕ} 256 0) told (reach .1 .0) (reach .1 .1) (c .before .before .before .before .before .before .before .before .before .before .before .before .store3 .ensures) (c .before .before .before .before .before .before .before .store4 .ensures) (c .before .before .store5 .ensures)) in
+    let reach = at-reach .reach .ensures in
+    let told = C.as-told turns (a .thread) program state list objects _ C₀ (at-report2 .report2 .given .1) (reach .0) in
+    let x = C.reach-of-same same (C.reach-done turns (a .thread) program state list objects _ own own long long C₀ (length-replicate {A = ℕ} 256 0) told (reach .1 .0) (reach .1 .1)
+    (at-store3 .store3 .ensures) (at-store4 .store4 .ensures) (c .before .before .store5 .ensures)) in
     (x .report, (x .program-is, x .state-is))
 
 pub box-reach-spec : {M : Type 1} → statement M

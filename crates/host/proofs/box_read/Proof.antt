@@ -40,7 +40,11 @@ slice-aggregate-store c = search needs
 store-requires : tie.Need-store-requires
 store-requires c κs =
     let a = c .before .before .before .before .before .before .before .before .before .before .before .args in
-    omega (arith, read-room (now (a .text)) (now (a .program)) (c .before .before .before .before .before .before .before .before .early .ensures) (c .before .before .before .before .before .before .before .if1 .left))
+    omega (
+      arith,
+      read-room (now (a .text)) (now (a .program)) (c .before .before .before .before .before .before .before .before .early .ensures)
+          (c .before .before .before .before .before .before .before .if1 .left),
+    )
 
 returns-2 : tie.Need-returns-2
 returns-2 c =
@@ -58,13 +62,17 @@ same-length c = search needs
 
 returns-3 : tie.Need-returns-3
 returns-3 c =
-    let a = c .before .before .before .before .before .before .before .before .before .before .before .before .before .before .args in
+    let at-enum-told = c .before .before .before .before .before in
+    let at-read = at-enum-told .before .before .before in
+    let at-early = at-read .before .before .before in
+    let a = at-early .before .before .before .args in
     let text = now (a .text) in
     let program = now (a .program) in
     let own : List ℕ = replicate 8192 0 in
     let long = length-replicate {A = ℕ} 8192 0 in
-    let same = read-same text program (c .before .before .before .before .before .before .before .before .before .before .before .early .ensures) own long (c .before .before .before .before .before .before .before .before .before .before .if1 .left) in
-    let x = C.read-of-same same (C.read-done _ own program long (sym (c .before .before .before .before .before .enum-told .given .1) ∙ c .before .before .before .before .before .before .before .before .read .ensures .0) (c .before .before .before .before .before .before .before .before .read .ensures .1) (c .before .before .store .ensures)) in
+    let same = read-same text program (at-early .early .ensures) own long (at-read .before .before .if1 .left) in
+    let x = C.read-of-same same (C.read-done _ own program long (sym (at-enum-told .enum-told .given .1) ∙ at-read .read .ensures .0) (at-read .read .ensures .1)
+    (c .before .before .store .ensures)) in
     (x .number-is, (x .line-is, x .program-is))
 
 pub box-read-spec : {M : Type 1} → statement M

@@ -30,8 +30,13 @@ same-length-3 c = search needs
 
 returns-2 : tie.Need-returns-2
 returns-2 c =
-    let a = c .before .before .before .before .before .before .before .before .before .before .before .before .before .before .before .before .before .before .before .args in
-    let x = prints-refusal (now (a .text)) (now (a .turns)) (now (a .program)) (now (a .state)) (c .before .before .before .before .before .before .before .before .before .before .before .before .before .before .before .before .before .before .before .pre .0) (c .before .before .before .before .before .before .before .before .before .before .before .before .before .before .before .before .before .before .before .pre .1) (c .before .before .before .before .before .before .before .before .before .before .run .ensures .0) (c .before .before .before .before .before .before .before .before .before .before .before .before .before .if1 .left) (c .before .before .before .before .put-answer .ensures) (sym (c .before .is-refusal .ensures) ∙ c .if2 .taken) in
+    let at-put-answer = c .before .before .before .before in
+    let at-run = at-put-answer .before .before .before .before .before .before in
+    let at-if1 = at-run .before .before .before in
+    let at-args = at-if1 .before .before .before .before .before .before in
+    let a = at-args .args in
+    let x = prints-refusal (now (a .text)) (now (a .turns)) (now (a .program)) (now (a .state)) (at-args .pre .0) (at-args .pre .1) (at-run .run .ensures .0) (at-if1 .if1 .left)
+    (at-put-answer .put-answer .ensures) (sym (c .before .is-refusal .ensures) ∙ c .if2 .taken) in
     (x .answers, x .leaves)
 
 put-state-requires : tie.Need-put-state-requires
@@ -48,9 +53,15 @@ same-length-6 c = search needs
 
 returns-3 : tie.Need-returns-3
 returns-3 c =
-    let a = c .before .before .before .before .before .before .before .before .before .before .before .before .before .before .before .before .before .before .before .before .before .before .before .before .args in
-    let x = prints-run (now (a .text)) (now (a .turns)) (now (a .program)) (now (a .state)) (c .before .before .before .before .before .before .before .before .before .before .before .before .before .before .before .before .before .before .before .before .before .before .before .before .pre .0) (c .before .before .before .before .before .before .before .before .before .before .before .before .before .before .before .before .before .before .before .before .before .before .before .before .pre .1) (c .before .before .before .before .before .before .before .before .before .before .before .before .before .before .before .run .ensures .0) (c .before .before .before .before .before .before .before .before .before .before .before .before .before .before .before .before .before .before .if1 .left) (c .before .before .before .before .before .before .before .before .before .put-answer .ensures)
-    (c .before .before .before .before .before .before .before .before .before .before .before .before .before .before .before .run .ensures .1 .1 .0) (sym (c .before .before .before .before .before .before .is-refusal .ensures) ∙ c .before .before .before .before .before .if2 .left) (c .before .before .put-state .ensures) in
+    let at-if2 = c .before .before .before .before .before in
+    let at-put-answer = at-if2 .before .before .before .before in
+    let at-run = at-put-answer .before .before .before .before .before .before in
+    let at-if1 = at-run .before .before .before in
+    let at-args = at-if1 .before .before .before .before .before .before in
+    let a = at-args .args in
+    let x = prints-run (now (a .text)) (now (a .turns)) (now (a .program)) (now (a .state)) (at-args .pre .0) (at-args .pre .1) (at-run .run .ensures .0) (at-if1 .if1 .left)
+    (at-put-answer .put-answer .ensures)
+    (at-run .run .ensures .1 .1 .0) (sym (at-if2 .before .is-refusal .ensures) ∙ at-if2 .if2 .left) (c .before .before .put-state .ensures) in
     (x .answers, x .leaves)
 
 pub print-on-spec : {M : Type 1} → statement M

@@ -8,19 +8,22 @@ use Rattle.reach.proofs.reach.Tie as tie
 returns : tie.Need-returns
 returns c =
     let a = c .before .before .before .before .before .before .args in
-    let x = turned-away (now (a .turns)) (a .t) (now (a .program)) (now (a .state)) (now (a .list)) (text-long (now (a .text)) (now (a .turns)) (now (a .program)) (now (a .state)) (now (a .list)) (c .if1 .taken)) in
+    let x = turned-away (now (a .turns)) (a .t) (now (a .program)) (now (a .state)) (now (a .list))
+    (text-long (now (a .text)) (now (a .turns)) (now (a .program)) (now (a .state)) (now (a .list)) (c .if1 .taken)) in
     (x .report, (x .program-is, x .state-is))
 
 returns-2 : tie.Need-returns-2
 returns-2 c =
     let a = c .before .before .before .before .before .before .before .args in
-    let x = turned-away (now (a .turns)) (a .t) (now (a .program)) (now (a .state)) (now (a .list)) (turns-long (now (a .text)) (now (a .turns)) (now (a .program)) (now (a .state)) (now (a .list)) (c .before .if1 .left) (c .if2 .taken)) in
+    let x = turned-away (now (a .turns)) (a .t) (now (a .program)) (now (a .state)) (now (a .list))
+    (turns-long (now (a .text)) (now (a .turns)) (now (a .program)) (now (a .state)) (now (a .list)) (c .before .if1 .left) (c .if2 .taken)) in
     (x .report, (x .program-is, x .state-is))
 
 returns-3 : tie.Need-returns-3
 returns-3 c =
     let a = c .before .before .before .before .before .before .before .before .args in
-    let x = turned-away (now (a .turns)) (a .t) (now (a .program)) (now (a .state)) (now (a .list)) (list-short (now (a .text)) (now (a .turns)) (now (a .program)) (now (a .state)) (now (a .list)) (c .before .before .if1 .left) (c .before .if2 .left) (c .if3 .taken)) in
+    let x = turned-away (now (a .turns)) (a .t) (now (a .program)) (now (a .state)) (now (a .list))
+    (list-short (now (a .text)) (now (a .turns)) (now (a .program)) (now (a .state)) (now (a .list)) (c .before .before .if1 .left) (c .before .if2 .left) (c .if3 .taken)) in
     (x .report, (x .program-is, x .state-is))
 
 run-requires : tie.Need-run-requires
@@ -34,36 +37,44 @@ enum-told c = search needs
 
 report-state-requires : tie.Need-report-state-requires
 report-state-requires c κs =
-    let a = c .before .before .before .before .before .before .before .before .before .before .before .before .before .before .before .before .before .before .before .args in
-    let run = c .before .before .before .before .before .before .before .before .run in
-    (words-there (now (a .text)) (now (a .turns)) (now (a .program)) (now (a .state)) (run .ensures .0) (run .ensures .1 .1 .0) (c .before .before .enum-told .given .1) tt, c .before .before .before .before .before .before .before .before .before .before .before .if3 .left)
+    let at-run = c .before .before .before .before .before .before .before .before in
+    let at-if3 = at-run .before .before .before in
+    let a = at-if3 .before .before .before .before .before .before .before .before .args in
+    let run = at-run .run in
+    (words-there (now (a .text)) (now (a .turns)) (now (a .program)) (now (a .state)) (run .ensures .0) (run .ensures .1 .1 .0) (c .before .before .enum-told .given .1) tt, at-if3 .if3 .left)
 
 enum-told-2 : tie.Need-enum-told-2
 enum-told-2 c = search needs
 
 report-state-requires-2 : tie.Need-report-state-requires-2
 report-state-requires-2 c κs =
-    let a = c .before .before .before .before .before .before .before .before .before .before .before .before .before .before .before .before .before .before .before .args in
-    let run = c .before .before .before .before .before .before .before .before .run in
-    (words-there (now (a .text)) (now (a .turns)) (now (a .program)) (now (a .state)) (run .ensures .0) (run .ensures .1 .1 .0) (c .before .before .enum-told2 .given .1) tt, c .before .before .before .before .before .before .before .before .before .before .before .if3 .left)
+    let at-run = c .before .before .before .before .before .before .before .before in
+    let at-if3 = at-run .before .before .before in
+    let a = at-if3 .before .before .before .before .before .before .before .before .args in
+    let run = at-run .run in
+    (words-there (now (a .text)) (now (a .turns)) (now (a .program)) (now (a .state)) (run .ensures .0) (run .ensures .1 .1 .0) (c .before .before .enum-told2 .given .1) tt, at-if3 .if3 .left)
 
 enum-told-3 : tie.Need-enum-told-3
 enum-told-3 c = search needs
 
 report-state-requires-3 : tie.Need-report-state-requires-3
 report-state-requires-3 c κs =
-    let a = c .before .before .before .before .before .before .before .before .before .before .before .before .before .before .before .before .before .before .before .args in
-    let run = c .before .before .before .before .before .before .before .before .run in
-    (words-there (now (a .text)) (now (a .turns)) (now (a .program)) (now (a .state)) (run .ensures .0) (run .ensures .1 .1 .0) (c .before .before .enum-told3 .given .1) tt, c .before .before .before .before .before .before .before .before .before .before .before .if3 .left)
+    let at-run = c .before .before .before .before .before .before .before .before in
+    let at-if3 = at-run .before .before .before in
+    let a = at-if3 .before .before .before .before .before .before .before .before .args in
+    let run = at-run .run in
+    (words-there (now (a .text)) (now (a .turns)) (now (a .program)) (now (a .state)) (run .ensures .0) (run .ensures .1 .1 .0) (c .before .before .enum-told3 .given .1) tt, at-if3 .if3 .left)
 
 enum-told-4 : tie.Need-enum-told-4
 enum-told-4 c = search needs
 
 report-state-requires-4 : tie.Need-report-state-requires-4
 report-state-requires-4 c κs =
-    let a = c .before .before .before .before .before .before .before .before .before .before .before .before .before .before .before .before .before .before .before .args in
-    let run = c .before .before .before .before .before .before .before .before .run in
-    (words-there (now (a .text)) (now (a .turns)) (now (a .program)) (now (a .state)) (run .ensures .0) (run .ensures .1 .1 .0) (c .before .before .enum-told4 .given .1) tt, c .before .before .before .before .before .before .before .before .before .before .before .if3 .left)
+    let at-run = c .before .before .before .before .before .before .before .before in
+    let at-if3 = at-run .before .before .before in
+    let a = at-if3 .before .before .before .before .before .before .before .before .args in
+    let run = at-run .run in
+    (words-there (now (a .text)) (now (a .turns)) (now (a .program)) (now (a .state)) (run .ensures .0) (run .ensures .1 .1 .0) (c .before .before .enum-told4 .given .1) tt, at-if3 .if3 .left)
 
 same-length : tie.Need-same-length
 same-length c = search needs
@@ -73,9 +84,12 @@ same-length-2 c = search needs
 
 returns-4 : tie.Need-returns-4
 returns-4 c =
-    let a = c .before .before .before .before .before .before .before .before .before .before .before .before .before .before .before .before .before .before .args in
-    let run = c .before .before .before .before .before .before .before .run in
-    let x = of-same (as-run (now (a .text)) (now (a .turns)) (now (a .program)) (now (a .state)) (now (a .list)) (c .before .before .before .before .before .before .before .before .before .before .if3 .left)) (turned-away-by-run _ (now (a .turns)) (a .t) (now (a .program)) (now (a .state)) (now (a .list)) (run .ensures .0) (run .ensures .1 .0) (run .ensures .1 .1 .0) (c .before .answer .given .1)) in
+    let at-run = c .before .before .before .before .before .before .before in
+    let at-if3 = at-run .before .before .before in
+    let a = at-if3 .before .before .before .before .before .before .before .before .args in
+    let run = at-run .run in
+    let x = of-same (as-run (now (a .text)) (now (a .turns)) (now (a .program)) (now (a .state)) (now (a .list)) (at-if3 .if3 .left))
+    (turned-away-by-run _ (now (a .turns)) (a .t) (now (a .program)) (now (a .state)) (now (a .list)) (run .ensures .0) (run .ensures .1 .0) (run .ensures .1 .1 .0) (c .before .answer .given .1)) in
     (x .report, (x .program-is, x .state-is))
 
 same-length-3 : tie.Need-same-length-3
@@ -89,10 +103,14 @@ same-length-5 c = search needs
 
 returns-5 : tie.Need-returns-5
 returns-5 c =
-    let a = c .before .before .before .before .before .before .before .before .before .before .before .before .before .before .before .before .before .before .before .before .before .before .args in
-    let run = c .before .before .before .before .before .before .before .before .before .before .before .run in
-    let x = of-same (as-run (now (a .text)) (now (a .turns)) (now (a .program)) (now (a .state)) (now (a .list)) (c .before .before .before .before .before .before .before .before .before .before .before .before .before .before .if3 .left))
-    (told (now (a .text)) (now (a .turns)) (now (a .program)) (now (a .state)) (run .ensures .0) (run .ensures .1 .1 .0) (c .before .before .before .before .before .enum-told .given .1) tt (c .before .before .before .before .before .before .before .before .before .before .before .before .before .before .before .if2 .left) (run .ensures .1 .0) (c .before .before .report-state .ensures)) in
+    let at-enum-told = c .before .before .before .before .before in
+    let at-run = at-enum-told .before .before .before .before .before .before in
+    let at-if3 = at-run .before .before .before in
+    let a = at-if3 .before .before .before .before .before .before .before .before .args in
+    let run = at-run .run in
+    let x = of-same (as-run (now (a .text)) (now (a .turns)) (now (a .program)) (now (a .state)) (now (a .list)) (at-if3 .if3 .left))
+    (told (now (a .text)) (now (a .turns)) (now (a .program)) (now (a .state)) (run .ensures .0) (run .ensures .1 .1 .0) (at-enum-told .enum-told .given .1) tt (at-if3 .before .if2 .left)
+    (run .ensures .1 .0) (c .before .before .report-state .ensures)) in
     (x .report, (x .program-is, x .state-is))
 
 same-length-6 : tie.Need-same-length-6
@@ -106,10 +124,14 @@ same-length-8 c = search needs
 
 returns-6 : tie.Need-returns-6
 returns-6 c =
-    let a = c .before .before .before .before .before .before .before .before .before .before .before .before .before .before .before .before .before .before .before .before .before .before .args in
-    let run = c .before .before .before .before .before .before .before .before .before .before .before .run in
-    let x = of-same (as-run (now (a .text)) (now (a .turns)) (now (a .program)) (now (a .state)) (now (a .list)) (c .before .before .before .before .before .before .before .before .before .before .before .before .before .before .if3 .left))
-    (told (now (a .text)) (now (a .turns)) (now (a .program)) (now (a .state)) (run .ensures .0) (run .ensures .1 .1 .0) (c .before .before .before .before .before .enum-told2 .given .1) tt (c .before .before .before .before .before .before .before .before .before .before .before .before .before .before .before .if2 .left) (run .ensures .1 .0) (c .before .before .report-state2 .ensures)) in
+    let at-enum-told2 = c .before .before .before .before .before in
+    let at-run = at-enum-told2 .before .before .before .before .before .before in
+    let at-if3 = at-run .before .before .before in
+    let a = at-if3 .before .before .before .before .before .before .before .before .args in
+    let run = at-run .run in
+    let x = of-same (as-run (now (a .text)) (now (a .turns)) (now (a .program)) (now (a .state)) (now (a .list)) (at-if3 .if3 .left))
+    (told (now (a .text)) (now (a .turns)) (now (a .program)) (now (a .state)) (run .ensures .0) (run .ensures .1 .1 .0) (at-enum-told2 .enum-told2 .given .1) tt (at-if3 .before .if2 .left)
+    (run .ensures .1 .0) (c .before .before .report-state2 .ensures)) in
     (x .report, (x .program-is, x .state-is))
 
 same-length-9 : tie.Need-same-length-9
@@ -123,10 +145,14 @@ same-length-11 c = search needs
 
 returns-7 : tie.Need-returns-7
 returns-7 c =
-    let a = c .before .before .before .before .before .before .before .before .before .before .before .before .before .before .before .before .before .before .before .before .before .before .args in
-    let run = c .before .before .before .before .before .before .before .before .before .before .before .run in
-    let x = of-same (as-run (now (a .text)) (now (a .turns)) (now (a .program)) (now (a .state)) (now (a .list)) (c .before .before .before .before .before .before .before .before .before .before .before .before .before .before .if3 .left))
-    (told (now (a .text)) (now (a .turns)) (now (a .program)) (now (a .state)) (run .ensures .0) (run .ensures .1 .1 .0) (c .before .before .before .before .before .enum-told3 .given .1) tt (c .before .before .before .before .before .before .before .before .before .before .before .before .before .before .before .if2 .left) (run .ensures .1 .0) (c .before .before .report-state3 .ensures)) in
+    let at-enum-told3 = c .before .before .before .before .before in
+    let at-run = at-enum-told3 .before .before .before .before .before .before in
+    let at-if3 = at-run .before .before .before in
+    let a = at-if3 .before .before .before .before .before .before .before .before .args in
+    let run = at-run .run in
+    let x = of-same (as-run (now (a .text)) (now (a .turns)) (now (a .program)) (now (a .state)) (now (a .list)) (at-if3 .if3 .left))
+    (told (now (a .text)) (now (a .turns)) (now (a .program)) (now (a .state)) (run .ensures .0) (run .ensures .1 .1 .0) (at-enum-told3 .enum-told3 .given .1) tt (at-if3 .before .if2 .left)
+    (run .ensures .1 .0) (c .before .before .report-state3 .ensures)) in
     (x .report, (x .program-is, x .state-is))
 
 same-length-12 : tie.Need-same-length-12
@@ -140,10 +166,14 @@ same-length-14 c = search needs
 
 returns-8 : tie.Need-returns-8
 returns-8 c =
-    let a = c .before .before .before .before .before .before .before .before .before .before .before .before .before .before .before .before .before .before .before .before .before .before .args in
-    let run = c .before .before .before .before .before .before .before .before .before .before .before .run in
-    let x = of-same (as-run (now (a .text)) (now (a .turns)) (now (a .program)) (now (a .state)) (now (a .list)) (c .before .before .before .before .before .before .before .before .before .before .before .before .before .before .if3 .left))
-    (told (now (a .text)) (now (a .turns)) (now (a .program)) (now (a .state)) (run .ensures .0) (run .ensures .1 .1 .0) (c .before .before .before .before .before .enum-told4 .given .1) tt (c .before .before .before .before .before .before .before .before .before .before .before .before .before .before .before .if2 .left) (run .ensures .1 .0) (c .before .before .report-state4 .ensures)) in
+    let at-enum-told4 = c .before .before .before .before .before in
+    let at-run = at-enum-told4 .before .before .before .before .before .before in
+    let at-if3 = at-run .before .before .before in
+    let a = at-if3 .before .before .before .before .before .before .before .before .args in
+    let run = at-run .run in
+    let x = of-same (as-run (now (a .text)) (now (a .turns)) (now (a .program)) (now (a .state)) (now (a .list)) (at-if3 .if3 .left))
+    (told (now (a .text)) (now (a .turns)) (now (a .program)) (now (a .state)) (run .ensures .0) (run .ensures .1 .1 .0) (at-enum-told4 .enum-told4 .given .1) tt (at-if3 .before .if2 .left)
+    (run .ensures .1 .0) (c .before .before .report-state4 .ensures)) in
     (x .report, (x .program-is, x .state-is))
 
 pub reach-spec : {M : Type 1} → statement M

@@ -30,7 +30,9 @@ same-length c = search needs
 
 returns-2 : tie.Need-returns-2
 returns-2 c =
-    reported (c .before .before .before .before .before .before .before .before .before .thread-count .ensures .1) (c .before .before .before .before .before .before .before .before .if1 .left) (c .before .before .before .before .before .before .walk-thread .ensures) (c .before .before .list-marked .ensures)
+    let at-walk-thread = c .before .before .before .before .before .before in
+    let at-thread-count = at-walk-thread .before .before .before in
+    reported (at-thread-count .thread-count .ensures .1) (at-walk-thread .before .before .if1 .left) (at-walk-thread .walk-thread .ensures) (c .before .before .list-marked .ensures)
 
 pub report-state-spec : {M : Type 1} → statement M
 report-state-spec =

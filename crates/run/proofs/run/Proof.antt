@@ -15,13 +15,15 @@ returns c =
 returns-2 : tie.Need-returns-2
 returns-2 c =
     let a = c .before .before .before .before .before .before .args in
-    let x = turned-away _ (now (a .turns)) (now (a .program)) (now (a .state)) (turns-long (now (a .text)) (now (a .turns)) (now (a .program)) (now (a .state)) (c .before .if1 .left) (c .if2 .taken)) in
+    let x = turned-away _ (now (a .turns)) (now (a .program)) (now (a .state))
+    (turns-long (now (a .text)) (now (a .turns)) (now (a .program)) (now (a .state)) (c .before .if1 .left) (c .if2 .taken)) in
     (x .answers, (x .program-is, (x .state-is, x .demand-3)))
 
 returns-3 : tie.Need-returns-3
 returns-3 c =
     let a = c .before .before .before .before .before .before .before .args in
-    let x = turned-away _ (now (a .turns)) (now (a .program)) (now (a .state)) (state-short (now (a .text)) (now (a .turns)) (now (a .program)) (now (a .state)) (c .before .before .if1 .left) (c .before .if2 .left) (c .if3 .taken)) in
+    let x = turned-away _ (now (a .turns)) (now (a .program)) (now (a .state))
+    (state-short (now (a .text)) (now (a .turns)) (now (a .program)) (now (a .state)) (c .before .before .if1 .left) (c .before .if2 .left) (c .if3 .taken)) in
     (x .answers, (x .program-is, (x .state-is, x .demand-3)))
 
 read-requires : tie.Need-read-requires
@@ -35,17 +37,24 @@ enum-told c = search needs
 
 run-program-requires : tie.Need-run-program-requires
 run-program-requires c κs =
-    let a = c .before .before .before .before .before .before .before .before .before .before .before .before .before .before .before .args in
-    (words-there (now (a .text)) (now (a .turns)) (now (a .program)) (now (a .state)) (sym (c .before .before .enum-told .given .1) ∙ c .before .before .before .before .before .before .read .ensures .0) (c .before .before .before .before .before .before .read .ensures .1), c .before .before .before .before .before .before .before .before .if3 .left, c .before .before .before .before .before .before .before .before .before .if2 .left)
+    let at-read = c .before .before .before .before .before .before in
+    let at-if2 = at-read .before .before .before in
+    let a = at-if2 .before .before .before .before .before .before .args in (
+      words-there (now (a .text)) (now (a .turns)) (now (a .program)) (now (a .state)) (sym (c .before .before .enum-told .given .1) ∙ at-read .read .ensures .0) (at-read .read .ensures .1),
+      at-read .before .before .if3 .left,
+      at-if2 .if2 .left,
+    )
 
 same-length : tie.Need-same-length
 same-length c = search needs
 
 returns-4 : tie.Need-returns-4
 returns-4 c =
-    let a = c .before .before .before .before .before .before .before .before .before .before .before .before .before .before .args in
-    let same = as-read (now (a .text)) (now (a .turns)) (now (a .program)) (now (a .state)) (c .before .before .before .before .before .before .before .before .before .if1 .left) (c .before .before .before .before .before .before .before .before .if2 .left) (c .before .before .before .before .before .before .before .if3 .left) in
-    let x = of-same same (turned-away-by-reader _ (now (a .turns)) (now (a .program)) (now (a .state)) (sym (c .before .read2 .given .1) ∙ c .before .before .before .before .before .read .ensures .0) (c .before .before .before .before .before .read .ensures .1)) in
+    let at-read = c .before .before .before .before .before in
+    let at-if2 = at-read .before .before .before in
+    let a = at-if2 .before .before .before .before .before .before .args in
+    let same = as-read (now (a .text)) (now (a .turns)) (now (a .program)) (now (a .state)) (at-if2 .before .if1 .left) (at-if2 .if2 .left) (at-read .before .before .if3 .left) in
+    let x = of-same same (turned-away-by-reader _ (now (a .turns)) (now (a .program)) (now (a .state)) (sym (c .before .read2 .given .1) ∙ at-read .read .ensures .0) (at-read .read .ensures .1)) in
     (x .answers, (x .program-is, (x .state-is, x .demand-3)))
 
 same-length-2 : tie.Need-same-length-2
@@ -56,9 +65,13 @@ same-length-3 c = search needs
 
 returns-5 : tie.Need-returns-5
 returns-5 c =
-    let a = c .before .before .before .before .before .before .before .before .before .before .before .before .before .before .before .before .before .before .args in
-    let same = as-read (now (a .text)) (now (a .turns)) (now (a .program)) (now (a .state)) (c .before .before .before .before .before .before .before .before .before .before .before .before .before .if1 .left) (c .before .before .before .before .before .before .before .before .before .before .before .before .if2 .left) (c .before .before .before .before .before .before .before .before .before .before .before .if3 .left) in
-    let x = of-same same (ran (now (a .text)) (now (a .turns)) (now (a .program)) (now (a .state)) (sym (c .before .before .before .before .before .enum-told .given .1) ∙ c .before .before .before .before .before .before .before .before .before .read .ensures .0) (c .before .before .before .before .before .before .before .before .before .read .ensures .1) (c .before .before .run-program .ensures)) in
+    let at-enum-told = c .before .before .before .before .before in
+    let at-read = at-enum-told .before .before .before .before in
+    let at-if2 = at-read .before .before .before in
+    let a = at-if2 .before .before .before .before .before .before .args in
+    let same = as-read (now (a .text)) (now (a .turns)) (now (a .program)) (now (a .state)) (at-if2 .before .if1 .left) (at-if2 .if2 .left) (at-read .before .before .if3 .left) in
+    let x = of-same same (ran (now (a .text)) (now (a .turns)) (now (a .program)) (now (a .state)) (sym (at-enum-told .enum-told .given .1) ∙ at-read .read .ensures .0)
+    (at-read .read .ensures .1) (c .before .before .run-program .ensures)) in
     (x .answers, (x .program-is, (x .state-is, x .demand-3)))
 
 pub run-spec : {M : Type 1} → statement M

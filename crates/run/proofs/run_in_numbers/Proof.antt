@@ -1,6 +1,6 @@
 -- `run::run_in_numbers` meets its contract: the answer of `run` by its numbers; both tables are as `run` leaves them.
 use mathlib.Core.Path.{sym, _∙_}
-use Rattle.run.proofs.Answering.{tells-finished, tells-stuck, tells-open, tells-stopped, tells-refused}
+use Rattle.run.proofs.Answering.{tells-answer}
 use borrow.Author.Needs.{needs}
 use Rattle.run.proofs.run_in_numbers.Statement.{statement}
 use Rattle.run.proofs.run_in_numbers.Tie as tie
@@ -59,7 +59,7 @@ same-length-2 c = search needs
 returns : tie.Need-returns
 returns c =
     let ran = c .before .before .before .before .before .before .before .run .ensures in
-    (tells-finished _ (sym (c .before .answer .given .1) ∙ ran .0), (ran .1 .0, ran .1 .1 .0))
+    (tells-answer _ (sym (c .before .answer .given .1) ∙ ran .0), (ran .1 .0, ran .1 .1 .0))
 
 same-length-3 : tie.Need-same-length-3
 same-length-3 c = search needs
@@ -70,7 +70,7 @@ same-length-4 c = search needs
 returns-2 : tie.Need-returns-2
 returns-2 c =
     let ran = c .before .before .before .before .before .before .before .run .ensures in
-    (tells-stuck _ (sym (c .before .answer2 .given .1) ∙ ran .0), (ran .1 .0, ran .1 .1 .0))
+    (tells-answer _ (sym (c .before .answer2 .given .1) ∙ ran .0), (ran .1 .0, ran .1 .1 .0))
 
 same-length-5 : tie.Need-same-length-5
 same-length-5 c = search needs
@@ -81,7 +81,7 @@ same-length-6 c = search needs
 returns-3 : tie.Need-returns-3
 returns-3 c =
     let ran = c .before .before .before .before .before .before .before .run .ensures in
-    (tells-open _ (sym (c .before .answer3 .given .1) ∙ ran .0), (ran .1 .0, ran .1 .1 .0))
+    (tells-answer _ (sym (c .before .answer3 .given .1) ∙ ran .0), (ran .1 .0, ran .1 .1 .0))
 
 same-length-7 : tie.Need-same-length-7
 same-length-7 c = search needs
@@ -92,7 +92,7 @@ same-length-8 c = search needs
 returns-4 : tie.Need-returns-4
 returns-4 c =
     let ran = c .before .before .before .before .before .before .before .run .ensures in
-    (tells-stopped _ (sym (c .before .answer4 .given .1) ∙ ran .0), (ran .1 .0, ran .1 .1 .0))
+    (tells-answer _ (sym (c .before .answer4 .given .1) ∙ ran .0), (ran .1 .0, ran .1 .1 .0))
 
 same-length-9 : tie.Need-same-length-9
 same-length-9 c = search needs
@@ -103,7 +103,7 @@ same-length-10 c = search needs
 returns-5 : tie.Need-returns-5
 returns-5 c =
     let ran = c .before .before .before .before .before .before .before .run .ensures in
-    (tells-refused _ (sym (c .before .answer5 .given .1) ∙ ran .0), (ran .1 .0, ran .1 .1 .0))
+    (tells-answer _ (sym (c .before .answer5 .given .1) ∙ ran .0), (ran .1 .0, ran .1 .1 .0))
 
 pub run-in-numbers-spec : {M : Type 1} → statement M
 run-in-numbers-spec =

@@ -3,9 +3,10 @@ use mathlib.Core.Path.{sym, _∙_}
 use Rattle.rules.specs.Lists.{all}
 use Rattle.rules.specs.Text.{bytes}
 use Rattle.rules.specs.Tables.{operandOf}
+use Rattle.rules.proofs.TableWords.{slot-of-word}
 use Rattle.grammar.specs.Words.{plain}
 use Rattle.grammar.proofs.Told.{after, last, an-operand}
-use Rattle.grammar.proofs.OperandWords.{operand-word, operand-slot, operand-first}
+use Rattle.grammar.proofs.OperandWords.{operand-word, operand-first}
 use Rattle.grammar.proofs.Telling.{short-row}
 use borrow.Author.Needs.{needs}
 use Rattle.grammar.proofs.forms.operand_rest.Statement.{statement}
@@ -51,8 +52,8 @@ returns c =
           (an-operand (operand .operand-at .result) (operand .operand-at .ensures .0) (last (bytes ")\n") (closed .begins-at .ensures)))
           (short .ensures .0 .0 ∙ rw (c .before .before .before .before .both2 .ensures, c .before .before .before .before .before .both .ensures)) (short .ensures .1 .3);
       words = rw (operand-word x) (short-row (short .result) (short .ensures .0));
-      over = rw (operand-slot x) (c .before .over .ensures);
-      need = rw (operand-slot x);
+      over = rw (slot-of-word x) (c .before .over .ensures);
+      need = rw (slot-of-word x);
       own = sym (operand-first x);
     }
 

@@ -4,9 +4,10 @@ use mathlib.Core.Path.{sym, _∙_}
 use Rattle.rules.specs.Lists.{all}
 use Rattle.rules.specs.Text.{bytes}
 use Rattle.rules.specs.Tables.{operandOf}
+use Rattle.rules.proofs.TableWords.{slot-of-word}
 use Rattle.grammar.specs.Words.{plain}
 use Rattle.grammar.proofs.Told.{after, word, last, a-number, an-operand}
-use Rattle.grammar.proofs.OperandWords.{operand-word, operand-slot, operand-first}
+use Rattle.grammar.proofs.OperandWords.{operand-word, operand-first}
 use Rattle.grammar.proofs.Telling.{short-row}
 use borrow.Author.Needs.{needs}
 use Rattle.grammar.proofs.forms.place_rest.Statement.{statement}
@@ -116,8 +117,8 @@ returns c =
           (an-operand (operand .operand-at .result) (operand .operand-at .ensures .0) (last (bytes "))\n") (closed .begins-at3 .ensures)))))))
           (short .ensures .0 .0 ∙ rw (oks .both6 .ensures, oks .before .both5 .ensures, oks .before .before .both4 .ensures, oks .before .before .before .both3 .ensures, oks .before .before .before .before .both2 .ensures, oks .before .before .before .before .before .both .ensures)) (short .ensures .1 .3);
       words = rw (operand-word x) (short-row (short .result) (short .ensures .0));
-      over = rw (over .either2 .ensures, over .before .over3 .ensures, over .before .before .either .ensures, over .before .before .before .over2 .ensures, over .before .before .before .before .over .ensures, operand-slot x);
-      need = rw (operand-slot x) (c .before .most .ensures);
+      over = rw (over .either2 .ensures, over .before .over3 .ensures, over .before .before .either .ensures, over .before .before .before .over2 .ensures, over .before .before .before .before .over .ensures, slot-of-word x);
+      need = rw (slot-of-word x) (c .before .most .ensures);
       own = sym (operand-first x);
     }
 

@@ -12,11 +12,12 @@ use Rattle.rules.specs.Script.{Operand}
 use Rattle.rules.specs.Templates.{operand}
 use Rattle.rules.specs.Tables.{operandItem, operandOf}
 use Rattle.rules.specs.Reading.{slotOf, takesFirst}
+use Rattle.rules.proofs.TableWords.{slot-of-word}
 use Rattle.grammar.specs.declared.parts.Items.{Items}
 use Rattle.grammar.specs.Items.{Listed, past}
 use Rattle.grammar.proofs.Many.{ReadTo, read-none, read-inside, read-more, read-all, operand-shortens}
 use Rattle.grammar.proofs.ItemLists.{any-more, past-more, listed-more}
-use Rattle.grammar.proofs.OperandWords.{operand-item, operand-slot, operand-first}
+use Rattle.grammar.proofs.OperandWords.{operand-item, operand-first}
 use Rattle.grammar.proofs.parts.operands_at.Statement.{statement}
 use Rattle.grammar.proofs.parts.operands_at.Tie as tie
 
@@ -102,8 +103,8 @@ loop-again c =
     record {
       items = so-far .items ++ (w ∷ []);
       read = read-more (so-far .read) w operand-shortens (turn .loop-test .taken) (part .ensures .0) (c .before .byte2 .ensures) (c .both .ensures);
-      listed = listed-more operandItem slotOf (so-far .items) w (so-far .listed) (listing .with-item .ensures .0) (operand-item word) (sym (operand-slot word)) refl refl refl;
-      need = c .before .before .before .before .most .ensures ∙ past-more slotOf (so-far .items) w (so-far .need) (sym (operand-slot word));
+      listed = listed-more operandItem slotOf (so-far .items) w (so-far .listed) (listing .with-item .ensures .0) (operand-item word) (sym (slot-of-word word)) refl refl refl;
+      need = c .before .before .before .before .most .ensures ∙ past-more slotOf (so-far .items) w (so-far .need) (sym (slot-of-word word));
       own = c .before .before .either .ensures ∙ any-more takesFirst (so-far .items) w (so-far .own) (sym (operand-first word));
       start = omega arith;
       limit = omega arith;

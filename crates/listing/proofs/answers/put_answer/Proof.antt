@@ -56,19 +56,25 @@ same-length-2 : tie.Need-same-length-2
 same-length-2 c = search needs
 
 returns-2 : tie.Need-returns-2
-returns-2 c = rw (c .before .before .before .before .before .before .answer2 .given .1) (same-text 40 (finished-end (c .before .before .before .before .before .before .answer2 .given .0 .0)) (omega arith) (c .before .before .put-ended .ensures))
+returns-2 c =
+    rw (c .before .before .before .before .before .before .answer2 .given .1)
+    (same-text 40 (finished-end (c .before .before .before .before .before .before .answer2 .given .0 .0)) (omega arith) (c .before .before .put-ended .ensures))
 
 same-length-3 : tie.Need-same-length-3
 same-length-3 c = search needs
 
 returns-3 : tie.Need-returns-3
-returns-3 c = rw (c .before .before .before .before .before .before .answer3 .given .1) (same-text 40 (stuck-end (c .before .before .before .before .before .before .answer3 .given .0 .0)) (omega arith) (c .before .before .put-ended2 .ensures))
+returns-3 c =
+    rw (c .before .before .before .before .before .before .answer3 .given .1)
+    (same-text 40 (stuck-end (c .before .before .before .before .before .before .answer3 .given .0 .0)) (omega arith) (c .before .before .put-ended2 .ensures))
 
 same-length-4 : tie.Need-same-length-4
 same-length-4 c = search needs
 
 returns-4 : tie.Need-returns-4
-returns-4 c = rw (c .before .before .before .before .before .before .answer4 .given .1) (same-text 40 (open-end (c .before .before .before .before .before .before .answer4 .given .0 .0)) (omega arith) (c .before .before .put-ended3 .ensures))
+returns-4 c =
+    rw (c .before .before .before .before .before .before .answer4 .given .1)
+    (same-text 40 (open-end (c .before .before .before .before .before .before .answer4 .given .0 .0)) (omega arith) (c .before .before .put-ended3 .ensures))
 
 same-length-5 : tie.Need-same-length-5
 same-length-5 c = search needs

@@ -27,7 +27,10 @@ same-length : tie.Need-same-length
 same-length c = search needs
 
 returns : tie.Need-returns
-returns c = same-text 21 refl (search needs) (c .before .before .before .before .before .before .before .before .before .before .before .before .before .before .before .put-text .ensures ▹ c .before .before .before .before .before .before .before .before .before .before .before .put-text2 .ensures ▹ c .before .before .before .before .before .before .before .put-number .ensures ▹ c .before .before .put-text3 .ensures)
+returns c =
+    same-text 21 refl (search needs) (c .before .before .before .before .before .before .before .before .before .before .before .before .before .before .before .put-text .ensures
+    ▹ c .before .before .before .before .before .before .before .before .before .before .before .put-text2 .ensures
+    ▹ c .before .before .before .before .before .before .before .put-number .ensures ▹ c .before .before .put-text3 .ensures)
 
 pub put-ended-spec : {M : Type 1} → statement M
 put-ended-spec =

@@ -30,7 +30,10 @@ same-length c = search needs
 returns : tie.Need-returns
 returns c =
     let a = c .before .before .before .before .before .before .before .before .before .before .before .before .before .before .before .before .before .before .before .args in
-    same-text 22 (refused-line (a .number) (a .line)) (omega arith) (c .before .before .before .before .before .before .before .before .before .before .before .before .before .before .before .put-text .ensures ▹ c .before .before .before .before .before .before .before .before .before .before .before .put-number .ensures ▹ c .before .before .before .before .before .before .before .put-number2 .ensures ▹ c .before .before .put-text2 .ensures)
+    same-text 22 (refused-line (a .number) (a .line)) (omega arith)
+    (c .before .before .before .before .before .before .before .before .before .before .before .before .before .before .before .put-text .ensures
+    ▹ c .before .before .before .before .before .before .before .before .before .before .before .put-number .ensures
+    ▹ c .before .before .before .before .before .before .before .put-number2 .ensures ▹ c .before .before .put-text2 .ensures)
 
 pub put-refused-spec : {M : Type 1} → statement M
 put-refused-spec =

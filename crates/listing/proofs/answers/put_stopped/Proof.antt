@@ -38,9 +38,16 @@ same-length c = search needs
 
 returns : tie.Need-returns
 returns c =
-    let a = c .before .before .before .before .before .before .before .before .before .before .before .before .before .before .before .before .before .before .before .before .before .before .before .before .before .before .before .before .before .before .before .args in
+    let at-put-number5 = c .before .before .before .before .before .before .before in
+    let at-put-number4 = at-put-number5 .before .before .before .before in
+    let at-put-number3 = at-put-number4 .before .before .before .before in
+    let at-put-number2 = at-put-number3 .before .before .before .before in
+    let at-put-number = at-put-number2 .before .before .before .before in
+    let at-put-text = at-put-number .before .before .before .before in
+    let a = at-put-text .before .before .before .before .args in
     same-text 40 (stopped-line (a .number) (a .thread) (a .block) (a .line) (a .moves)) (omega arith)
-    (c .before .before .before .before .before .before .before .before .before .before .before .before .before .before .before .before .before .before .before .before .before .before .before .before .before .before .before .put-text .ensures ▹ c .before .before .before .before .before .before .before .before .before .before .before .before .before .before .before .before .before .before .before .before .before .before .before .put-number .ensures ▹ c .before .before .before .before .before .before .before .before .before .before .before .before .before .before .before .before .before .before .before .put-number2 .ensures ▹ c .before .before .before .before .before .before .before .before .before .before .before .before .before .before .before .put-number3 .ensures ▹ c .before .before .before .before .before .before .before .before .before .before .before .put-number4 .ensures ▹ c .before .before .before .before .before .before .before .put-number5 .ensures ▹ c .before .before .put-text2 .ensures)
+    (at-put-text .put-text .ensures ▹ at-put-number .put-number .ensures ▹ at-put-number2 .put-number2 .ensures ▹ at-put-number3 .put-number3 .ensures ▹ at-put-number4 .put-number4 .ensures
+    ▹ at-put-number5 .put-number5 .ensures ▹ c .before .before .put-text2 .ensures)
 
 pub put-stopped-spec : {M : Type 1} → statement M
 put-stopped-spec =

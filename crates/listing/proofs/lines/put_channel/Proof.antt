@@ -4,9 +4,9 @@ use Rattle.rules.specs.Text.{space}
 use mathlib.Core.List.{_∷_}
 use Rattle.rules.specs.State.{channelAt}
 use Rattle.rules.specs.Listing.{messageText}
+use Rattle.table.proofs.Places.{message-in-table}
 use Rattle.listing.proofs.StateTexts.{fixed, of-seen, _▹_, same-texts}
 use Rattle.listing.proofs.LineTexts.{channel-line}
-use Rattle.listing.proofs.StateRows.{message-in}
 use borrow.Author.Needs.{needs}
 use Rattle.listing.proofs.lines.put_channel.Statement.{statement}
 use Rattle.listing.proofs.lines.put_channel.Tie as tie
@@ -39,8 +39,10 @@ returns : tie.Need-returns
 returns c =
     let number = c .before .before .before .before .before .before .before .before .before .before .before .before .before .before .before .before .before .before .before .before .before .args .c in
     same-texts 29 (λ P n S rest held fits any. channel-line number (channelAt S number)) (omega arith)
-    (fixed (c .before .before .before .before .before .before .before .before .before .before .before .before .before .before .before .before .put-text .ensures) ▹ fixed (c .before .before .before .before .before .before .before .before .before .before .before .before .put-number .ensures)
-    ▹ of-seen (λ v. space ∷ messageText v) (λ P n S fits any. message-in fits number) (c .before .before .before .before .before .before .before .before .message .ensures .1) (c .before .before .before .before .before .before .before .put-message .ensures) ▹ fixed (c .before .before .put-text2 .ensures))
+    (fixed (c .before .before .before .before .before .before .before .before .before .before .before .before .before .before .before .before .put-text .ensures)
+    ▹ fixed (c .before .before .before .before .before .before .before .before .before .before .before .before .put-number .ensures)
+    ▹ of-seen (λ v. space ∷ messageText v) (λ P n S fits any. message-in-table fits number) (c .before .before .before .before .before .before .before .before .message .ensures .1)
+    (c .before .before .before .before .before .before .before .put-message .ensures) ▹ fixed (c .before .before .put-text2 .ensures))
 
 pub put-channel-spec : {M : Type 1} → statement M
 put-channel-spec =

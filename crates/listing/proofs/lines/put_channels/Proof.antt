@@ -33,7 +33,14 @@ loop-less : tie.Need-loop-less Inv-loop μ-loop
 loop-less c = omega arith
 
 loop-again : tie.Need-loop-again Inv-loop μ-loop
-loop-again c = (omega arith, omega arith, search needs, channel-after (c .before .before .before .before .before .before .thread-count .ensures .1) (c .before .before .before .before .before .loop .c) (c .before .before .before .before .before .loop .inv .0) (c .before .before .before .before .loop-test .taken) (c .before .before .before .before .before .loop .inv .3) (c .before .before .put-channel .ensures))
+loop-again c = (
+  omega arith,
+  omega arith,
+  search needs,
+  channel-after (c .before .before .before .before .before .before .thread-count .ensures .1) (c .before .before .before .before .before .loop .c)
+      (c .before .before .before .before .before .loop .inv .0) (c .before .before .before .before .loop-test .taken) (c .before .before .before .before .before .loop .inv .3)
+      (c .before .before .put-channel .ensures),
+)
 
 same-length : tie.Need-same-length Inv-loop μ-loop
 same-length c = c .before .loop .inv .2

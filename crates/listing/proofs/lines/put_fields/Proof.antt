@@ -32,7 +32,12 @@ loop-less : tie.Need-loop-less Inv-loop μ-loop
 loop-less c = search needs
 
 loop-again : tie.Need-loop-again Inv-loop μ-loop
-loop-again c = (search needs, search needs, field-after (c .before .before .before .before .before .before .before .before .before .args .o) (c .before .before .before .before .before .before .loop .j) (c .before .before .before .before .before .before .loop .inv .2) (c .before .before .before .field .ensures .1) (c .before .before .put-field .ensures))
+loop-again c = (
+  search needs,
+  search needs,
+  field-after (c .before .before .before .before .before .before .before .before .before .args .o) (c .before .before .before .before .before .before .loop .j)
+      (c .before .before .before .before .before .before .loop .inv .2) (c .before .before .before .field .ensures .1) (c .before .before .put-field .ensures),
+)
 
 same-length : tie.Need-same-length Inv-loop μ-loop
 same-length c = c .before .loop .inv .1

@@ -33,8 +33,10 @@ same-length c = search needs
 returns : tie.Need-returns
 unfolding frameParts valueParts printMany
 returns c =
-    of-seen numberPart (λ P n S fits inner. tt) (c .before .before .before .before .before .before .before .before .before .before .before .before .frame-block .ensures .1) (c .before .before .before .before .before .before .before .before .before .before .before .put-number .ensures)
-    ▹ of-seen numberPart (λ P n S fits inner. tt) (c .before .before .before .before .before .before .before .frame-line .ensures .1) (c .before .before .before .before .before .before .put-number2 .ensures) ▹ c .before .before .put-slots .ensures
+    let at-put-number2 = c .before .before .before .before .before .before in
+    let at-put-number = at-put-number2 .before .before .before .before .before in
+    of-seen numberPart (λ P n S fits inner. tt) (at-put-number .before .frame-block .ensures .1) (at-put-number .put-number .ensures)
+    ▹ of-seen numberPart (λ P n S fits inner. tt) (at-put-number2 .before .frame-line .ensures .1) (at-put-number2 .put-number2 .ensures) ▹ c .before .before .put-slots .ensures
 
 pub put-frame-spec : {M : Type 1} → statement M
 put-frame-spec =

@@ -32,7 +32,9 @@ returns : tie.Need-returns
 returns c =
     let number = c .before .before .before .before .before .before .before .before .before .before .before .before .before .before .before .before .before .before .before .before .args .o in
     same-texts 86 (λ P n S rest held fits made. object-line number (objectAt (S .objects) number)) (omega arith)
-    (fixed (c .before .before .before .before .before .before .before .before .before .before .before .before .before .before .before .put-text .ensures) ▹ fixed (c .before .before .before .before .before .before .before .before .before .before .before .put-number .ensures) ▹ c .before .before .before .before .before .before .before .put-traits .ensures ▹ fixed (c .before .before .put-text2 .ensures))
+    (fixed (c .before .before .before .before .before .before .before .before .before .before .before .before .before .before .before .put-text .ensures)
+    ▹ fixed (c .before .before .before .before .before .before .before .before .before .before .before .put-number .ensures)
+    ▹ c .before .before .before .before .before .before .before .put-traits .ensures ▹ fixed (c .before .before .put-text2 .ensures))
 
 pub put-object-spec : {M : Type 1} → statement M
 put-object-spec =

@@ -33,7 +33,12 @@ loop-less : tie.Need-loop-less Inv-loop μ-loop
 loop-less c = omega arith
 
 loop-again : tie.Need-loop-again Inv-loop μ-loop
-loop-again c = (omega arith, search needs, object-after (c .before .before .before .before .before .before .object-count .ensures .1) (c .before .before .before .before .before .loop .o) (c .before .before .before .before .loop-test .taken) (c .before .before .before .before .before .loop .inv .2) (c .before .before .put-object .ensures))
+loop-again c = (
+  omega arith,
+  search needs,
+  object-after (c .before .before .before .before .before .before .object-count .ensures .1) (c .before .before .before .before .before .loop .o)
+      (c .before .before .before .before .loop-test .taken) (c .before .before .before .before .before .loop .inv .2) (c .before .before .put-object .ensures),
+)
 
 same-length : tie.Need-same-length Inv-loop μ-loop
 same-length c = c .before .loop .inv .1

@@ -17,7 +17,10 @@ same-length : tie.Need-same-length
 same-length c = search needs
 
 returns : tie.Need-returns
-returns c = ready-seen (c .before .before .before .before .before .before .before .before .before .args .t) (c .before .before .before .before .before .before .sender .ensures .1) (c .before .before .before .before .before .if1 .taken) (c .before .before .put-text .ensures)
+returns c =
+    let at-if1 = c .before .before .before .before .before in
+    let at-args = at-if1 .before .before .before .before in
+    ready-seen (at-args .args .t) (at-if1 .before .sender .ensures .1) (at-if1 .if1 .taken) (c .before .before .put-text .ensures)
 
 slice-aggregate-put-text-2 : tie.Need-slice-aggregate-put-text-2
 slice-aggregate-put-text-2 c = search needs
@@ -29,7 +32,10 @@ same-length-2 : tie.Need-same-length-2
 same-length-2 c = search needs
 
 returns-2 : tie.Need-returns-2
-returns-2 c = waiting-seen (c .before .before .before .before .before .before .before .before .before .args .t) (c .before .before .before .before .before .before .sender .ensures .1) (c .before .before .before .before .before .if1 .left) (c .before .before .put-text2 .ensures)
+returns-2 c =
+    let at-if1 = c .before .before .before .before .before in
+    let at-args = at-if1 .before .before .before .before in
+    waiting-seen (at-args .args .t) (at-if1 .before .sender .ensures .1) (at-if1 .if1 .left) (c .before .before .put-text2 .ensures)
 
 pub put-sender-spec : {M : Type 1} → statement M
 put-sender-spec =

@@ -26,7 +26,8 @@ loop-holds : tie.Need-loop-holds Inv-loop μ-loop
 loop-holds c = (search needs, search needs, no-slot-yet (c .before .before .before .args .t) (c .before .before .before .args .k) (search needs))
 
 frame-slot-requires : tie.Need-frame-slot-requires Inv-loop μ-loop
-frame-slot-requires c κs = (c .before .before .before .before .before .before .pre .1, c .before .before .before .before .before .before .pre .2, c .before .before .before .before .before .before .pre .3, omega arith)
+frame-slot-requires c κs =
+    (c .before .before .before .before .before .before .pre .1, c .before .before .before .before .before .before .pre .2, c .before .before .before .before .before .before .pre .3, omega arith)
 
 put-value-requires : tie.Need-put-value-requires Inv-loop μ-loop
 put-value-requires c κs = omega (arith, c .before .before .before .loop .inv .2 .most)
@@ -38,13 +39,22 @@ loop-less : tie.Need-loop-less Inv-loop μ-loop
 loop-less c = search needs
 
 loop-again : tie.Need-loop-again Inv-loop μ-loop
-loop-again c = (omega arith, search needs, slot-after (c .before .before .before .before .before .before .before .before .before .before .args .t) (c .before .before .before .before .before .before .before .before .before .before .args .k) (c .before .before .before .before .before .before .before .slot-count .ensures .1) (c .before .before .before .before .before .before .loop .i) (c .before .before .before .before .before .loop-test .taken) (c .before .before .before .before .before .before .loop .inv .2) (c .before .before .before .frame-slot .ensures .1) (c .before .before .put-value .ensures))
+loop-again c = (
+  omega arith,
+  search needs,
+  slot-after (c .before .before .before .before .before .before .before .before .before .before .args .t)
+      (c .before .before .before .before .before .before .before .before .before .before .args .k) (c .before .before .before .before .before .before .before .slot-count .ensures .1)
+      (c .before .before .before .before .before .before .loop .i) (c .before .before .before .before .before .loop-test .taken)
+      (c .before .before .before .before .before .before .loop .inv .2) (c .before .before .before .frame-slot .ensures .1) (c .before .before .put-value .ensures),
+)
 
 same-length : tie.Need-same-length Inv-loop μ-loop
 same-length c = c .before .loop .inv .1
 
 returns : tie.Need-returns Inv-loop μ-loop
-returns c = all-slots (c .before .before .before .before .before .args .t) (c .before .before .before .before .before .args .k) (c .before .before .slot-count .ensures .1) (c .before .loop .i) (c .before .loop .inv .0) (c .loop-test .left) (c .before .loop .inv .2)
+returns c =
+    let at-args = c .before .before .before .before .before in
+    all-slots (at-args .args .t) (at-args .args .k) (c .before .before .slot-count .ensures .1) (c .before .loop .i) (c .before .loop .inv .0) (c .loop-test .left) (c .before .loop .inv .2)
 
 pub put-slots-spec : {M : Type 1} → statement M
 put-slots-spec =

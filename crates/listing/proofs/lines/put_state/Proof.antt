@@ -20,7 +20,9 @@ same-length c = search needs
 returns : tie.Need-returns
 unfolding stateLines
 returns c =
-    c .before .before .before .before .before .before .before .before .before .before .put-objects .ensures ▹ c .before .before .before .before .before .before .put-channels .ensures ▹ c .before .before .put-threads .ensures
+    let at-put-channels = c .before .before .before .before .before .before in
+    let at-put-objects = at-put-channels .before .before .before .before in
+    at-put-objects .put-objects .ensures ▹ at-put-channels .put-channels .ensures ▹ c .before .before .put-threads .ensures
 
 pub put-state-spec : {M : Type 1} → statement M
 put-state-spec = tie.close (tie.spec put-objects-requires put-channels-requires put-threads-requires same-length returns)

@@ -29,8 +29,11 @@ same-length : tie.Need-same-length
 same-length c = search needs
 
 returns : tie.Need-returns
-returns c = finished-thread (c .before .before .before .before .before .before .before .before .before .before .before .before .before .before .before .before .before .before .args .t) (c .before .before .before .before .before .before .frame-count .ensures .1) (omega arith) (c .before .before .before .before .before .if1 .taken)
-    (fixed (c .before .before .before .before .before .before .before .before .before .before .before .before .before .put-text .ensures) ▹ fixed (c .before .before .before .before .before .before .before .before .before .put-number .ensures) ▹ fixed (c .before .before .put-text2 .ensures))
+returns c =
+    finished-thread (c .before .before .before .before .before .before .before .before .before .before .before .before .before .before .before .before .before .before .args .t)
+    (c .before .before .before .before .before .before .frame-count .ensures .1) (omega arith) (c .before .before .before .before .before .if1 .taken)
+    (fixed (c .before .before .before .before .before .before .before .before .before .before .before .before .before .put-text .ensures)
+    ▹ fixed (c .before .before .before .before .before .before .before .before .before .put-number .ensures) ▹ fixed (c .before .before .put-text2 .ensures))
 
 put-sender-requires : tie.Need-put-sender-requires
 put-sender-requires c κs = search needs
@@ -54,8 +57,16 @@ same-length-2 : tie.Need-same-length-2
 same-length-2 c = search needs
 
 returns-2 : tie.Need-returns-2
-returns-2 c = running-thread (c .before .before .before .before .before .before .before .before .before .before .before .before .before .before .before .before .before .before .before .before .before .before .before .before .before .before .args .t) (c .before .before .before .before .before .before .before .before .before .before .before .before .before .before .frame-count .ensures .1) _ refl (c .before .before .before .before .before .before .before .before .before .before .before .before .before .if1 .left)
-    (fixed (c .before .before .before .before .before .before .before .before .before .before .before .before .before .before .before .before .before .before .before .before .before .put-text .ensures) ▹ fixed (c .before .before .before .before .before .before .before .before .before .before .before .before .before .before .before .before .before .put-number .ensures) ▹ c .before .before .before .before .before .before .before .before .before .before .before .put-sender .ensures) (c .before .before .before .before .before .before .before .put-frame .ensures) (c .before .before .put-text3 .ensures)
+returns-2 c =
+    let at-put-frame = c .before .before .before .before .before .before .before in
+    let at-put-sender = at-put-frame .before .before .before .before in
+    let at-frame-count = at-put-sender .before .before .before in
+    let at-put-number = at-frame-count .before .before .before in
+    let at-put-text = at-put-number .before .before .before .before in
+    let at-args = at-put-text .before .before .before .before .before in
+    running-thread (at-args .args .t) (at-frame-count .frame-count .ensures .1) _ refl (at-put-sender .before .before .if1 .left)
+    (fixed (at-put-text .put-text .ensures) ▹ fixed (at-put-number .put-number .ensures) ▹ at-put-sender .put-sender .ensures) (at-put-frame .put-frame .ensures)
+    (c .before .before .put-text3 .ensures)
 
 pub put-thread-spec : {M : Type 1} → statement M
 put-thread-spec =

@@ -36,7 +36,12 @@ loop-less : tie.Need-loop-less Inv-loop μ-loop
 loop-less c = omega arith
 
 loop-again : tie.Need-loop-again Inv-loop μ-loop
-loop-again c = (omega arith, search needs, thread-after (c .before .before .before .before .before .before .thread-count .ensures .1) (c .before .before .before .before .before .loop .t) (c .before .before .before .before .loop-test .taken) (c .before .before .before .before .before .loop .inv .2) (c .before .before .put-thread .ensures))
+loop-again c = (
+  omega arith,
+  search needs,
+  thread-after (c .before .before .before .before .before .before .thread-count .ensures .1) (c .before .before .before .before .before .loop .t)
+      (c .before .before .before .before .loop-test .taken) (c .before .before .before .before .before .loop .inv .2) (c .before .before .put-thread .ensures),
+)
 
 same-length : tie.Need-same-length Inv-loop μ-loop
 same-length c = c .before .loop .inv .1

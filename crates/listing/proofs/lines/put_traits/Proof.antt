@@ -41,9 +41,12 @@ same-length c = search needs
 returns : tie.Need-returns
 unfolding objectParts valueParts printMany
 returns c =
-    of-seen (λ k. space ∷ capWord k) (λ P n S fits made. made) (c .before .before .before .before .before .before .before .before .before .before .before .before .before .before .before .before .before .cap .ensures .1) (c .before .before .before .before .before .before .before .before .before .before .before .before .before .before .before .before .put-cap .ensures)
-    ▹ of-seen numberPart (λ P n S fits made. made) (c .before .before .before .before .before .before .before .before .before .before .before .before .kind .ensures .1) (c .before .before .before .before .before .before .before .before .before .before .before .put-number .ensures)
-    ▹ of-seen numberPart (λ P n S fits made. made) (c .before .before .before .before .before .before .before .creator .ensures .1) (c .before .before .before .before .before .before .put-number2 .ensures) ▹ c .before .before .put-fields .ensures
+    let at-put-number2 = c .before .before .before .before .before .before in
+    let at-put-number = at-put-number2 .before .before .before .before .before in
+    let at-put-cap = at-put-number .before .before .before .before .before in
+    of-seen (λ k. space ∷ capWord k) (λ P n S fits made. made) (at-put-cap .before .cap .ensures .1) (at-put-cap .put-cap .ensures)
+    ▹ of-seen numberPart (λ P n S fits made. made) (at-put-number .before .kind .ensures .1) (at-put-number .put-number .ensures)
+    ▹ of-seen numberPart (λ P n S fits made. made) (at-put-number2 .before .creator .ensures .1) (at-put-number2 .put-number2 .ensures) ▹ c .before .before .put-fields .ensures
 
 pub put-traits-spec : {M : Type 1} → statement M
 put-traits-spec =

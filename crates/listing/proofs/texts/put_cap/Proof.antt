@@ -49,25 +49,33 @@ same-length : tie.Need-same-length
 same-length c = search needs
 
 returns : tie.Need-returns
-returns c = rw (c .before .before .before .before .before .enum-told .given .1) (same-text 7 refl (omega arith) (c .before .before .before .before .before .before .before .before .before .put-byte .ensures ▹ c .before .before .put-text .ensures))
+returns c =
+    rw (c .before .before .before .before .before .enum-told .given .1)
+    (same-text 7 refl (omega arith) (c .before .before .before .before .before .before .before .before .before .put-byte .ensures ▹ c .before .before .put-text .ensures))
 
 same-length-2 : tie.Need-same-length-2
 same-length-2 c = search needs
 
 returns-2 : tie.Need-returns-2
-returns-2 c = rw (c .before .before .before .before .before .enum-told2 .given .1) (same-text 7 refl (omega arith) (c .before .before .before .before .before .before .before .before .before .put-byte .ensures ▹ c .before .before .put-text2 .ensures))
+returns-2 c =
+    rw (c .before .before .before .before .before .enum-told2 .given .1)
+    (same-text 7 refl (omega arith) (c .before .before .before .before .before .before .before .before .before .put-byte .ensures ▹ c .before .before .put-text2 .ensures))
 
 same-length-3 : tie.Need-same-length-3
 same-length-3 c = search needs
 
 returns-3 : tie.Need-returns-3
-returns-3 c = rw (c .before .before .before .before .before .enum-told3 .given .1) (same-text 7 refl (omega arith) (c .before .before .before .before .before .before .before .before .before .put-byte .ensures ▹ c .before .before .put-text3 .ensures))
+returns-3 c =
+    rw (c .before .before .before .before .before .enum-told3 .given .1)
+    (same-text 7 refl (omega arith) (c .before .before .before .before .before .before .before .before .before .put-byte .ensures ▹ c .before .before .put-text3 .ensures))
 
 same-length-4 : tie.Need-same-length-4
 same-length-4 c = search needs
 
 returns-4 : tie.Need-returns-4
-returns-4 c = rw (c .before .before .before .before .before .enum-told4 .given .1) (same-text 7 refl (omega arith) (c .before .before .before .before .before .before .before .before .before .put-byte .ensures ▹ c .before .before .put-text4 .ensures))
+returns-4 c =
+    rw (c .before .before .before .before .before .enum-told4 .given .1)
+    (same-text 7 refl (omega arith) (c .before .before .before .before .before .before .before .before .before .put-byte .ensures ▹ c .before .before .put-text4 .ensures))
 
 pub put-cap-spec : {M : Type 1} → statement M
 put-cap-spec =

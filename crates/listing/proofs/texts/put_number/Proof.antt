@@ -38,9 +38,15 @@ same-length c = search needs
 returns : tie.Need-returns
 unfolding decimal
 returns c =
-    let n = c .before .before .before .before .before .before .before .before .before .before .before .before .before .before .before .before .before .before .before .before .before .before .before .before .before .args .n in
+    let at-put-digit4 = c .before .before .before .before .before .before in
+    let at-put-digit3 = at-put-digit4 .before .before .before .before in
+    let at-put-digit2 = at-put-digit3 .before .before .before .before in
+    let at-put-digit = at-put-digit2 .before .before .before .before in
+    let at-put-byte = at-put-digit .before .before .before .before in
+    let n = at-put-byte .before .before .before .args .n in
     rw (← digit-code (n % 10) (omega arith))
-    (c .before .before .before .before .before .before .before .before .before .before .before .before .before .before .before .before .before .before .before .before .before .before .put-byte .ensures ▹ c .before .before .before .before .before .before .before .before .before .before .before .before .before .before .before .before .before .before .put-digit .ensures ▹ c .before .before .before .before .before .before .before .before .before .before .before .before .before .before .put-digit2 .ensures ▹ c .before .before .before .before .before .before .before .before .before .before .put-digit3 .ensures ▹ c .before .before .before .before .before .before .put-digit4 .ensures ▹ c .before .before .put-byte2 .ensures)
+    (at-put-byte .put-byte .ensures ▹ at-put-digit .put-digit .ensures ▹ at-put-digit2 .put-digit2 .ensures ▹ at-put-digit3 .put-digit3 .ensures ▹ at-put-digit4 .put-digit4 .ensures
+    ▹ c .before .before .put-byte2 .ensures)
 
 pub put-number-spec : {M : Type 1} → statement M
 put-number-spec =

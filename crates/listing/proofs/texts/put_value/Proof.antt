@@ -61,13 +61,19 @@ same-length-2 : tie.Need-same-length-2
 same-length-2 c = search needs
 
 returns-2 : tie.Need-returns-2
-returns-2 c = same-text 13 (is-object _ _ (c .before .before .before .before .before .before .before .before .before .before .before .before .before .before .v .given .1)) (omega arith) (c .before .before .before .before .before .before .before .before .before .before .put-text2 .ensures ▹ c .before .before .before .before .before .before .put-number .ensures ▹ c .before .before .put-byte .ensures)
+returns-2 c =
+    same-text 13 (is-object _ _ (c .before .before .before .before .before .before .before .before .before .before .before .before .before .before .v .given .1)) (omega arith)
+    (c .before .before .before .before .before .before .before .before .before .before .put-text2 .ensures ▹ c .before .before .before .before .before .before .put-number .ensures
+    ▹ c .before .before .put-byte .ensures)
 
 same-length-3 : tie.Need-same-length-3
 same-length-3 c = search needs
 
 returns-3 : tie.Need-returns-3
-returns-3 c = same-text 13 (is-channel _ _ (c .before .before .before .before .before .before .before .before .before .before .before .before .before .before .v2 .given .1)) (omega arith) (c .before .before .before .before .before .before .before .before .before .before .put-text3 .ensures ▹ c .before .before .before .before .before .before .put-number2 .ensures ▹ c .before .before .put-byte2 .ensures)
+returns-3 c =
+    same-text 13 (is-channel _ _ (c .before .before .before .before .before .before .before .before .before .before .before .before .before .before .v2 .given .1)) (omega arith)
+    (c .before .before .before .before .before .before .before .before .before .before .put-text3 .ensures ▹ c .before .before .before .before .before .before .put-number2 .ensures
+    ▹ c .before .before .put-byte2 .ensures)
 
 pub put-value-spec : {M : Type 1} → statement M
 put-value-spec =

@@ -31,7 +31,14 @@ shared-slice-read-put-if c = search needs
 put-if-requires : tie.Need-put-if-requires Inv-loop μ-loop
 put-if-requires c κs =
     let loop = c .before .before .before .loop in
-    omega (arith, loop .inv .2 .few, loop .inv .1, c .before .before .before .before .before .before .clear .kept .0, c .before .before .before .before .before .before .before .before .before .before .pre .1, c .before .before .loop-test .taken)
+    omega (
+      arith,
+      loop .inv .2 .few,
+      loop .inv .1,
+      c .before .before .before .before .before .before .clear .kept .0,
+      c .before .before .before .before .before .before .before .before .before .before .pre .1,
+      c .before .before .loop-test .taken,
+    )
 
 add-i : tie.Need-add-i Inv-loop μ-loop
 add-i c = search needs
@@ -50,8 +57,10 @@ same-length c = c .before .loop .inv .1 ∙ c .before .before .before .before .c
 
 returns : tie.Need-returns Inv-loop μ-loop
 returns c =
+    let at-clear = c .before .before .before .before in
+    let at-args = at-clear .before .before .before .before in
     let loop = c .before .loop in
-    all-listed (now (c .before .before .before .before .before .before .before .before .args .list)) (c .before .before .before .before .clear .ensures) (c .loop-test .left) (loop .inv .0) (loop .inv .2)
+    all-listed (now (at-args .args .list)) (at-clear .clear .ensures) (c .loop-test .left) (loop .inv .0) (loop .inv .2)
 
 pub list-marked-spec : {M : Type 1} → statement M
 list-marked-spec =

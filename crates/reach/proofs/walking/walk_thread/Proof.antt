@@ -38,8 +38,12 @@ loop-less c = search needs
 loop-again : tie.Need-loop-again Inv-loop μ-loop
 loop-again c =
     let loop = c .before .before .before .before .before .loop in
-    let walk = c .before .before .walk-frame in
-    (omega arith, walk .kept .1 .0 ∙ loop .inv .1, frame-next (c .before .before .before .before .before .before .before .before .before .args .t) (c .before .before .before .before .before .before .frame-count .ensures .1) (loop .k) (c .before .before .before .before .loop-test .taken) (loop .inv .2) (walk .ensures))
+    let walk = c .before .before .walk-frame in (
+      omega arith,
+      walk .kept .1 .0 ∙ loop .inv .1,
+      frame-next (c .before .before .before .before .before .before .before .before .before .args .t)
+          (c .before .before .before .before .before .before .frame-count .ensures .1) (loop .k) (c .before .before .before .before .loop-test .taken) (loop .inv .2) (walk .ensures),
+    )
 
 same-length : tie.Need-same-length Inv-loop μ-loop
 same-length c = c .before .loop .inv .1

@@ -158,11 +158,13 @@ same-length c = search needs
 
 returns : tie.Need-returns Inv-loop μ-loop
 returns c =
-    let kept = c .before .before .before .before .before .before .before .before .before .before in
+    let at-stop-number = c .before .before .before .before in
+    let at-perform = at-stop-number .before .before .before .before in
+    let kept = at-perform .before .before in
     let start = kept .before .before .before .before .before .before .before .before .before in
     turn-stops (looked (kept .before) .playing) (kept .before .before .before .before .loop-test .taken) refl (start .pre .2) (kept .if4 .taken)
-    (other-steps-stop (c .before .before .before .before .before .before .before .before .perform .result) (c .before .before .before .before .before .match .keys5) ∙ ap stop (sym (c .before .before .before .before .stop-number .ensures)))
-    (c .before .before .before .before .before .before .before .before .perform .ensures) (c .before .before .frame-block .ensures .1) (c .frame-line .ensures .1)
+    (other-steps-stop (at-perform .perform .result) (at-stop-number .before .match .keys5) ∙ ap stop (sym (at-stop-number .stop-number .ensures)))
+    (at-perform .perform .ensures) (c .before .before .frame-block .ensures .1) (c .frame-line .ensures .1)
 
 add-i : tie.Need-add-i Inv-loop μ-loop
 add-i c = search needs

@@ -19,7 +19,9 @@ same-length : tie.Need-same-length
 same-length c = search needs
 
 returns : tie.Need-returns
-returns c = line-halts (call-answers _ _ _ (call-no-operand _ _ _ (c .before .before .operand-check .ensures) (sym (c .before .passes .ensures) ∙ not-true _ (c .if1 .taken)))) (sym (c .before .passes .ensures) ∙ not-true _ (c .if1 .taken))
+returns c =
+    let fails = sym (c .before .passes .ensures) ∙ not-true _ (c .if1 .taken) in
+    line-halts (call-answers _ _ _ (call-no-operand _ _ _ (c .before .before .operand-check .ensures) fails)) fails
 
 seen-requires : tie.Need-seen-requires
 seen-requires c κs = search needs
@@ -40,7 +42,11 @@ same-length-2 : tie.Need-same-length-2
 same-length-2 c = search needs
 
 returns-2 : tie.Need-returns-2
-returns-2 c = line-halts (call-answers _ _ _ (call-no-method _ _ _ (c .before .before .before .before .before .before .before .before .before .before .operand-check .ensures) (sym (c .before .before .before .before .before .before .before .before .before .passes .ensures) ∙ not-false _ (c .before .before .before .before .before .before .before .before .if1 .left)) (c .before .before .before .before .before .before .seen .ensures .1) (c .before .before .before .before .x .given .1) (c .before .method-item .ensures) (c .if2 .taken))) refl
+returns-2 c =
+    let at-x = c .before .before .before .before in
+    let at-if1 = at-x .before .before .before .before in
+    line-halts (call-answers _ _ _ (call-no-method _ _ _ (at-if1 .before .before .operand-check .ensures) (sym (at-if1 .before .passes .ensures) ∙ not-false _ (at-if1 .if1 .left))
+    (at-x .before .before .seen .ensures .1) (at-x .x .given .1) (c .before .method-item .ensures) (c .if2 .taken))) refl
 
 is-foreign-requires : tie.Need-is-foreign-requires
 is-foreign-requires c κs = (search needs, object-in-table _ _ (c .before .before .before .before .before .x .given .1) (c .before .before .before .before .before .before .before .seen .ensures .0))
@@ -49,13 +55,25 @@ same-length-3 : tie.Need-same-length-3
 same-length-3 c = search needs
 
 returns-3 : tie.Need-returns-3
-returns-3 c = line-halts (call-answers _ _ _ (call-foreign _ _ _ (c .before .before .before .before .before .before .before .before .before .before .before .before .before .operand-check .ensures) (sym (c .before .before .before .before .before .before .before .before .before .before .before .before .passes .ensures) ∙ not-false _ (c .before .before .before .before .before .before .before .before .before .before .before .if1 .left)) (c .before .before .before .before .before .before .before .before .before .seen .ensures .1) (c .before .before .before .before .before .before .before .x .given .1) (c .before .before .before .before .method-item .ensures) (c .before .before .before .if2 .left) (c .before .is-foreign .ensures) (c .if3 .taken))) refl
+returns-3 c =
+    let at-if2 = c .before .before .before in
+    let at-x = at-if2 .before .before .before .before in
+    let at-if1 = at-x .before .before .before .before in
+    line-halts (call-answers _ _ _ (call-foreign _ _ _ (at-if1 .before .before .operand-check .ensures) (sym (at-if1 .before .passes .ensures) ∙ not-false _ (at-if1 .if1 .left))
+    (at-x .before .before .seen .ensures .1) (at-x .x .given .1) (at-if2 .before .method-item .ensures) (at-if2 .if2 .left) (c .before .is-foreign .ensures) (c .if3 .taken))) refl
 
 same-length-4 : tie.Need-same-length-4
 same-length-4 c = search needs
 
 returns-4 : tie.Need-returns-4
-returns-4 c = line-halts (call-answers _ _ _ (call-used-up _ _ _ (c .before .before .before .before .before .before .before .before .before .before .before .before .before .before .before .operand-check .ensures) (sym (c .before .before .before .before .before .before .before .before .before .before .before .before .before .before .passes .ensures) ∙ not-false _ (c .before .before .before .before .before .before .before .before .before .before .before .before .before .if1 .left)) (c .before .before .before .before .before .before .before .before .before .before .before .seen .ensures .1) (c .before .before .before .before .before .before .before .before .before .x .given .1) (c .before .before .before .before .before .before .method-item .ensures) (c .before .before .before .before .before .if2 .left) (c .before .before .before .is-foreign .ensures) (c .before .before .if3 .left) (c .if4 .taken))) refl
+returns-4 c =
+    let at-is-foreign = c .before .before .before in
+    let at-method-item = at-is-foreign .before .before .before in
+    let at-x = at-method-item .before .before .before in
+    let at-if1 = at-x .before .before .before .before in
+    line-halts (call-answers _ _ _ (call-used-up _ _ _ (at-if1 .before .before .operand-check .ensures) (sym (at-if1 .before .passes .ensures) ∙ not-false _ (at-if1 .if1 .left))
+    (at-x .before .before .seen .ensures .1) (at-x .x .given .1) (at-method-item .method-item .ensures) (at-is-foreign .before .before .if2 .left) (at-is-foreign .is-foreign .ensures)
+    (c .before .before .if3 .left) (c .if4 .taken))) refl
 
 sub-push-frame : tie.Need-sub-push-frame
 sub-push-frame c = search needs
@@ -73,21 +91,36 @@ same-length-5 : tie.Need-same-length-5
 same-length-5 c = search needs
 
 returns-5 : tie.Need-returns-5
-returns-5 c = line-halts (call-answers _ _ _ (call-no-target _ _ _ (c .before .before .before .before .before .before .operand-check .ensures) (sym (c .before .before .before .before .before .passes .ensures) ∙ not-false _ (c .before .before .before .before .if1 .left)) (c .before .before .seen .ensures .1) (c .enum-told .given .1))) refl
+returns-5 c =
+    let at-if1 = c .before .before .before .before in
+    line-halts (call-answers _ _ _ (call-no-target _ _ _ (at-if1 .before .before .operand-check .ensures) (sym (at-if1 .before .passes .ensures) ∙ not-false _ (at-if1 .if1 .left))
+    (c .before .before .seen .ensures .1) (c .enum-told .given .1))) refl
 
 same-length-6 : tie.Need-same-length-6
 same-length-6 c = search needs
 
 returns-6 : tie.Need-returns-6
-returns-6 c = line-halts (call-answers _ _ _ (call-of-channel _ _ _ (c .before .before .before .before .before .before .operand-check .ensures) (sym (c .before .before .before .before .before .passes .ensures) ∙ not-false _ (c .before .before .before .before .if1 .left)) (c .before .before .seen .ensures .1) (c .enum-told2 .given .1))) refl
+returns-6 c =
+    let at-if1 = c .before .before .before .before in
+    line-halts (call-answers _ _ _ (call-of-channel _ _ _ (at-if1 .before .before .operand-check .ensures) (sym (at-if1 .before .passes .ensures) ∙ not-false _ (at-if1 .if1 .left))
+    (c .before .before .seen .ensures .1) (c .enum-told2 .given .1))) refl
 
 same-length-7 : tie.Need-same-length-7
 same-length-7 c = search needs
 
 returns-7 : tie.Need-returns-7
 returns-7 c =
-    line-moves (call-answers _ _ _ (call-passes _ _ _ (c .before .before .before .before .before .before .before .before .before .before .before .before .before .before .before .before .before .before .before .before .before .before .before .before .operand-check .ensures) (sym (c .before .before .before .before .before .before .before .before .before .before .before .before .before .before .before .before .before .before .before .before .before .before .before .passes .ensures) ∙ not-false _ (c .before .before .before .before .before .before .before .before .before .before .before .before .before .before .before .before .before .before .before .before .before .before .if1 .left)) (c .before .before .before .before .before .before .before .before .before .before .before .before .before .before .before .before .before .before .before .before .seen .ensures .1) (c .before .before .before .before .before .before .before .before .before .before .before .before .before .before .before .before .before .before .x .given .1) (c .before .before .before .before .before .before .before .before .before .before .before .before .before .before .before .method-item .ensures) (c .before .before .before .before .before .before .before .before .before .before .before .before .before .before .if2 .left) (c .before .before .before .before .before .before .before .before .before .before .before .before .is-foreign .ensures) (c .before .before .before .before .before .before .before .before .before .before .before .if3 .left) (c .before .before .before .before .before .before .before .before .before .if4 .left))) refl
-    (call-writes _ _ _ (c .before .before .before .before .before .before .before .before .before .before .before .before .before .before .before .before .before .before .before .before .seen .ensures .1) (c .before .before .before .before .before .before .before .before .before .before .before .before .before .before .before .before .before .before .x .given .1) (c .before .before .before .before .before .before .before .before .before .before .before .before .before .before .before .method-item .ensures) (c .before .before .before .before .before .before .before .slot-of .ensures .0) (c .before .before .before .before .before .before .push-frame .ensures) (c .before .before .leave .ensures))
+    let at-push-frame = c .before .before .before .before .before .before in
+    let at-if4 = at-push-frame .before .before .before in
+    let at-is-foreign = at-if4 .before .before .before in
+    let at-method-item = at-is-foreign .before .before .before in
+    let at-x = at-method-item .before .before .before in
+    let at-if1 = at-x .before .before .before .before in
+    line-moves (call-answers _ _ _ (call-passes _ _ _ (at-if1 .before .before .operand-check .ensures) (sym (at-if1 .before .passes .ensures) ∙ not-false _ (at-if1 .if1 .left))
+    (at-x .before .before .seen .ensures .1) (at-x .x .given .1) (at-method-item .method-item .ensures) (at-is-foreign .before .before .if2 .left) (at-is-foreign .is-foreign .ensures)
+    (at-if4 .before .before .if3 .left) (at-if4 .if4 .left))) refl
+    (call-writes _ _ _ (at-x .before .before .seen .ensures .1) (at-x .x .given .1) (at-method-item .method-item .ensures) (at-push-frame .before .slot-of .ensures .0)
+    (at-push-frame .push-frame .ensures) (c .before .before .leave .ensures))
 
 pub call-line-spec : {M : Type 1} → statement M
 call-line-spec =

@@ -32,7 +32,11 @@ same-length-2 : tie.Need-same-length-2
 same-length-2 c = search needs
 
 returns-2 : tie.Need-returns-2
-returns-2 c = line-moves (cast-answers _ _ (c .before .before .before .before .before .before .before .before .before .before .before .cast-check .ensures)) (sym (c .before .before .before .before .before .before .before .before .before .before .passes .ensures) ∙ not-false _ (c .before .before .before .before .before .before .before .before .before .if1 .left)) (cast-writes _ (c .before .before .before .before .before .before .before .slot-of .ensures .0) (c .before .before .before .before .before .before .give-slot .ensures) (c .before .before .leave .ensures) _)
+returns-2 c =
+    let at-give-slot = c .before .before .before .before .before .before in
+    let at-if1 = at-give-slot .before .before .before in
+    line-moves (cast-answers _ _ (at-if1 .before .before .cast-check .ensures)) (sym (at-if1 .before .passes .ensures) ∙ not-false _ (at-if1 .if1 .left))
+    (cast-writes _ (at-give-slot .before .slot-of .ensures .0) (at-give-slot .give-slot .ensures) (c .before .before .leave .ensures) _)
 
 pub cast-line-spec : {M : Type 1} → statement M
 cast-line-spec =

@@ -30,16 +30,25 @@ same-length : tie.Need-same-length
 same-length c = search needs
 
 returns : tie.Need-returns
-returns c = line-halts (field-answers _ _ (field-missing _ _ (c .before .before .before .before .before .before .before .slot .ensures .1) (c .before .before .before .before .before .x .given .1) (c .before .before .field .ensures .1) (sym (c .before .is-absent .ensures) ∙ c .if1 .taken))) refl
+returns c =
+    let at-x = c .before .before .before .before .before in
+    line-halts (field-answers _ _ (field-missing _ _ (at-x .before .before .slot .ensures .1) (at-x .x .given .1) (c .before .before .field .ensures .1)
+    (sym (c .before .is-absent .ensures) ∙ c .if1 .taken))) refl
 
 is-foreign-requires : tie.Need-is-foreign-requires
-is-foreign-requires c κs = (search needs, object-in-table _ _ (c .before .before .before .before .before .before .x .given .1) (c .before .before .before .before .before .before .before .before .slot .ensures .0 .1))
+is-foreign-requires c κs =
+    let at-x = c .before .before .before .before .before .before in
+    (search needs, object-in-table _ _ (at-x .x .given .1) (at-x .before .before .slot .ensures .0 .1))
 
 same-length-2 : tie.Need-same-length-2
 same-length-2 c = search needs
 
 returns-2 : tie.Need-returns-2
-returns-2 c = line-halts (field-answers _ _ (field-of-foreign _ _ (c .before .before .before .before .before .before .before .before .before .before .slot .ensures .1) (c .before .before .before .before .before .before .before .before .x .given .1) (c .before .before .before .before .before .field .ensures .1) (sym (c .before .before .before .before .is-absent .ensures) ∙ c .before .before .before .if1 .left) (c .before .is-foreign .ensures) (c .if2 .taken))) refl
+returns-2 c =
+    let at-if1 = c .before .before .before in
+    let at-x = at-if1 .before .before .before .before .before in
+    line-halts (field-answers _ _ (field-of-foreign _ _ (at-x .before .before .slot .ensures .1) (at-x .x .given .1) (at-if1 .before .before .field .ensures .1)
+    (sym (at-if1 .before .is-absent .ensures) ∙ at-if1 .if1 .left) (c .before .is-foreign .ensures) (c .if2 .taken))) refl
 
 is-iso-object-requires : tie.Need-is-iso-object-requires
 is-iso-object-requires c κs = search needs
@@ -48,10 +57,17 @@ same-length-3 : tie.Need-same-length-3
 same-length-3 c = search needs
 
 returns-3 : tie.Need-returns-3
-returns-3 c = line-halts (field-answers _ _ (field-iso _ _ (c .before .before .before .before .before .before .before .before .before .before .before .before .before .slot .ensures .1) (c .before .before .before .before .before .before .before .before .before .before .before .x .given .1) (c .before .before .before .before .before .before .before .before .field .ensures .1) (sym (c .before .before .before .before .before .before .before .is-absent .ensures) ∙ c .before .before .before .before .before .before .if1 .left) (c .before .before .before .before .is-foreign .ensures) (c .before .before .before .if2 .left) (c .before .is-iso-object .ensures) (c .if3 .taken))) refl
+returns-3 c =
+    let at-if2 = c .before .before .before in
+    let at-if1 = at-if2 .before .before .before in
+    let at-x = at-if1 .before .before .before .before .before in
+    line-halts (field-answers _ _ (field-iso _ _ (at-x .before .before .slot .ensures .1) (at-x .x .given .1) (at-if1 .before .before .field .ensures .1)
+    (sym (at-if1 .before .is-absent .ensures) ∙ at-if1 .if1 .left) (at-if2 .before .is-foreign .ensures) (at-if2 .if2 .left) (c .before .is-iso-object .ensures) (c .if3 .taken))) refl
 
 give-field-requires : tie.Need-give-field-requires
-give-field-requires c κs = (search needs, search needs, object-in-table _ _ (c .before .before .before .before .before .before .before .before .before .before .before .before .x .given .1) (c .before .before .before .before .before .before .before .before .before .before .before .before .before .before .slot .ensures .0 .1), search needs)
+give-field-requires c κs =
+    let at-x = c .before .before .before .before .before .before .before .before .before .before .before .before in
+    (search needs, search needs, object-in-table _ _ (at-x .x .given .1) (at-x .before .before .slot .ensures .0 .1), search needs)
 
 same-length-4 : tie.Need-same-length-4
 same-length-4 c = search needs
@@ -70,8 +86,13 @@ same-length-6 c = search needs
 
 returns-6 : tie.Need-returns-6
 returns-6 c =
-    line-moves (field-answers _ _ (field-passes _ _ (c .before .before .before .before .before .before .before .before .before .before .before .before .before .before .before .before .before .slot .ensures .1) (c .before .before .before .before .before .before .before .before .before .before .before .before .before .before .before .x .given .1) (c .before .before .before .before .before .before .before .before .before .before .before .before .field .ensures .1) (sym (c .before .before .before .before .before .before .before .before .before .before .before .is-absent .ensures) ∙ c .before .before .before .before .before .before .before .before .before .before .if1 .left) (c .before .before .before .before .before .before .before .before .is-foreign .ensures) (c .before .before .before .before .before .before .before .if2 .left) (c .before .before .before .before .before .is-iso-object .ensures) (c .before .before .before .before .if3 .left))) refl
-    (field-writes _ (c .before .before .give-field .ensures) _ (c .before .before .before .before .before .before .before .before .before .before .before .before .before .before .before .before .before .slot .ensures .1) (c .before .before .before .before .before .before .before .before .before .before .before .before .before .before .before .x .given .1))
+    let at-if3 = c .before .before .before .before in
+    let at-if2 = at-if3 .before .before .before in
+    let at-if1 = at-if2 .before .before .before in
+    let at-x = at-if1 .before .before .before .before .before in
+    line-moves (field-answers _ _ (field-passes _ _ (at-x .before .before .slot .ensures .1) (at-x .x .given .1) (at-if1 .before .before .field .ensures .1)
+    (sym (at-if1 .before .is-absent .ensures) ∙ at-if1 .if1 .left) (at-if2 .before .is-foreign .ensures) (at-if2 .if2 .left) (at-if3 .before .is-iso-object .ensures) (at-if3 .if3 .left))) refl
+    (field-writes _ (c .before .before .give-field .ensures) _ (at-x .before .before .slot .ensures .1) (at-x .x .given .1))
 
 pub field-line-spec : {M : Type 1} → statement M
 field-line-spec =

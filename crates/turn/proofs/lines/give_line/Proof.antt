@@ -26,7 +26,11 @@ same-length-2 : tie.Need-same-length-2
 same-length-2 c = search needs
 
 returns-2 : tie.Need-returns-2
-returns-2 c = line-moves (give-answers _ (c .before .before .before .before .before .before .before .before .operand-check .ensures)) (sym (c .before .before .before .before .before .before .before .passes .ensures) ∙ not-false _ (c .before .before .before .before .before .before .if1 .left)) (finish-writes (c .before .before .before .before .if2 .taken) (c .before .before .drop-frame .ensures))
+returns-2 c =
+    let at-if2 = c .before .before .before .before in
+    let at-passes = at-if2 .before .before .before in
+    line-moves (give-answers _ (at-passes .before .operand-check .ensures)) (sym (at-passes .passes .ensures) ∙ not-false _ (at-if2 .before .before .if1 .left))
+    (finish-writes (at-if2 .if2 .taken) (c .before .before .drop-frame .ensures))
 
 slot-of-requires : tie.Need-slot-of-requires
 slot-of-requires c κs = search needs
@@ -41,7 +45,12 @@ same-length-3 : tie.Need-same-length-3
 same-length-3 c = search needs
 
 returns-3 : tie.Need-returns-3
-returns-3 c = line-moves (give-answers _ (c .before .before .before .before .before .before .before .before .before .before .before .before .before .operand-check .ensures)) (sym (c .before .before .before .before .before .before .before .before .before .before .before .before .passes .ensures) ∙ not-false _ (c .before .before .before .before .before .before .before .before .before .before .before .if1 .left)) (return-writes _ (c .before .before .before .before .before .before .before .before .before .if2 .left) (c .before .before .before .before .before .before .before .slot-of .ensures .0) (c .before .before .before .before .before .before .return-slot .ensures) (c .before .before .drop-frame2 .ensures))
+returns-3 c =
+    let at-return-slot = c .before .before .before .before .before .before in
+    let at-if2 = at-return-slot .before .before .before in
+    let at-passes = at-if2 .before .before .before in
+    line-moves (give-answers _ (at-passes .before .operand-check .ensures)) (sym (at-passes .passes .ensures) ∙ not-false _ (at-if2 .before .before .if1 .left))
+    (return-writes _ (at-if2 .if2 .left) (at-return-slot .before .slot-of .ensures .0) (at-return-slot .return-slot .ensures) (c .before .before .drop-frame2 .ensures))
 
 pub give-line-spec : {M : Type 1} → statement M
 give-line-spec =

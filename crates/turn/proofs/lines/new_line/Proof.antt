@@ -44,16 +44,41 @@ leave-item-requires-3 : tie.Need-leave-item-requires-3
 leave-item-requires-3 c κs = search needs
 
 leave-item-requires-4 : tie.Need-leave-item-requires-4
-leave-item-requires-4 c κs = (omega (arith, c .before .before .before .leave-item3 .kept .0, c .before .before .before .before .before .before .before .leave-item2 .kept .0, c .before .before .before .before .before .before .before .before .before .before .before .leave-item .kept .0, c .before .before .before .before .before .before .before .before .before .before .before .before .before .before .before .give-value .kept .0, c .before .before .before .before .before .before .before .before .before .before .before .before .before .before .before .before .before .before .before .add-object .kept .0, c .before .before .before .before .before .before .before .before .before .before .before .before .before .before .before .before .before .before .before .before .before .before .before .before .before .before .before .before .before .pre .0), c .before .before .before .before .before .before .before .before .before .before .before .before .before .before .before .before .before .before .before .before .before .before .before .before .before .before .before .before .before .pre .1)
+leave-item-requires-4 c κs =
+    let at-leave-item3 = c .before .before .before in
+    let at-leave-item2 = at-leave-item3 .before .before .before .before in
+    let at-leave-item = at-leave-item2 .before .before .before .before in
+    let at-give-value = at-leave-item .before .before .before .before in
+    let at-add-object = at-give-value .before .before .before .before in
+    let at-pre = at-add-object .before .before .before .before .before .before .before .before .before .before in (
+      omega (
+        arith,
+        at-leave-item3 .leave-item3 .kept .0,
+        at-leave-item2 .leave-item2 .kept .0,
+        at-leave-item .leave-item .kept .0,
+        at-give-value .give-value .kept .0,
+        at-add-object .add-object .kept .0,
+        at-pre .pre .0,
+      ),
+      at-pre .pre .1,
+    )
 
 same-length-2 : tie.Need-same-length-2
 same-length-2 c = search needs
 
 returns-2 : tie.Need-returns-2
 returns-2 c =
-    new-moves (c .before .before .before .before .before .before .before .before .before .before .before .before .before .before .before .before .before .before .before .before .before .before .before .before .before .object-count .ensures .1) refl (c .before .before .before .before .before .before .before .before .before .before .before .before .before .before .before .before .before .before .before .before .before .before .before .cap-rank .ensures .0) (c .before .before .before .before .before .before .before .before .before .before .before .before .before .before .before .before .before .before .before .before .before .before .add-object .ensures) (c .before .before .before .before .before .before .before .before .before .before .before .before .before .before .before .before .before .before .give-value .ensures)
-    (then-left (c .before .before .before .before .before .before .before .before .before .before .before .before .before .before .leave-item .ensures) (then-left (c .before .before .before .before .before .before .before .before .before .before .leave-item2 .ensures) (then-left (c .before .before .before .before .before .before .leave-item3 .ensures) (then-left (c .before .before .leave-item4 .ensures) none-left))))
-    (c .before .before .before .before .before .before .before .before .before .before .before .before .before .before .before .before .before .before .before .before .before .before .before .before .before .before .before .before .before .new-check .ensures) (sym (c .before .before .before .before .before .before .before .before .before .before .before .before .before .before .before .before .before .before .before .before .before .before .before .before .before .before .before .before .passes .ensures) ∙ not-false _ (c .before .before .before .before .before .before .before .before .before .before .before .before .before .before .before .before .before .before .before .before .before .before .before .before .before .before .before .if1 .left))
+    let at-leave-item3 = c .before .before .before .before .before .before in
+    let at-leave-item2 = at-leave-item3 .before .before .before .before in
+    let at-leave-item = at-leave-item2 .before .before .before .before in
+    let at-give-value = at-leave-item .before .before .before .before in
+    let at-add-object = at-give-value .before .before .before .before in
+    let at-object-count = at-add-object .before .before .before in
+    let at-passes = at-object-count .before .before .before in
+    new-moves (at-object-count .object-count .ensures .1) refl (at-add-object .before .cap-rank .ensures .0) (at-add-object .add-object .ensures) (at-give-value .give-value .ensures)
+    (then-left (at-leave-item .leave-item .ensures) (then-left (at-leave-item2 .leave-item2 .ensures)
+    (then-left (at-leave-item3 .leave-item3 .ensures) (then-left (c .before .before .leave-item4 .ensures) none-left))))
+    (at-passes .before .new-check .ensures) (sym (at-passes .passes .ensures) ∙ not-false _ (at-object-count .before .before .if1 .left))
 
 pub new-line-spec : {M : Type 1} → statement M
 new-line-spec =

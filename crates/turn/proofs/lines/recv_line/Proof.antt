@@ -30,13 +30,20 @@ same-length : tie.Need-same-length
 same-length c = search needs
 
 returns : tie.Need-returns
-returns c = line-halts (recv-answers _ (recv-empty _ (c .before .before .before .before .before .before .before .slot .ensures .1) (c .before .before .before .before .before .x .given .1) (c .before .before .message .ensures .1) (sym (c .before .is-absent .ensures) ∙ c .if1 .taken))) refl
+returns c =
+    let at-x = c .before .before .before .before .before in
+    line-halts (recv-answers _ (recv-empty _ (at-x .before .before .slot .ensures .1) (at-x .x .given .1) (c .before .before .message .ensures .1)
+    (sym (c .before .is-absent .ensures) ∙ c .if1 .taken))) refl
 
 give-message-requires : tie.Need-give-message-requires
-give-message-requires c κs = (search needs, search needs, channel-in-table _ _ (c .before .before .before .before .before .before .x .given .1) (c .before .before .before .before .before .before .before .before .slot .ensures .0 .1))
+give-message-requires c κs =
+    let at-x = c .before .before .before .before .before .before in
+    (search needs, search needs, channel-in-table _ _ (at-x .x .given .1) (at-x .before .before .slot .ensures .0 .1))
 
 empty-channel-requires : tie.Need-empty-channel-requires
-empty-channel-requires c κs = (search needs, channel-in-table _ _ (c .before .before .before .before .before .before .before .before .before .before .x .given .1) (c .before .before .before .before .before .before .before .before .before .before .before .before .slot .ensures .0 .1))
+empty-channel-requires c κs =
+    let at-x = c .before .before .before .before .before .before .before .before .before .before in
+    (search needs, channel-in-table _ _ (at-x .x .given .1) (at-x .before .before .slot .ensures .0 .1))
 
 same-length-2 : tie.Need-same-length-2
 same-length-2 c = search needs
@@ -55,8 +62,12 @@ same-length-4 c = search needs
 
 returns-4 : tie.Need-returns-4
 returns-4 c =
-    line-moves (recv-answers _ (recv-full _ (c .before .before .before .before .before .before .before .before .before .before .before .before .before .before .before .slot .ensures .1) (c .before .before .before .before .before .before .before .before .before .before .before .before .before .x .given .1) (c .before .before .before .before .before .before .before .before .before .before .message .ensures .1) (sym (c .before .before .before .before .before .before .before .before .before .is-absent .ensures) ∙ c .before .before .before .before .before .before .before .before .if1 .left))) refl
-    (recv-writes _ (c .before .before .before .before .before .before .before .before .before .before .before .before .before .before .before .slot .ensures .1) (c .before .before .before .before .before .before .before .before .before .before .before .before .before .x .given .1) (c .before .before .before .before .before .before .give-message .ensures) (c .before .before .empty-channel .ensures .1))
+    let at-give-message = c .before .before .before .before .before .before in
+    let at-is-absent = at-give-message .before .before .before in
+    let at-x = at-is-absent .before .before .before .before in
+    line-moves (recv-answers _ (recv-full _ (at-x .before .before .slot .ensures .1) (at-x .x .given .1) (at-is-absent .before .message .ensures .1)
+    (sym (at-is-absent .is-absent .ensures) ∙ at-give-message .before .before .if1 .left))) refl
+    (recv-writes _ (at-x .before .before .slot .ensures .1) (at-x .x .given .1) (at-give-message .give-message .ensures) (c .before .before .empty-channel .ensures .1))
 
 pub recv-line-spec : {M : Type 1} → statement M
 recv-line-spec =

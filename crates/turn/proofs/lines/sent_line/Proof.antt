@@ -17,7 +17,9 @@ same-length : tie.Need-same-length
 same-length c = search needs
 
 returns : tie.Need-returns
-returns c = record { performs = λ w. line-halts (sent-answers _ (c .before .before .before .before .before .pre .2) w (c .before .before .sent-check .ensures)) (sym (c .before .passes .ensures) ∙ not-true _ (c .if1 .taken)) }
+returns c =
+    let at-pre = c .before .before .before .before .before in
+    record { performs = λ w. line-halts (sent-answers _ (at-pre .pre .2) w (c .before .before .sent-check .ensures)) (sym (c .before .passes .ensures) ∙ not-true _ (c .if1 .taken)) }
 
 give-slot-requires : tie.Need-give-slot-requires
 give-slot-requires c κs = search needs
@@ -26,7 +28,13 @@ same-length-2 : tie.Need-same-length-2
 same-length-2 c = search needs
 
 returns-2 : tie.Need-returns-2
-returns-2 c = record { performs = λ w. line-moves (sent-answers _ (c .before .before .before .before .before .before .before .before .before .pre .2) w (c .before .before .before .before .before .before .sent-check .ensures)) (sym (c .before .before .before .before .before .passes .ensures) ∙ not-false _ (c .before .before .before .before .if1 .left)) (sent-writes _ (c .before .before .before .before .before .before .before .before .before .pre .2) w (c .before .before .give-slot .ensures)) }
+returns-2 c =
+    let at-if1 = c .before .before .before .before in
+    let at-pre = at-if1 .before .before .before .before .before in
+    record {
+      performs = λ w. line-moves (sent-answers _ (at-pre .pre .2) w (at-if1 .before .before .sent-check .ensures))
+          (sym (at-if1 .before .passes .ensures) ∙ not-false _ (at-if1 .if1 .left)) (sent-writes _ (at-pre .pre .2) w (c .before .before .give-slot .ensures));
+    }
 
 pub sent-line-spec : {M : Type 1} → statement M
 sent-line-spec =

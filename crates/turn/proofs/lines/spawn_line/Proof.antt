@@ -32,7 +32,12 @@ same-length-2 : tie.Need-same-length-2
 same-length-2 c = search needs
 
 returns-2 : tie.Need-returns-2
-returns-2 c = line-moves {k = c .before .before .before .before .before .before .before .before .before .before .before .before .spawn-check .result} (spawn-answers _ (c .before .before .before .before .before .before .before .before .before .before .before .before .spawn-check .ensures)) (sym (c .before .before .before .before .before .before .before .before .before .before .before .passes .ensures) ∙ not-false _ (c .before .before .before .before .before .before .before .before .before .before .if1 .left)) (spawn-writes _ (c .before .before .before .before .before .before .before .before .thread-count .ensures .1) (c .before .before .before .before .before .before .start-thread .ensures) (c .before .before .give-value .ensures))
+returns-2 c =
+    let at-start-thread = c .before .before .before .before .before .before in
+    let at-if1 = at-start-thread .before .before .before .before in
+    line-moves {k = at-if1 .before .before .spawn-check .result} (spawn-answers _ (at-if1 .before .before .spawn-check .ensures))
+    (sym (at-if1 .before .passes .ensures) ∙ not-false _ (at-if1 .if1 .left))
+    (spawn-writes _ (at-start-thread .before .before .thread-count .ensures .1) (at-start-thread .start-thread .ensures) (c .before .before .give-value .ensures))
 
 pub spawn-line-spec : {M : Type 1} → statement M
 spawn-line-spec =

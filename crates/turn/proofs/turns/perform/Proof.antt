@@ -123,61 +123,97 @@ same-length : tie.Need-same-length
 same-length c = search needs
 
 returns-4 : tie.Need-returns-4
-returns-4 c = performs-here (tells-give (c .before .before .before .before .before .before .part .ensures) (c .before .before .before .part2 .ensures) (c .before .before .before .before .before .match .keys4)) (c .before .before .give-line .ensures)
+returns-4 c =
+    let at-part2 = c .before .before .before in
+    let at-part = at-part2 .before .before .before in
+    performs-here (tells-give (at-part .part .ensures) (at-part2 .part2 .ensures) (at-part2 .before .before .match .keys4)) (c .before .before .give-line .ensures)
 
 same-length-2 : tie.Need-same-length-2
 same-length-2 c = search needs
 
 returns-5 : tie.Need-returns-5
-returns-5 c = performs-here (tells-value (c .before .before .before .before .before .before .part .ensures) (c .before .before .before .part3 .ensures) (c .before .before .before .before .before .match .keys5)) (c .before .before .value-line .ensures)
+returns-5 c =
+    let at-part3 = c .before .before .before in
+    let at-part = at-part3 .before .before .before in
+    performs-here (tells-value (at-part .part .ensures) (at-part3 .part3 .ensures) (at-part3 .before .before .match .keys5)) (c .before .before .value-line .ensures)
 
 same-length-3 : tie.Need-same-length-3
 same-length-3 c = search needs
 
 returns-6 : tie.Need-returns-6
-returns-6 c = performs-here (tells-field (c .before .before .before .before .before .before .before .part .ensures) (c .before .before .before .before .part4 .ensures) (c .before .before .before .part5 .ensures) (c .before .before .before .before .before .before .match .keys6)) (c .before .before .field-line .ensures)
+returns-6 c =
+    let at-part5 = c .before .before .before in
+    let at-match = at-part5 .before .before .before in
+    performs-here (tells-field (at-match .before .part .ensures) (at-part5 .before .part4 .ensures) (at-part5 .part5 .ensures) (at-match .match .keys6)) (c .before .before .field-line .ensures)
 
 same-length-4 : tie.Need-same-length-4
 same-length-4 c = search needs
 
 returns-7 : tie.Need-returns-7
-returns-7 c = performs-here (tells-swap (c .before .before .before .before .before .before .before .before .part .ensures) (c .before .before .before .before .before .part6 .ensures) (c .before .before .before .before .part7 .ensures) (c .before .before .before .part8 .ensures) (c .before .before .before .before .before .before .before .match .keys7)) (c .before .before .swap-line .ensures)
+returns-7 c =
+    let at-part8 = c .before .before .before in
+    let at-match = at-part8 .before .before .before .before in
+    performs-here (tells-swap (at-match .before .part .ensures) (at-part8 .before .before .part6 .ensures) (at-part8 .before .part7 .ensures) (at-part8 .part8 .ensures)
+    (at-match .match .keys7)) (c .before .before .swap-line .ensures)
 
 same-length-5 : tie.Need-same-length-5
 same-length-5 c = search needs
 
 returns-8 : tie.Need-returns-8
-returns-8 c = performs-loaded (λ P S loaded. loaded) (tells-call (c .before .before .before .before .before .before .before .before .part .ensures) (c .before .before .before .before .before .part9 .ensures) (c .before .before .before .before .part10 .ensures) (c .before .before .before .part11 .ensures) (c .before .before .before .before .before .before .before .match .keys8)) (c .before .before .call-line .ensures)
+returns-8 c =
+    let at-part11 = c .before .before .before in
+    let at-match = at-part11 .before .before .before .before in
+    performs-loaded (λ P S loaded. loaded) (tells-call (at-match .before .part .ensures) (at-part11 .before .before .part9 .ensures) (at-part11 .before .part10 .ensures)
+    (at-part11 .part11 .ensures) (at-match .match .keys8)) (c .before .before .call-line .ensures)
 
 same-length-6 : tie.Need-same-length-6
 same-length-6 c = search needs
 
 returns-9 : tie.Need-returns-9
-returns-9 c = performs-new (c .before .before .before .before .before .before .before .before .before .before .before .before .part .ensures) (c .before .before .before .before .before .before .before .before .before .part12 .ensures) (c .before .before .before .before .before .before .before .part13 .ensures) (c .before .before .before .before .before .before .before .before .cap-of .ensures) (c .before .before .before .before .before .before .part14 .ensures) (c .before .before .before .before .before .part15 .ensures) (c .before .before .before .before .part16 .ensures) (c .before .before .before .part17 .ensures) (c .before .before .before .before .before .before .before .before .before .before .before .match .keys9) (c .before .before .new-line .ensures)
+returns-9 c =
+    let at-part17 = c .before .before .before in
+    let at-part14 = at-part17 .before .before .before in
+    let at-part12 = at-part14 .before .before .before in
+    let at-part = at-part12 .before .before .before in
+    performs-new (at-part .part .ensures) (at-part12 .part12 .ensures) (at-part14 .before .part13 .ensures) (at-part14 .before .before .cap-of .ensures) (at-part14 .part14 .ensures)
+    (at-part17 .before .before .part15 .ensures) (at-part17 .before .part16 .ensures) (at-part17 .part17 .ensures) (at-part12 .before .before .match .keys9) (c .before .before .new-line .ensures)
 
 same-length-7 : tie.Need-same-length-7
 same-length-7 c = search needs
 
 returns-10 : tie.Need-returns-10
-returns-10 c = performs-here (tells-cast (c .before .before .before .before .before .before .before .before .part .ensures) (c .before .before .before .before .before .part18 .ensures) (c .before .before .before .part19 .ensures) (c .before .before .before .before .cap-of2 .ensures) (c .before .before .before .before .before .before .before .match .keys10)) (c .before .before .cast-line .ensures)
+returns-10 c =
+    let at-part19 = c .before .before .before in
+    let at-match = at-part19 .before .before .before .before in
+    performs-here (tells-cast (at-match .before .part .ensures) (at-part19 .before .before .part18 .ensures) (at-part19 .part19 .ensures) (at-part19 .before .cap-of2 .ensures)
+    (at-match .match .keys10)) (c .before .before .cast-line .ensures)
 
 same-length-8 : tie.Need-same-length-8
 same-length-8 c = search needs
 
 returns-11 : tie.Need-returns-11
-returns-11 c = performs-here (tells-spawn (c .before .before .before .before .before .before .part .ensures) (c .before .before .before .part20 .ensures) (c .before .before .before .before .before .match .keys11)) (c .before .before .spawn-line .ensures)
+returns-11 c =
+    let at-part20 = c .before .before .before in
+    let at-part = at-part20 .before .before .before in
+    performs-here (tells-spawn (at-part .part .ensures) (at-part20 .part20 .ensures) (at-part20 .before .before .match .keys11)) (c .before .before .spawn-line .ensures)
 
 same-length-9 : tie.Need-same-length-9
 same-length-9 c = search needs
 
 returns-12 : tie.Need-returns-12
-returns-12 c = performs-here (tells-send (c .before .before .before .before .before .before .before .part .ensures) (c .before .before .before .before .part21 .ensures) (c .before .before .before .part22 .ensures) (c .before .before .before .before .before .before .match .keys12)) (c .before .before .send-line .ensures)
+returns-12 c =
+    let at-part22 = c .before .before .before in
+    let at-match = at-part22 .before .before .before in
+    performs-here (tells-send (at-match .before .part .ensures) (at-part22 .before .part21 .ensures) (at-part22 .part22 .ensures) (at-match .match .keys12)) (c .before .before .send-line .ensures)
 
 same-length-10 : tie.Need-same-length-10
 same-length-10 c = search needs
 
 returns-13 : tie.Need-returns-13
-returns-13 c = performs-here (tells-recv (c .before .before .before .before .before .before .part .ensures) (c .before .before .before .part23 .ensures) (c .before .before .before .before .before .match .keys13)) (c .before .before .recv-line .ensures)
+returns-13 c =
+    let at-part23 = c .before .before .before in
+    let at-part = at-part23 .before .before .before in
+    performs-here (tells-recv (at-part .part .ensures) (at-part23 .part23 .ensures) (at-part23 .before .before .match .keys13)) (c .before .before .recv-line .ensures)
 
 returns-14 : tie.Need-returns-14
 returns-14 c =

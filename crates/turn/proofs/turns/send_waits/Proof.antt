@@ -23,7 +23,9 @@ waits-requires-2 : tie.Need-waits-requires-2
 waits-requires-2 c κs = search needs
 
 returns-2 : tie.Need-returns-2
-returns-2 c = sent-waits (c .waits2 .ensures) (c .before .before .before .sender .ensures .1) _ (c .before .before .before .before .before .args .w) (c .before .before .if1 .left) (c .before .sent-check .ensures)
+returns-2 c =
+    let at-sender = c .before .before .before in
+    sent-waits (c .waits2 .ensures) (at-sender .sender .ensures .1) _ (at-sender .before .before .args .w) (c .before .before .if1 .left) (c .before .sent-check .ensures)
 
 pub send-waits-spec : {M : Type 1} → statement M
 send-waits-spec =

@@ -27,8 +27,10 @@ same-length-2 c = search needs
 
 returns-3 : tie.Need-returns-3
 returns-3 c =
-    let at = c .before .before .before .before in
-    found-takes (locates (at .before .before .before .frame-count .ensures .1) (at .before .before .if2 .left) (at .locate .ensures .0 .1) (at .locate .ensures .1)) (c .before .before .perform .ensures)
+    let at-before = c .before .before .before in
+    let at = at-before .before in
+    found-takes (locates (at .before .before .before .frame-count .ensures .1) (at .before .before .if2 .left) (at .locate .ensures .0 .1) (at .locate .ensures .1))
+    (c .before .before .perform .ensures)
 
 pub turn-spec : {M : Type 1} → statement M
 turn-spec =

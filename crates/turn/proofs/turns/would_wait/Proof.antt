@@ -47,8 +47,10 @@ returns-4 c =
 
 returns-5 : tie.Need-returns-5
 returns-5 c =
-    let at = c .before .before .before .before in
-    others-would-not (locates (at .before .before .frame-count .ensures .1) (at .before .if2 .left) (at .locate .ensures .0 .1) (at .locate .ensures .1)) (c .before .before .before .part .ensures) (c .before .if3 .left) (c .if4 .left)
+    let at-before = c .before .before .before in
+    let at = at-before .before in
+    others-would-not (locates (at .before .before .frame-count .ensures .1) (at .before .if2 .left) (at .locate .ensures .0 .1) (at .locate .ensures .1)) (at-before .part .ensures)
+    (c .before .if3 .left) (c .if4 .left)
 
 pub would-wait-spec : {M : Type 1} → statement M
 would-wait-spec =
