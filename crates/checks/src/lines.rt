@@ -1,5 +1,4 @@
-// The checks of each line form, in document 01's order. None of them writes: a stop or a wait leaves the table as it was, and the same
-// checks say whether a thread would wait.
+// What a line comes to, and the checks that lines share or that say whether a thread would wait, in document 01's order. None of them writes.
 use rules::Cap;
 use rules::Value;
 use table::Here;

@@ -79,7 +79,7 @@ pub fn field_line(s: &mut [u16], h: Here, i: u16, j: u16) -> Step
     }
 }
 
-// "swap: target absent 10; target a channel 13; ... It stores the value and gives the old one."
+// "swap: target absent 10; target a channel 13; .. It stores the value and gives the old one."
 pub fn swap_line(s: &mut [u16], h: Here, i: u16, j: u16, w: u16) -> Step
     requires { ⌜ (8192 ≤ length (now s)) × Placed h × (i < 256) ⌝ }
     ensures { λ r. ⌜ Performs Always (now (s .entry)) h (bind (swap i j (operandOf w))) r (now (s .exit)) ⌝ }
@@ -184,7 +184,7 @@ pub fn spawn_line(s: &mut [u16], h: Here, b: u16) -> Step
     Step::Next
 }
 
-// A send by a thread that is ready: "target absent 10; an object 13; ...".
+// A send by a thread that is ready: "target absent 10; an object 13; ..".
 fn put_line(s: &mut [u16], h: Here, i: u16, w: u16) -> Step
     requires { ⌜ (8192 ≤ length (now s)) × Placed h × (i < 256) ⌝ }
     ensures { λ r. ⌜ Performs (λ P S. threadAt S (h .thread) .sender ≡ ready) (now (s .entry)) h (bind (send i (operandOf w))) r (now (s .exit)) ⌝ }
