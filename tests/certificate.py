@@ -1,10 +1,12 @@
 #!/usr/bin/env python3
-"""certificate.py: every name that docs/CERTIFICATE.md cites stands in the tree, and every public function has a row there.
+"""certificate.py: every name that docs/CERTIFICATE.md cites stands in the tree, every public function has a row there with two edits or more,
+and every edit is cited.
 
 A name stands in backticks, as one of
     S/FILE: name, ..     S/CRATE/FILE: ..   definitions of crates/CRATE/specs/FILE.antt (without CRATE: of rules)
     P/FILE: name, ..     P/CRATE/FILE: ..   theorems and laws of crates/CRATE/proofs/FILE.antt
     M/CRATE: name, ..                       must-fail edits of a crate, crates/CRATE/must-fail/NAME.edit
+    E/CRATE: name, ..                       the same beside the gate, crates/CRATE/tried/NAME.edit
     T/FILE: name, ..                        tests of the second interpreter, tests/second/tests/FILE.rs
     C: name, ..                             parts of the C test, tests/host/host_test.c
     G: name, ..                             parts of the gate, scripts/test
@@ -17,6 +19,7 @@ import sys
 
 ROOT = os.path.dirname(os.path.dirname(os.path.abspath(__file__)))
 CERTIFICATE = 'docs/CERTIFICATE.md'
+EDITS = {'M': 'must-fail', 'E': 'tried'}
 KEYWORDS = {'pub', 'unfoldable', 'abbrev', 'record', 'data', 'module'}
 ITEM = r'^(?:pub )?(?:extern "C" )?(?:fn|enum|struct|const|mod) %s\b'
 
@@ -60,8 +63,8 @@ def stands(cited):
     if kind == 'T' and re.fullmatch(r'\w+', rest):
         path = 'tests/second/tests/%s.rs' % rest
         return [(place, bool(read(path)))] + [(n, in_file(path, r'^fn %s\(')(n)) for n in names]
-    if kind == 'M' and names:
-        return [(n, bool(read('crates/%s/must-fail/%s.edit' % (rest, n)))) for n in names]
+    if kind in EDITS and names:
+        return [(n, bool(read('crates/%s/%s/%s.edit' % (rest, EDITS[kind], n)))) for n in names]
     if place == 'C' and names:
         return [(n, in_file('tests/host/host_test.c', r'^static \w+ \*?%s\(')(n)) for n in names]
     if place == 'G' and names:
@@ -87,6 +90,22 @@ def public_functions():
                 yield '%s::%s' % (crate, name)
 
 
+def edits_in(text):
+    """The files of the edits that a text cites."""
+    for kind, crate, names in re.findall(r'`([ME])/(\w+): ([^`]*)`', text):
+        for name in names.replace('\n', ' ').split(', '):
+            yield 'crates/%s/%s/%s.edit' % (crate, EDITS[kind], name)
+
+
+def edits():
+    """The files of all edits."""
+    for folder in EDITS.values():
+        for crate in re.findall(r'^(\w+):', read('crates.txt'), re.M):
+            place = 'crates/%s/%s' % (crate, folder)
+            for file in sorted(os.listdir(os.path.join(ROOT, place))) if os.path.isdir(os.path.join(ROOT, place)) else []:
+                yield '%s/%s' % (place, file)
+
+
 def main():
     text = read(CERTIFICATE)
     passed, faults = 0, []
@@ -97,12 +116,18 @@ def main():
         passed += sum(holds for _, holds in found)
         faults += ['%s: %s is not there' % (where, name) for name, holds in found if not holds]
         faults += [] if found else ['%s fits no convention' % where]
-    rows = re.findall(r'^\| `([^`]*)`', text.partition('\n## Public functions\n')[2], re.M)
+    rows = dict(re.findall(r'^\| `([^`]*)`(.*)', text.partition('\n## Public functions\n')[2], re.M))
     for function in public_functions():
-        if function in rows:
+        if len(set(edits_in(rows.get(function, '')))) >= 2:
             passed += 1
         else:
-            faults.append('%s: %s has no row under "Public functions"' % (CERTIFICATE, function))
+            faults.append('%s: %s has no row with two edits under "Public functions"' % (CERTIFICATE, function))
+    cited = set(edits_in(text))
+    for edit in edits():
+        if edit in cited:
+            passed += 1
+        else:
+            faults.append('%s: %s is not cited' % (CERTIFICATE, edit))
     print('\n'.join(faults + ['%d passed, %d failed' % (passed, len(faults))]))
     return 1 if faults or not passed else 0
 

@@ -304,7 +304,7 @@ pub fn recv_check(s: &[u16], h: Here, i: u16) -> Step
         Value::Obj(_) => Step::WrongThing,
         Value::Chan(c) => {
             if is_absent(table::message(s, c)) {
-                return Step::Waits;
+                return Step::Waits; // empty
             }
             Step::Next
         }

@@ -1,7 +1,7 @@
 // The types that the definitions (specs/) share with the code, who may hold whom, and the words of K.
 ghost use mathlib.Core.Path.{_≡_};
 ghost use Prim.Native.Nat.{_<_};
-ghost use lib.ListN.{getD, length};
+ghost use lib.ListN.{getD};
 ghost use Rattle.rules.specs.Script.{rank};
 ghost use Rattle.rules.specs.Templates.{capWord};
 ghost use Rattle.rules.specs.Turn.{mayHold};
@@ -70,18 +70,6 @@ pub const ISO: [u8; 3] = *b"iso";
 pub const LOCAL: [u8; 5] = *b"local";
 
 pub const UNSAFE: [u8; 6] = *b"unsafe";
-
-// How many letters the word of a capability has.
-pub fn cap_length(c: Cap) -> usize
-    ensures { λ r. ⌜ r ≡ length (capWord c) ⌝ }
-{
-    match c {
-        Cap::Imm => 3,
-        Cap::Iso => 3,
-        Cap::Local => 5,
-        Cap::Unsafe => 6,
-    }
-}
 
 // Letter i of the word of a capability, and 0 past its end.
 pub fn cap_letter(c: Cap, i: usize) -> u8

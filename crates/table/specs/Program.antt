@@ -6,7 +6,7 @@ use lib.ListN.{length, getD}
 use Rattle.rules.specs.Mosts as Most
 use Rattle.rules.specs.Mosts.{mosts}
 use Rattle.rules.specs.Lists.{pad, cells}
-use Rattle.rules.specs.Script.{Sort, thread, method, Form, opens, line, blocksOf, Program, linesOf, kindAt, blockAt, lineAt, noBlock}
+use Rattle.rules.specs.Script.{Sort, thread, method, Form, opens, blocksOf, Program, linesOf, kindAt, noBlock}
 use Rattle.rules.specs.Tables.{row, firstLines}
 
 -- counts, first lines of blocks, lines; `programWords P` has its counts and the lines of P
@@ -51,10 +51,6 @@ pub record BlockForm (t : List ℕ) (b r : ℕ) : Type 0 where
 -- by the program
 pub record FirstLine (t : List ℕ) (b r : ℕ) : Type 0 where
   pub is : (counts rest : List ℕ) (Fs : List Form) → Filled t counts Fs rest → r ≡ getD (firstLines 0 Fs) b 0
-
-pub record LinePart (t : List ℕ) (b l k r : ℕ) : Type 0 where
-  pub is : (P : Program) (counts rest : List ℕ) → Filled t counts (linesOf P) rest → b < length (P .blocks) → l ≤ length (blockAt P b .lets)
-      → r ≡ getD (row (line (lineAt P b l))) k 0
 
 pub record KindFields (t : List ℕ) (n r : ℕ) : Type 0 where
   pub is : (P : Program) (counts rest : List ℕ) → Filled t counts (linesOf P) rest → n < length (P .kinds) → r ≡ kindAt P n .fields

@@ -9,7 +9,6 @@ pub use program::copy_table;
 pub use program::first_line;
 pub use program::kind_fields;
 pub use program::kind_method;
-pub use program::line_part;
 pub use program::line_word;
 pub use program::put_counts;
 pub use state::Here;

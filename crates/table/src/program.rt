@@ -3,7 +3,7 @@ ghost use mathlib.Core.Path.{_≡_};
 ghost use mathlib.Core.List.{[], _∷_, _++_};
 ghost use Prim.Native.Nat.{_+_, _*_, _%_, _≤_, _<_};
 ghost use lib.ListN.{length, take, drop, getD, set};
-ghost use Rattle.table.specs.Program.{LineAdded, OpenerAdded, Counted, LineWord, BlockForm, FirstLine, LinePart, KindFields, KindMethod};
+ghost use Rattle.table.specs.Program.{LineAdded, OpenerAdded, Counted, LineWord, BlockForm, FirstLine, KindFields, KindMethod};
 
 // Line n of the text: the number of its form, and its parts.
 pub fn add_line(t: &mut [u16], n: usize, form: u16, a: u16, b: u16, c: u16, d: u16, e: u16, f: u16)
@@ -81,16 +81,6 @@ pub fn block_form(t: &[u16], b: usize) -> u16
 {
     let first = first_line(t, b);
     t[(64 + first * 8) % 8192]
-}
-
-// Word k of line l of block b: the form's number, then its parts.
-pub fn line_part(t: &[u16], b: usize, l: usize, k: usize) -> u16
-    requires { ⌜ (8192 ≤ length (now t)) × (b < 64) × (l ≤ 65535) × (k < 8) ⌝ }
-    ensures { λ r. ⌜ r ≡ getD (now (t .entry)) ((72 + (getD (now (t .entry)) (8 + b) 0 + l) * 8 + k) % 8192) 0 ⌝ }
-    ensures { λ r. ⌜ LinePart (now (t .entry)) b l k r ⌝ }
-{
-    let first = first_line(t, b);
-    t[(72 + (first + l) * 8 + k) % 8192]
 }
 
 // How many fields kind n has.

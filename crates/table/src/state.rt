@@ -65,7 +65,7 @@ pub fn object_count(s: &[u16]) -> u16
     ensures { λ r. ⌜ r ≡ getD (now (s .entry)) 0 0 ⌝ }
     ensures { λ r. ⌜ Sees (now (s .entry)) Any (λ S. length (S .objects)) r ⌝ }
 {
-    s[0]
+    s[0] // how many objects
 }
 
 pub fn thread_count(s: &[u16]) -> u16
@@ -73,7 +73,7 @@ pub fn thread_count(s: &[u16]) -> u16
     ensures { λ r. ⌜ r ≡ getD (now (s .entry)) 1 0 ⌝ }
     ensures { λ r. ⌜ Sees (now (s .entry)) Any (λ S. length (S .threads)) r ⌝ }
 {
-    s[1]
+    s[1] // how many threads
 }
 
 // How many frames thread t has.
@@ -82,7 +82,7 @@ pub fn frame_count(s: &[u16], t: usize) -> u16
     ensures { λ r. ⌜ r ≡ getD (now (s .entry)) (2056 + t * 306) 0 ⌝ }
     ensures { λ r. ⌜ Sees (now (s .entry)) Any (λ S. length (threadAt S t .frames)) r ⌝ }
 {
-    s[2056 + t * 306]
+    s[2056 + t * 306] // how many frames
 }
 
 // 0 where thread t is ready, one more than the number of the message that it waits for as a sender.
@@ -91,7 +91,7 @@ pub fn sender(s: &[u16], t: usize) -> u16
     ensures { λ r. ⌜ r ≡ getD (now (s .entry)) (2057 + t * 306) 0 ⌝ }
     ensures { λ r. ⌜ Sees (now (s .entry)) Any (λ S. senderWord (threadAt S t .sender)) r ⌝ }
 {
-    s[2057 + t * 306]
+    s[2057 + t * 306] // what it waits for
 }
 
 // The block, the line and the number of filled slots of frame k of thread t.
@@ -187,7 +187,7 @@ pub fn message_number(s: &[u16], c: u16) -> u16
     ensures { λ r. ⌜ r ≡ getD (now (s .entry)) (6953 + c * 2) 0 ⌝ }
     ensures { λ r. ⌜ Sees (now (s .entry)) Any (λ S. channelAt S c .number) r ⌝ }
 {
-    s[6953 + c as usize * 2]
+    s[6953 + c as usize * 2] // after the message
 }
 
 // ---- Where a thread stands
@@ -253,7 +253,7 @@ pub fn give_slot(s: &mut [u16], h: Here, i: usize)
     ensures { λ _. ⌜ Becomes (now (s .entry)) (HasRoom (h .thread) (h .depth)) (λ S. given (h .thread) (h .depth) (slotAt (frameAt S (h .thread) (h .depth) .slots) i) S) (now (s .exit)) ⌝ }
 {
     let at = h.frame;
-    let x = s[at + 3 + i];
+    let x = s[at + 3 + i]; // as it is
     push_word(s, h.thread, h.depth, at, x);
 }
 
@@ -293,7 +293,7 @@ pub fn return_slot(s: &mut [u16], h: Here, i: usize)
     ensures { λ _. ⌜ Becomes (now (s .entry)) (HasRoom (h .thread) (h .depth - 1)) (λ S. given (h .thread) (h .depth - 1) (slotAt (frameAt S (h .thread) (h .depth) .slots) i) S) (now (s .exit)) ⌝ }
 {
     let at = h.frame;
-    let x = s[at + 3 + i];
+    let x = s[at + 3 + i]; // the callee's
     push_word(s, h.thread, h.depth - 1, at - 19, x);
 }
 
