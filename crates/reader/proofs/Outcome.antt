@@ -2,7 +2,7 @@
 use Prim.Native.Nat.{ℕ, _≤_, _<_}
 use native.Mathlib.Nat.{add-comm}
 use native.Mathlib.Omega.{arith}
-use mathlib.Core.Path.{_≡_, refl, sym, ap, ap₂, _∙_, subst}
+use mathlib.Core.Path.{_≡_, sym, ap, ap₂, _∙_, subst}
 use mathlib.Core.Bool.{false, cond}
 use mathlib.Core.List.{List, [], _∷_, _++_, append-nil}
 use lib.Dec.{ltb}
@@ -20,13 +20,11 @@ use Rattle.rules.specs.Reading as R
 use Rattle.rules.specs.Reading.{Sofar, nothing, faulty, turnedAway, accepted, link, script, reading}
 use Rattle.rules.specs.Tables.{firstLines, programWords}
 use Rattle.rules.specs.Calls.{longText, shortTable, readCall}
-use Rattle.rules.proofs.ListLaws.{impossible, or-false}
+use Rattle.rules.proofs.ListLaws.{or-false}
 use Rattle.rules.proofs.Scanned.{Scanned, ended, passed, scan-passed, lines-scanned}
 use Rattle.grammar.specs.Decoded.{overLine}
 use Rattle.table.specs.Program.{lineTable, Filled}
 use Rattle.table.proofs.ProgramTable.{program-words-by-lines}
-use Rattle.reader.specs.declared.Answer.the-variants.{Read, Refused}
-use Rattle.reader.specs.Answers.{answerOf, numberOf, lineOf}
 use Rattle.reader.specs.Scanning.{Done-with, ScansTo, Scans}
 use Rattle.reader.specs.declared.scanning.Scan.{Scan}
 use Rattle.reader.specs.declared.scanning.Scan.the-variants.{Fault, Done}
@@ -125,13 +123,3 @@ module _ (text table : List ℕ) (fits : length text ≤ Most.text) (room : Most
       let full : t₁ ≡ lineTable (kinds ∷ blocks ∷ count ∷ []) Fs = f .words ∙ append-nil _ in
       let counted : lineTable (kinds ∷ blocks ∷ count ∷ []) Fs ≡ lineTable (length (kindsOf Fs) ∷ length (blocksOf Fs) ∷ length Fs ∷ []) Fs = rw (d .kinds-count, d .blocks-count, d .line-count) in
       full ∙ counted ∙ sym (rw same at (program-words-by-lines (programOf Fs)))
-
--- ---- The numbers of an answer
-
-pub read-numbers : (x : R.Reading) → Read ≡ answerOf x → (0 ≡ numberOf x) × (0 ≡ lineOf x)
-read-numbers (turnedAway k n) e = impossible cc
-read-numbers (accepted P) e = (refl, refl)
-
-pub refused-numbers : (x : R.Reading) (k n : ℕ) → Refused k n ≡ answerOf x → (k ≡ numberOf x) × (n ≡ lineOf x)
-refused-numbers (turnedAway i j) k n e = (cc, cc)
-refused-numbers (accepted P) k n e = impossible cc
