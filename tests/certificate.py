@@ -13,6 +13,7 @@ A name stands in backticks, as one of
     CRATE::name, CRATE::MODULE::name        functions, types and constants: of the crate's root or passed on there; of src/MODULE.rt
     a/path, README.md                       files and folders of the repository
 (S, P and T without names cite the file). Whatever else stands in backticks is a failure. The last line is 'N passed, M failed'."""
+import glob
 import os
 import re
 import sys
@@ -100,10 +101,8 @@ def edits_in(text):
 def edits():
     """The files of all edits."""
     for folder in EDITS.values():
-        for crate in re.findall(r'^(\w+):', read('crates.txt'), re.M):
-            place = 'crates/%s/%s' % (crate, folder)
-            for file in sorted(os.listdir(os.path.join(ROOT, place))) if os.path.isdir(os.path.join(ROOT, place)) else []:
-                yield '%s/%s' % (place, file)
+        for path in sorted(glob.glob(os.path.join(ROOT, 'crates', '*', folder, '*'))):
+            yield os.path.relpath(path, ROOT)
 
 
 def main():

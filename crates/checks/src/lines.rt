@@ -361,7 +361,7 @@ pub fn put_check(s: &[u16], h: Here, i: u16, w: u16) -> Step
     if !passes(k) {
         return k;
     }
-    let v = table::slot(s, h, slot_of(w));
+    let v = table::slot(s, h, slot_of(w)); // what is sent
     let x = seen(s, h, i, w);
     match x {
         Value::Absent => Step::NoValue,

@@ -65,11 +65,11 @@ pub fn turn(p: &[u16], s: &mut [u16], t: usize) -> Step
     ensures { λ r. ⌜ TakesTurn (now (p .entry)) (now (s .entry)) t r (now (s .exit)) ⌝ }
 {
     if 16 <= t {
-        return Step::Waits;
+        return Step::Waits; // no such thread
     }
     let d = table::frame_count(s, t);
     if d == 0 {
-        return Step::Waits;
+        return Step::Waits; // unstarted or finished
     }
     let h = table::locate(p, s, t, d);
     perform(p, s, h)

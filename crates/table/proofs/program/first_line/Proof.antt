@@ -16,13 +16,13 @@ mul-result c = search needs
 shared-slice-read-result : tie.Need-shared-slice-read-result
 shared-slice-read-result c = search needs
 
-cast-result : tie.Need-cast-result
-cast-result c = omega (arith, c .shared-slice-known .given (8 + c .before .args .b))
-
 returns : tie.Need-returns
 returns c =
     let word = c .shared-slice-known .given (8 + c .before .args .b) in
     ((refl, omega arith), record { is = λ counts rest Fs filled. first-line-is filled (c .before .args .b) (omega arith) })
+
+cast-result : tie.Need-cast-result
+cast-result c = omega (arith, c .shared-slice-known .given (8 + c .before .args .b))
 
 pub first-line-spec : {M : Type 1} → statement M
 first-line-spec =
