@@ -158,24 +158,24 @@ pub reach-early : {C : Reading} {k : ℕ} (turns : List ℕ) (t : ℕ) (program 
 reach-early turns t program state list e =
     rw e (record { report = kept-list (record { answers = refl; leaves = refl }); program-is = refl; state-is = refl })
 
-module _ (S : State) (t : ℕ) (l₀ l₁ : List ℕ) where
+module _ (P : Program) (S : State) (t : ℕ) (l₀ l₁ : List ℕ) where
   -- 17 alone leaves a run unreported
-  only-17 : (k n : ℕ) (started : Bool) → ReportsOn S t started l₀ (unreported k n) l₁ → k ≡ No.noThread
+  only-17 : (k n : ℕ) (started : Bool) → ReportsOn P S t started l₀ (unreported k n) l₁ → k ≡ No.noThread
   only-17 k n true r = impossible (let e = r .answers in cc)
   only-17 k n false r = let e = r .answers in cc
 
   -- whatever the list held
-  unreported-on : (k n : ℕ) (started : Bool) → ReportsOn S t started l₀ (unreported k n) l₁ → ReportsOn S t started [] (unreported k n) []
+  unreported-on : (k n : ℕ) (started : Bool) → ReportsOn P S t started l₀ (unreported k n) l₁ → ReportsOn P S t started [] (unreported k n) []
   unreported-on k n true r = impossible (let e = r .answers in cc)
   unreported-on k n false r = record { answers = r .answers; leaves = refl }
 
   record ReportedOn (started : Bool) (c : ℕ) : Type 0 where
     words : List ℕ
     long : length words ≡ Most.reachList
-    reports : ReportsOn S t started [] (reached c) words
+    reports : ReportsOn P S t started [] (reached c) words
     written : l₁ ≡ words ++ drop Most.reachList l₀
 
-  reported-on : (c : ℕ) (started : Bool) → ReportsOn S t started l₀ (reached c) l₁ → ReportedOn started c
+  reported-on : (c : ℕ) (started : Bool) → ReportsOn P S t started l₀ (reached c) l₁ → ReportedOn started c
   reported-on c true r =
       let words : List ℕ = pad Most.reachList 0 (r .objects) in
       let few : 0 ≤ Most.reachList = omega arith in
@@ -204,7 +204,7 @@ module _ (turns : List ℕ) (t : ℕ) (program state list l₀ l₁ : List ℕ) 
       record { report = kept-list (record { answers = r .answers; leaves = refl }); program-is = refl; state-is = refl }
   reach-refused (accepted P) {k} {n} low r =
       let S = run mosts P turns .state in
-      absurd (omega (arith, only-17 S t l₀ l₁ k n (ltb t (length (S .threads))) r))
+      absurd (omega (arith, only-17 P S t l₀ l₁ k n (ltb t (length (S .threads))) r))
 
   module _ (p₀ s₀ : List ℕ) {ps ss p s : List ℕ} (p-long : length p₀ ≡ Most.words) (s-long : length s₀ ≡ Most.words) where
     pub reach-no-thread : (C : Reading) {k n : ℕ} → AtMost9 C → No.noThread ≤ k → ReachReport mosts turns t C l₀ (unreported k n) l₁ → ps ≡ programAfter C p₀
@@ -215,7 +215,7 @@ module _ (turns : List ℕ) (t : ℕ) (program state list l₀ l₁ : List ℕ) 
         absurd (omega arith)
     reach-no-thread (accepted P) {k} {n} low high r p-written s-written p-kept s-kept =
         let S = run mosts P turns .state in
-        record { report = kept-list {C = accepted P} (unreported-on S t l₀ l₁ k n (ltb t (length (S .threads))) r); program-is = program-held P turns p₀ s₀ program state p-long s-long p-written s-written p-kept s-kept; state-is = state-held P turns p₀ s₀ program state p-long s-long p-written s-written p-kept s-kept }
+        record { report = kept-list {C = accepted P} (unreported-on P S t l₀ l₁ k n (ltb t (length (S .threads))) r); program-is = program-held P turns p₀ s₀ program state p-long s-long p-written s-written p-kept s-kept; state-is = state-held P turns p₀ s₀ program state p-long s-long p-written s-written p-kept s-kept }
 
     pub reach-done : (C : Reading) {c : ℕ} {list₁ : List ℕ} → length l₀ ≡ Most.reachList → ReachReport mosts turns t C l₀ (reached c) l₁ → ps ≡ programAfter C p₀
         → ss ≡ stateAfter mosts turns C s₀ → p ≡ bytesAfter (length ps) ps program → s ≡ bytesAfter (length ss) ss state
@@ -223,7 +223,7 @@ module _ (turns : List ℕ) (t : ℕ) (program state list l₀ l₁ : List ℕ) 
     reach-done (turnedAway i j) l-long r p-written s-written p-kept s-kept l-kept = impossible (let e = r .answers in cc)
     reach-done (accepted P) {c} l-long r p-written s-written p-kept s-kept l-kept =
         let S = run mosts P turns .state in
-        let listed = reported-on S t l₀ l₁ c (ltb t (length (S .threads))) r in
+        let listed = reported-on P S t l₀ l₁ c (ltb t (length (S .threads))) r in
         record {
           report = record {
             report = reached c;

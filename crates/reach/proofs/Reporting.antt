@@ -18,22 +18,23 @@ use Rattle.rules.specs.Valid.{Valid}
 use Rattle.rules.specs.State.{Object, State}
 use Rattle.rules.specs.Fits.{Fits}
 use Rattle.rules.specs.Run.{run}
-use Rattle.rules.specs.Tables.{stateWords}
+use Rattle.rules.specs.Tables.{programWords, stateWords}
 use Rattle.rules.specs.Reach.{count, times, ReachedFrom, roots, Lists}
 use Rattle.rules.specs.Calls.{longText, longTurns, shortTable, runCall, runAnswer, reachCall, programAfter, stateAfter, unreported, reached, Reports, ReportsOn, ReachReport}
 use Rattle.rules.proofs.ListLaws.{by-bool}
 use Rattle.rules.proofs.Accepted.{accepted-valid, reading-accepted}
 use Rattle.rules.proofs.Keeps.{fits-run}
 use Rattle.rules.proofs.Walks.{walked-lists, roots-made, reached-range}
-use Rattle.rules.proofs.TableWords.{state-words-length}
+use Rattle.rules.proofs.TableWords.{program-words-length, state-words-length}
 use Rattle.table.specs.State.{Held, Sees, Any}
+use Rattle.turn.proofs.Located.{words-loaded}
 use Rattle.run.specs.declared.Answer.{Answer}
 use Rattle.run.specs.declared.Answer.the-variants.{Refused}
 use Rattle.run.specs.Answers.{answerOf}
 use Rattle.run.proofs.AnswerTells.{IsAccepted, Made, made-is, refusal-is}
 use Rattle.reach.specs.declared.Report.{Report}
 use Rattle.reach.specs.declared.Report.the-variants as T
-use Rattle.reach.specs.Walking.{reportOf, Marked, WalkedRoots, WalksThread, ListsMarked, ReportsState}
+use Rattle.reach.specs.Walking.{reportOf, Marked, WalkedAll, WalksRoots, ListsMarked, ReportsState}
 use Rattle.reach.proofs.Marks.{none-marked}
 
 -- ---- The report on a state
@@ -63,31 +64,31 @@ same-times {marks} {out} ns marked low listed x =
     high : 256 ≤ x → times x out ≡ 0
     high h = by-bool (ltb 0 (times x out)) (λ t. absurd (omega (arith, h, low x (ltb-true 0 (times x out) t)))) (λ t. omega (arith, ltb-false 0 (times x out) t))
 
-module _ {s list : List ℕ} {t d : ℕ} (counted : Sees s Any (λ S. length (S .threads)) d) where
-  pub not-reported : d ≤ t → ReportsState s t list (T.Refused No.noThread 0) list
+module _ {p s list : List ℕ} {t d : ℕ} (counted : Sees s Any (λ S. length (S .threads)) d) where
+  pub not-reported : d ≤ t → ReportsState p s t list (T.Refused No.noThread 0) list
   not-reported past =
       record {
-        reports = λ P n S rest held fits.
+        reports = λ P n S rest loaded held valid fits.
             let few : length (S .threads) ≤ t = omega (arith, counted .sees S rest held tt) in
-            subst (λ (b : Bool). ReportsOn S t b list (unreported No.noThread 0) list) (sym (le-ltb t (length (S .threads)) few)) (record { answers = refl; leaves = refl });
+            subst (λ (b : Bool). ReportsOn P S t b list (unreported No.noThread 0) list) (sym (le-ltb t (length (S .threads)) few)) (record { answers = refl; leaves = refl });
       }
 
-  pub reported : {marks : List Bool} {r : ℕ} {list₁ : List ℕ} → t < d → WalksThread s (replicate 256 false) (t % 16) marks → ListsMarked marks list r list₁
-      → ReportsState s t list (T.Reached r) list₁
+  pub reported : {marks : List Bool} {r : ℕ} {list₁ : List ℕ} → t < d → WalksRoots p s (replicate 256 false) (t % 16) marks → ListsMarked marks list r list₁
+      → ReportsState p s t list (T.Reached r) list₁
   reported {marks} {r} {list₁} there walks listed =
       record {
-        reports = λ P n S rest held fits.
+        reports = λ P n S rest loaded held valid fits.
             let started : t < length (S .threads) = omega (arith, counted .sees S rest held tt) in
             let place : t % 16 ≡ t = mod-eq-of-lt (omega (arith, fits .few-threads)) in
-            let walked : WalkedRoots S t [] marks = rw place at (walks .walks P n S rest [] held fits (none-marked 256)) in
-            subst (λ (b : Bool). ReportsOn S t b list (reached r) list₁) (sym (lt-ltb t (length (S .threads)) started)) (on fits walked);
+            let walked : WalkedAll S (roots P S t) [] marks = rw place at (walks .walks P n S rest [] loaded held valid fits (none-marked 256)) in
+            subst (λ (b : Bool). ReportsOn P S t b list (reached r) list₁) (sym (lt-ltb t (length (S .threads)) started)) (on fits walked);
       }
     where
-      on : {P : Program} {n : ℕ} {S : State} → Fits mosts P n S → WalkedRoots S t [] marks → Reports S t list (reached r) list₁
-      on {S = S} fits w =
-          let all : Lists (S .objects) (roots S t) (w .walked-to .out) = lists-same (w .same) (λ x. refl) (walked-lists (S .objects) (w .walked-to .walked)) in
+      on : {P : Program} {n : ℕ} {S : State} → Fits mosts P n S → WalkedAll S (roots P S t) [] marks → Reports P S t list (reached r) list₁
+      on {P} {S = S} fits w =
+          let all : Lists (S .objects) (roots P S t) (w .walked-to .out) = lists-same (w .same) (λ x. refl) (walked-lists (S .objects) (w .walked-to .walked)) in
           let low : (x : ℕ) → 1 ≤ times x (w .walked-to .out) → x < 256 =
-          λ x h. omega (arith, fits .few-objects, reached-range fits (roots S t) (roots-made fits t) x (all .reached x .0 h)) in
+          λ x h. omega (arith, fits .few-objects, reached-range fits (roots P S t) (roots-made fits t) x (all .reached x .0 h)) in
           record {
             objects = listed .numbers;
             lists = lists-same (λ x. refl) (same-times (listed .numbers) (w .walked-to .marked) low (listed .marked)) all;
@@ -156,21 +157,29 @@ module _ (text turns program state : List ℕ) {s : List ℕ} {a b : Answer} (an
   state-there : s ≡ stateWords (run mosts (run-is .program) turns .state) ++ drop Most.words state
   state-there = state-is ∙ ap (λ (C : Reading). stateAfter mosts turns C state) (run-is .is)
 
-  pub words-there : Most.words ≤ length s
-  words-there =
-      let S = run mosts (run-is .program) turns .state in
-      omega (arith, ap length state-there, length-append (stateWords S) (drop Most.words state), state-words-length S)
+  module _ {p : List ℕ} (program-is : p ≡ programAfter (runCall mosts text turns program state) program) where
+    program-there : p ≡ programWords (run-is .program) ++ drop Most.words program
+    program-there = program-is ∙ ap (λ (C : Reading). programAfter C program) (run-is .is)
+
+    pub tables-there : (Most.words ≤ length p) × (Most.words ≤ length s)
+    tables-there =
+        let P = run-is .program in
+        let S = run mosts P turns .state in (
+          omega (arith, ap length program-there, length-append (programWords P) (drop Most.words program), program-words-length P),
+          omega (arith, ap length state-there, length-append (stateWords S) (drop Most.words state), state-words-length S),
+        )
 
   -- the run was made
   pub told : {t : ℕ} {p list list₁ : List ℕ} {r : Report} → length turns ≤ Most.turns → p ≡ programAfter (runCall mosts text turns program state) program
-      → ReportsState s t list r list₁ → Told (runCall mosts text turns program state) turns t program state list r p s list₁
+      → ReportsState p s t list r list₁ → Told (runCall mosts text turns program state) turns t program state list r p s list₁
   told {t} {p} {list} {list₁} {r} few program-is reports =
       let P = run-is .program in
       let valid = run-valid text turns program state P (run-is .is) in
+      let loaded = words-loaded P valid (drop Most.words program) (program-there program-is) in
       let held : Held s (run mosts P turns .state) (drop Most.words state) = record { words = state-there } in
       record {
         report = subst (λ (C : Reading). ReachReport mosts turns t C list (reportOf r) list₁) (sym (run-is .is))
-            (reports .reports P Most.turns (run mosts P turns .state) (drop Most.words state) held (fits-run P turns valid few));
+            (reports .reports P Most.turns (run mosts P turns .state) (drop Most.words state) loaded held valid (fits-run P turns valid few));
         program-is = program-is;
         state-is = state-is;
       }

@@ -22,10 +22,11 @@ use Rattle.rules.specs.Reach.{count, slotsOf, roots, Walked, done, skip, meet}
 use Rattle.rules.proofs.ListLaws.{impossible, by-bool, below}
 use Rattle.rules.proofs.Counts.{object-met, count-append}
 use Rattle.rules.proofs.Keeps.{object-fits, thread-fits}
+use Rattle.rules.proofs.Walks.{in-flight-made}
 use Rattle.rules.proofs.TableWords.{length-outermost}
 use Rattle.table.specs.State.{InTable, Held, Sees, Any, FieldIn, frameAt}
 use Rattle.table.proofs.Places.{has-place, field-in-range, field-in, frame-slots-fit, slot-in-range}
-use Rattle.reach.specs.Walking.{Walks, Of, WalksThread}
+use Rattle.reach.specs.Walking.{Walks, Of, WalksThread, SeesInFlight, WalksRoots}
 use Rattle.reach.proofs.Marks.{mark-met, no-mark-not-met, mark-set}
 
 -- ---- Walks one after the other
@@ -190,7 +191,7 @@ module _ {s : List ℕ} {marks : List Bool} (t : ℕ) where
         }
 
     pub thread-walked : {marks₁ : List Bool} → d ≤ k → Walks s marks Any (slotsTo t k) marks₁ → WalksThread s marks t marks₁
-    unfolding slotsTo roots
+    unfolding slotsTo
     thread-walked all w =
         record {
           walks = λ P n S rest met held fits marked.
@@ -207,3 +208,22 @@ module _ {s : List ℕ} {marks : List Bool} (t : ℕ) where
                 };
               };
         }
+
+-- its slots, and then the message that it put
+pub roots-walked : {p s : List ℕ} {marks marks₁ marks₂ : List Bool} {t : ℕ} {v : Value} → WalksThread s marks t marks₁ → SeesInFlight p s t v
+    → Walks s marks₁ (Of v) (λ S. v ∷ []) marks₂ → WalksRoots p s marks t marks₂
+unfolding roots
+roots-walked {t = t} {v = v} slots message w =
+    record {
+      walks = λ P n S rest met loaded held valid fits marked.
+          let is = message .is P n S rest loaded held valid fits in
+          let so = slots .walks P n S rest met held fits marked in
+          let then = w .walks P n S rest (so .walked-to .out) held fits (subst (λ (x : Value). Of x S) (sym is) (in-flight-made fits t)) (so .walked-to .marked) in
+          let fs = threadAt S t .frames in
+          record {
+            values = so .values ++ (v ∷ []);
+            same = λ x. subst (λ (y : Value). count x (so .values ++ (v ∷ [])) ≡ count x (slotsOf fs ++ (y ∷ []))) is
+                (omega (arith, count-append x (so .values) (v ∷ []), count-append x (slotsOf fs) (v ∷ []), so .same x));
+            walked-to = record { out = then .out; walked = walk-then (so .walked-to .walked) (then .walked); marked = then .marked };
+          };
+    }

@@ -10,12 +10,14 @@ use Rattle.rules.specs.Mosts as Most
 use Rattle.rules.specs.Mosts.{mosts}
 use Rattle.rules.specs.Lists.{pad}
 use Rattle.rules.specs.Script.{Program}
-use Rattle.rules.specs.State.{Object, State}
+use Rattle.rules.specs.Valid.{Valid}
+use Rattle.rules.specs.State.{Object, State, threadAt}
 use Rattle.rules.specs.Fits.{InRange, Fits}
-use Rattle.rules.specs.Reach.{count, times, roots, Walked}
+use Rattle.rules.specs.Reach.{count, times, slotsOf, inFlight, roots, Walked}
 use Rattle.rules.specs.Calls as Calls
 use Rattle.rules.specs.Calls.{unreported, reached, ReportsOn}
 use Rattle.table.specs.State.{Held}
+use Rattle.turn.specs.Performed.{Loaded}
 use Rattle.reach.specs.declared.Report.{Report}
 use Rattle.reach.specs.declared.Report.the-variants.{Refused, Reached}
 
@@ -52,14 +54,24 @@ pub record Walks (s : List ℕ) (marks : List Bool) (Q : State → Type 0) (vs :
 abbrev pub Of : Value → State → Type 0
 Of v S = InRange (length (S .objects)) (length (S .threads)) v
 
--- the slots of all frames of a thread, in some order: only how often a value stands among them matters
-pub record WalkedRoots (S : State) (t : ℕ) (met : List ℕ) (marks : List Bool) : Type 0 where
+-- over values of a thread in some order: only how often each stands among them matters
+pub record WalkedAll (S : State) (us : List Value) (met : List ℕ) (marks : List Bool) : Type 0 where
   pub values : List Value
-  pub same : (x : ℕ) → count x values ≡ count x (roots S t)
+  pub same : (x : ℕ) → count x values ≡ count x us
   pub walked-to : WalkedTo (S .objects) met values marks
 
+-- the slots of all its frames
 pub record WalksThread (s : List ℕ) (marks : List Bool) (t : ℕ) (marks₁ : List Bool) : Type 0 where
-  pub walks : (P : Program) (n : ℕ) (S : State) (rest met : List ℕ) → Held s S rest → Fits mosts P n S → Marked marks met → WalkedRoots S t met marks₁
+  pub walks : (P : Program) (n : ℕ) (S : State) (rest met : List ℕ) → Held s S rest → Fits mosts P n S → Marked marks met
+      → WalkedAll S (slotsOf (threadAt S t .frames)) met marks₁
+
+-- and the message that it put
+pub record SeesInFlight (p s : List ℕ) (t : ℕ) (v : Value) : Type 0 where
+  pub is : (P : Program) (n : ℕ) (S : State) (rest : List ℕ) → Loaded p P → Held s S rest → Valid mosts P → Fits mosts P n S → v ≡ inFlight P S t
+
+pub record WalksRoots (p s : List ℕ) (marks : List Bool) (t : ℕ) (marks₁ : List Bool) : Type 0 where
+  pub walks : (P : Program) (n : ℕ) (S : State) (rest met : List ℕ) → Loaded p P → Held s S rest → Valid mosts P → Fits mosts P n S → Marked marks met
+      → WalkedAll S (roots P S t) met marks₁
 
 -- ---- The list
 
@@ -70,6 +82,7 @@ pub record ListsMarked (marks : List Bool) (list : List ℕ) (r : ℕ) (list₁ 
   pub count : r ≡ length numbers
   pub words : list₁ ≡ pad Most.reachList 0 numbers ++ drop Most.reachList list
 
--- the report on the state that a run left
-pub record ReportsState (s : List ℕ) (t : ℕ) (list : List ℕ) (r : Report) (list₁ : List ℕ) : Type 0 where
-  pub reports : (P : Program) (n : ℕ) (S : State) (rest : List ℕ) → Held s S rest → Fits mosts P n S → ReportsOn S t (ltb t (length (S .threads))) list (reportOf r) list₁
+-- the report on the program and the state that a run left
+pub record ReportsState (p s : List ℕ) (t : ℕ) (list : List ℕ) (r : Report) (list₁ : List ℕ) : Type 0 where
+  pub reports : (P : Program) (n : ℕ) (S : State) (rest : List ℕ) → Loaded p P → Held s S rest → Valid mosts P → Fits mosts P n S
+      → ReportsOn P S t (ltb t (length (S .threads))) list (reportOf r) list₁

@@ -1,9 +1,10 @@
 // The reach report: a run, and then every object that a thread reaches.
+mod sending;
 mod walking;
 
 use run::Answer;
 use walking::list_marked;
-use walking::walk_thread;
+use walking::walk_roots;
 ghost use mathlib.Core.Path.{_≡_};
 ghost use Rattle.rules.specs.Mosts.{mosts};
 ghost use Rattle.rules.specs.Calls.{reachCall, ReachReport, programAfter, stateAfter};
@@ -42,22 +43,22 @@ pub fn reach(
     let answer = run::run(text, turns, program, state);
     match answer {
         Answer::Refused(number, line) => Report::Refused(number, line),
-        Answer::Finished(_) => report_state(state, t, list),
-        Answer::Stuck(_) => report_state(state, t, list),
-        Answer::Open(_) => report_state(state, t, list),
-        Answer::Stopped(_, _, _, _, _) => report_state(state, t, list),
+        Answer::Finished(_) => report_state(program, state, t, list),
+        Answer::Stuck(_) => report_state(program, state, t, list),
+        Answer::Open(_) => report_state(program, state, t, list),
+        Answer::Stopped(_, _, _, _, _) => report_state(program, state, t, list),
     }
 }
 
-// On the state that a run left.
-fn report_state(s: &[u16], t: usize, list: &mut [u16]) -> Report
-    requires { ⌜ (8192 ≤ length (now s)) × (256 ≤ length (now list)) ⌝ }
-    ensures { λ r. ⌜ ReportsState (now (s .entry)) t (now (list .entry)) r (now (list .exit)) ⌝ }
+// On the program and the state that a run left.
+fn report_state(p: &[u16], s: &[u16], t: usize, list: &mut [u16]) -> Report
+    requires { ⌜ (8192 ≤ length (now p)) × (8192 ≤ length (now s)) × (256 ≤ length (now list)) ⌝ }
+    ensures { λ r. ⌜ ReportsState (now (p .entry)) (now (s .entry)) t (now (list .entry)) r (now (list .exit)) ⌝ }
 {
     if table::thread_count(s) as usize <= t {
         return Report::Refused(rules::numbers::NO_THREAD, 0);
     }
     let mut marks = [false; 256];
-    walk_thread(s, &mut marks, t % 16);
+    walk_roots(p, s, &mut marks, t % 16);
     Report::Reached(list_marked(&marks, list))
 }

@@ -7,7 +7,7 @@ ghost use Prim.Native.Nat.{_+_, _≤_, _<_};
 ghost use lib.ListN.{length, drop, set};
 ghost use Rattle.rules.specs.Lists.{pad};
 ghost use Rattle.table.specs.State.{InTable, Any, frameAt};
-ghost use Rattle.reach.specs.Walking.{unmarked, Walks, Of, WalksThread, ListsMarked};
+ghost use Rattle.reach.specs.Walking.{unmarked, Walks, Of, WalksThread, WalksRoots, ListsMarked};
 
 // Walks a value: an object that is not marked yet is marked, and its fields are walked. The objects not yet marked fall.
 fn walk(s: &[u16], marks: &mut [bool], v: Value)
@@ -49,7 +49,7 @@ fn walk_frame(s: &[u16], marks: &mut [bool], t: usize, k: usize)
 }
 
 // Walks the slots of all frames of thread t.
-pub fn walk_thread(s: &[u16], marks: &mut [bool], t: usize)
+fn walk_thread(s: &[u16], marks: &mut [bool], t: usize)
     requires { ⌜ (8192 ≤ length (now s)) × (256 ≤ length (now marks)) × (t < 16) ⌝ }
     ensures { λ _. ⌜ WalksThread (now (s .entry)) (now (marks .entry)) t (now (marks .exit)) ⌝ }
 {
@@ -59,6 +59,15 @@ pub fn walk_thread(s: &[u16], marks: &mut [bool], t: usize)
         walk_frame(s, marks, t, k % 16);
         k += 1;
     }
+}
+
+// Walks what thread t's report starts from: its slots, in all frames, and the message that it put.
+pub fn walk_roots(p: &[u16], s: &[u16], marks: &mut [bool], t: usize)
+    requires { ⌜ (8192 ≤ length (now p)) × (8192 ≤ length (now s)) × (256 ≤ length (now marks)) × (t < 16) ⌝ }
+    ensures { λ _. ⌜ WalksRoots (now (p .entry)) (now (s .entry)) (now (marks .entry)) t (now (marks .exit)) ⌝ }
+{
+    walk_thread(s, marks, t);
+    walk(s, marks, super::sending::in_flight(p, s, t));
 }
 
 // The first 256 words are zero.

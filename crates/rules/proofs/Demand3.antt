@@ -1,6 +1,6 @@
 -- Demand 3: the stripped script matches the guarded one, since until a guard stops the guarded run each turn leaves the stripped run equal to it, erased.
 use Prim.Native.Nat.{ℕ, zero, suc, _<_}
-use native.Mathlib.Nat.{le-refl, le-step, le-of-suc-le, le-of-suc-le-suc, not-suc-le-zero}
+use native.Mathlib.Nat.{le-refl, le-step, le-of-suc-le}
 use mathlib.Core.Path.{_≡_, refl, sym, ap, _∙_, subst⁻¹}
 use mathlib.Core.Bool.{Bool, true, false, cond, false≢true}
 use mathlib.Core.List.{List, [], _∷_}
@@ -15,20 +15,10 @@ use Rattle.rules.specs.Run.{Stop, none, stopped, Run, fresh, after, adva
 use Rattle.rules.specs.Tables.{stateWords}
 use Rattle.rules.specs.Stripped.{strip, erase, guarded, stripped, StopsAt, GuardStopsBy, Matches}
 use Rattle.rules.proofs.ListLaws.{by-bool, all-weaker}
+use Rattle.rules.proofs.Runs.{step, run-one-more}
 use Rattle.rules.proofs.Simulation.{Follows, Unguarded, sim-turn}
 
--- ---- A run, turn by turn
-
-step : Mosts → Program → Run → ℕ → Run
-step m P r t = advance m P (r .state) (r .moves) (r .stop) t
-
--- one turn more is one step more
-run-one-more : (m : Mosts) (P : Program) (r : Run) (ts : List ℕ) (i : ℕ) → i < length ts
-    → runFrom m P r (take (suc i) ts) ≡ step m P (runFrom m P r (take i ts)) (getD ts i 0)
-unfolding runFrom step
-run-one-more m P r [] i h = absurd (not-suc-le-zero h)
-run-one-more m P r (t ∷ ts) zero h = refl
-run-one-more m P r (t ∷ ts) (suc i) h = run-one-more m P (step m P r t) ts i (le-of-suc-le-suc h)
+-- ---- A run that has stopped
 
 -- a run that has stopped stays as it stopped
 stop-stays : (m : Mosts) (P : Program) (S : State) (n : ℕ) (k : Stop) (t : ℕ) → (k ≡ none) ⊎ (advance m P S n k t .stop ≡ k)

@@ -211,7 +211,7 @@ module _ (o c : ℕ) where
   value-range : {os : List Object} {vs left : List Value} {w : Operand} {v : Value} → Gave os vs w v left → Every (InRange o c) vs → InRange o c v
   value-range {vs = vs} {w = w} gave slots = subst (InRange o c) (gave .value) (slot-range vs (slotOf w) slots)
 
-  left-range : {os : List Object} {vs left : List Value} {v : Value} (w : Operand) → Gave os vs w v left → Every (InRange o c) vs → Every (InRange o c) left
+  pub left-range : {os : List Object} {vs left : List Value} {v : Value} (w : Operand) → Gave os vs w v left → Every (InRange o c) vs → Every (InRange o c) left
   left-range (reads s) gave slots = rw (gave .slots) slots
   left-range {vs = vs} (takes s) gave slots = rw (gave .slots) (every-set (InRange o c) vs s Absent tt slots)
 

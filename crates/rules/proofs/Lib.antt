@@ -9,14 +9,19 @@ pub mod Printing
 pub mod OneForm
 pub mod Scanned
 pub mod Accepted
--- the inversion of a moving turn; the state fits its program
+-- the inversion of a moving turn; what it leaves of other threads; the state fits its program
 pub mod Moves
+pub mod OtherThreads
 pub mod Keeps
+-- a run, turn by turn
+mod Runs
 -- one turn of the stripped script follows the guarded one; demand 3
 pub mod Simulation
 pub mod Demand3
 -- reach as a relation and its walk; the words of both tables
 pub mod Counts
 pub mod Walks
+-- a message is its sender's until it is received
+pub mod InFlight
 pub mod TableWords
 pub mod Theorems

@@ -1,10 +1,15 @@
 -- What the orders of refusals and checks and the four "Readings that sound reasonable" come to: cases in which another order or reading
--- would give something else, computed from their texts.
-use mathlib.Core.Path.{refl}
-use mathlib.Core.List.{List, [], _∷_}
+-- would give something else, computed from their texts; and what messages in flight add to the reports.
+use Prim.Native.Nat.{ℕ}
+use Prim.Native.String as S
+use mathlib.Core.Path.{_≡_, refl}
+use mathlib.Core.List.{List, [], _∷_, map}
+use Rattle.rules.specs.Mosts.{mosts}
 use Rattle.rules.specs.Text.{bytes}
-use Rattle.rules.specs.Run.{refused, ended, halted, stuck, openEnd}
-use Rattle.rules.proofs.Computing.{Case, guarded, prints, answers, AllHold, computed}
+use Rattle.rules.specs.Reading.{Reading, turnedAway, accepted, script}
+use Rattle.rules.specs.Run.{run, refused, ended, halted, stuck, openEnd}
+use Rattle.rules.specs.Reach.{roots, reachList}
+use Rattle.rules.proofs.Computing.{Case, guarded, prints, answers, AllHold, computed, reaches-objects}
 
 refusals : List Case
 refusals =
@@ -64,3 +69,38 @@ cases =
 every-case : AllHold cases
 unfolding cases computed
 every-case = refl
+
+-- ---- Reach reports (document 02, L1)
+
+-- what a thread reaches after these turns
+record Reach : Type 0 where
+  text : S.String
+  turns : List ℕ
+  thread : ℕ
+  reached : List ℕ
+
+reachedIn : List ℕ → ℕ → Reading → List ℕ
+reachedIn ts t (turnedAway k n) = []
+reachedIn ts t (accepted P) = let S = run mosts P ts .state in reachList (S .objects) (roots P S t)
+
+-- thread 0 sends object 1, which holds object 0; thread 1 receives it and sends it back
+echo : S.String
+echo =
+    "(kind (fields 0) (does))\n(kind (fields 1) (does))\n(thread)\n(let (spawn 1))\n(let (new iso 0))\n(let (new iso 1 (take 2)))\n(let (send 1 (take 3)))\n(give (read 1))\n(thread)\n(let (recv 0))\n(let (send 0 (take 1)))\n(give (read 0))\n"
+
+reports : List Reach
+reports =
+    -- the message in the channel, and what it reaches, is its sender's; it is not yet the receiver's
+    record { text = echo; turns = 0 ∷ 0 ∷ 0 ∷ 0 ∷ []; thread = 0; reached = 1 ∷ 0 ∷ [] }
+    ∷ record { text = echo; turns = 0 ∷ 0 ∷ 0 ∷ 0 ∷ 0 ∷ []; thread = 1; reached = [] }
+    -- received: the sender, which still waits, no longer reaches it
+    ∷ record { text = echo; turns = 0 ∷ 0 ∷ 0 ∷ 0 ∷ 1 ∷ []; thread = 0; reached = [] }
+    ∷ record { text = echo; turns = 0 ∷ 0 ∷ 0 ∷ 0 ∷ 1 ∷ []; thread = 1; reached = 1 ∷ 0 ∷ [] }
+    -- the very same object is in the channel again, under another number: it is the other sender's
+    ∷ record { text = echo; turns = 0 ∷ 0 ∷ 0 ∷ 0 ∷ 1 ∷ 1 ∷ []; thread = 0; reached = [] }
+    ∷ record { text = echo; turns = 0 ∷ 0 ∷ 0 ∷ 0 ∷ 1 ∷ 1 ∷ []; thread = 1; reached = 1 ∷ 0 ∷ [] }
+    ∷ []
+
+every-report : map (λ (c : Reach). reachedIn (c .turns) (c .thread) (script mosts (bytes (c .text)))) reports ≡ map (λ (c : Reach). c .reached) reports
+unfolding echo reports reachedIn computed reaches-objects
+every-report = refl

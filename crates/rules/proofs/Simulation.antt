@@ -269,7 +269,7 @@ sim-let m P H (recv s) = sim-recv H s
 
 -- ---- The line of the stripped script is the line of the script, stripped
 
-stripLine : Line → Line
+unfoldable pub stripLine : Line → Line
 stripLine (bind e) = bind (stripExpr e)
 stripLine (give w) = give w
 
@@ -283,7 +283,7 @@ blockAt-stripped : (P : Program) (b : ℕ) → blockAt (strip P) b ≡ stripBloc
 unfolding blockAt strip stripBlock
 blockAt-stripped P b = List·getD-map stripBlock (P .blocks) b noBlock
 
-lineAt-stripped : (P : Program) (b l : ℕ) → lineAt (strip P) b l ≡ stripLine (lineAt P b l)
+pub lineAt-stripped : (P : Program) (b l : ℕ) → lineAt (strip P) b l ≡ stripLine (lineAt P b l)
 unfolding lineAt stripBlock
 lineAt-stripped P b l = rw (blockAt-stripped P b) (lineOf-stripped _ _ l)
 

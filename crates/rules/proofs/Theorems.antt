@@ -16,10 +16,12 @@ use Rattle.rules.specs.Tables.{programWords, stateWords}
 use Rattle.rules.specs.Stripped.{Matches}
 use Rattle.rules.specs.Valid.{Valid}
 use Rattle.rules.specs.Fits.{Fits}
+use Rattle.rules.specs.InFlight.{SendersKeep}
 use Rattle.rules.proofs.Printing.{scan-prints}
 use Rattle.rules.proofs.Accepted.{accepted-valid, accepted-lines}
 use Rattle.rules.proofs.Keeps.{keeps-run, moves-few, fits-run}
 use Rattle.rules.proofs.Demand3.{stripped-matches}
+use Rattle.rules.proofs.InFlight.{senders-keep}
 use Rattle.rules.proofs.TableWords.{In16Bits, program-words-small, state-words-small}
 
 module _ (text : List ℕ) (P : Program) (is-accepted : script mosts text ≡ accepted P) where
@@ -49,3 +51,7 @@ module _ (text : List ℕ) (P : Program) (is-accepted : script mosts text ≡ ac
     -- "For every accepted script and every list of up to 32,768 turns from a fresh start, .. the stripped script .. matches the guarded one."
     pub demand-3 : Matches mosts P ts
     demand-3 = stripped-matches mosts P ts
+
+    -- Document 02, L1: "a parcel is the sender's until it is taken", and so is what it reaches in the reports.
+    pub messages-are-their-senders : SendersKeep mosts P ts
+    messages-are-their-senders = senders-keep mosts P ts valid (omega arith)

@@ -11,14 +11,14 @@ use Rattle.rules.specs.declared.Value.{Value}
 use Rattle.rules.specs.declared.Value.the-variants.{Absent, Obj, Chan}
 use Rattle.rules.specs.declared.Mosts.{Mosts}
 use Rattle.rules.specs.Lists.{among, Every}
-use Rattle.rules.specs.Script.{Program}
-use Rattle.rules.specs.State.{Object, noObject, Frame, State, objectAt, threadAt}
-use Rattle.rules.specs.Stripped.{eraseObject, erase}
+use Rattle.rules.specs.Script.{Program, value, field, swap, call, new, cast, spawn, send, recv, Line, bind, give, lineAt}
+use Rattle.rules.specs.State.{Object, noObject, Frame, Sender, ready, waiting, State, objectAt, threadAt, channelAt}
+use Rattle.rules.specs.Stripped.{stripExpr, strip, eraseObject, erase}
 use Rattle.rules.specs.Fits.{InRange, ObjectFits, Fits}
-use Rattle.rules.specs.Reach.{countOne, count, times, Reaches, here, more, ReachedFrom, slotsOf, roots, Lists, Walked, done, skip, meet, walk, visit, visits, reachList}
-use Rattle.rules.proofs.ListLaws.{by-bool, every-map, every-get, every-append}
-use Rattle.rules.proofs.Keeps.{object-in-range, each-frame, thread-fits}
-use Rattle.rules.proofs.Simulation.{object-erased}
+use Rattle.rules.specs.Reach.{countOne, count, times, Reaches, here, more, ReachedFrom, slotsOf, messageOf, messageOn, sendTarget, putBy, inFlight, roots, Lists, Walked, done, skip, meet, walk, visit, visits, reachList}
+use Rattle.rules.proofs.ListLaws.{by-bool, every-map, every-get, every-append, every-snoc}
+use Rattle.rules.proofs.Keeps.{object-in-range, each-frame, thread-fits, channel-fits}
+use Rattle.rules.proofs.Simulation.{object-erased, stripLine, lineAt-stripped}
 use Rattle.rules.proofs.Counts.{sum-cases, object-self, object-equal, object-met, count-append, times-snoc, count-range, times-among, times-not-among, few-entries}
 
 reaches-trans : (os : List Object) (a b x : ℕ) → Reaches os a b → Reaches os b x → Reaches os a x
@@ -185,11 +185,27 @@ module _ {m : Mosts} {P : Program} {n : ℕ} {S : State} (fits : Fits m P n S) w
       of-object : (o : Object) → ObjectFits P (length (S .objects)) (length (S .threads)) o → Every (Made S) (o .fields)
       of-object o h = every-map (object-in-range _ _) (o .fields) (h .fields)
 
-  pub roots-made : (t : ℕ) → Every (Made S) (roots S t)
+  message-made : (i : ℕ) (v : Value) → Made S (messageOn S i v)
+  unfolding messageOn messageOf
+  message-made i Absent = tt
+  message-made i (Obj k) = tt
+  message-made i (Chan c) = by-bool (eqb (channelAt S c .number) i) (λ e. rw e (channel-fits fits c .message)) (λ e. rw e tt)
+
+  put-made : (d : Sender) (fs : List Frame) → Made S (putBy P S d fs)
+  unfolding putBy
+  put-made ready fs = tt
+  put-made (waiting i) [] = tt
+  put-made (waiting i) (f ∷ fs) = message-made i (sendTarget (lineAt P (f .block) (f .line)) (f .slots))
+
+  pub in-flight-made : (t : ℕ) → Made S (inFlight P S t)
+  unfolding inFlight
+  in-flight-made t = put-made (threadAt S t .sender) (threadAt S t .frames)
+
+  pub roots-made : (t : ℕ) → Every (Made S) (roots P S t)
   unfolding roots
   roots-made t =
       let fs = threadAt S t .frames in
-      slots-made S fs (every-map (λ f l. l .slots) fs (each-frame P _ _ fs (thread-fits fits t .frames)))
+      every-snoc (Made S) (slotsOf fs) (inFlight P S t) (in-flight-made t) (slots-made S fs (every-map (λ f l. l .slots) fs (each-frame P _ _ fs (thread-fits fits t .frames))))
 
   pub reached-range : (vs : List Value) → Every (Made S) vs → (x : ℕ) → ReachedFrom (S .objects) vs x → x < length (S .objects)
   reached-range vs h x r = through x (r .reaches)
@@ -199,8 +215,8 @@ module _ {m : Mosts} {P : Program} {n : ℕ} {S : State} (fits : Fits m P n S) w
       through y (more {y = z} p k) = count-range _ (length (S .threads)) y (objectAt (S .objects) z .fields) (fields-made z) k
 
   -- whatever the order
-  pub lists-few : (t : ℕ) (out : List ℕ) → Lists (S .objects) (roots S t) out → length out ≤ length (S .objects)
-  lists-few t out l = few-entries (length (S .objects)) out (λ x h. reached-range (roots S t) (roots-made t) x (l .reached x .0 h)) (l .once)
+  pub lists-few : (t : ℕ) (out : List ℕ) → Lists (S .objects) (roots P S t) out → length out ≤ length (S .objects)
+  lists-few t out l = few-entries (length (S .objects)) out (λ x h. reached-range (roots P S t) (roots-made t) x (l .reached x .0 h)) (l .once)
 
 -- ---- capabilities play no part
 
@@ -225,7 +241,38 @@ module _ (os : List Object) where
     visit-erased (suc k) true met n vs = walk-erased k met vs
     visit-erased (suc k) false met n vs = rw (object-erased os n) (walk-erased k (met ++ (n ∷ [])) (objectAt os n .fields ++ vs))
 
--- a thread reaches the same objects, in the same order, in the erased state
-pub reach-erased : (S : State) (t : ℕ) → reachList (erase S .objects) (roots (erase S) t) ≡ reachList (S .objects) (roots S t)
-unfolding reachList erase roots threadAt
-reach-erased S t = rw (visits-erased (S .objects) (length (roots S t))) (walk-erased (S .objects) _ [] (roots S t))
+-- a send stays what it is
+send-stripped : (x : Line) (vs : List Value) → sendTarget (stripLine x) vs ≡ sendTarget x vs
+unfolding sendTarget stripLine stripExpr
+send-stripped (bind (value w)) vs = refl
+send-stripped (bind (field s f)) vs = refl
+send-stripped (bind (swap s f w)) vs = refl
+send-stripped (bind (call s i w)) vs = refl
+send-stripped (bind (new k n ws)) vs = refl
+send-stripped (bind (cast k w)) vs = refl
+send-stripped (bind (spawn b)) vs = refl
+send-stripped (bind (send s w)) vs = refl
+send-stripped (bind (recv s)) vs = refl
+send-stripped (give w) vs = refl
+
+message-erased : (S : State) (i : ℕ) (v : Value) → messageOn (erase S) i v ≡ messageOn S i v
+unfolding messageOn erase channelAt
+message-erased S i Absent = refl
+message-erased S i (Obj n) = refl
+message-erased S i (Chan c) = refl
+
+put-erased : (P : Program) (S : State) (d : Sender) (fs : List Frame) → putBy (strip P) (erase S) d fs ≡ putBy P S d fs
+unfolding putBy
+put-erased P S ready fs = refl
+put-erased P S (waiting i) [] = refl
+put-erased P S (waiting i) (f ∷ fs) =
+    rw (lineAt-stripped P (f .block) (f .line), send-stripped (lineAt P (f .block) (f .line)) (f .slots)) (message-erased S i (sendTarget (lineAt P (f .block) (f .line)) (f .slots)))
+
+roots-erased : (P : Program) (S : State) (t : ℕ) → roots (strip P) (erase S) t ≡ roots P S t
+unfolding roots inFlight erase threadAt
+roots-erased P S t = ap (λ v. slotsOf (threadAt S t .frames) ++ (v ∷ [])) (put-erased P S (threadAt S t .sender) (threadAt S t .frames))
+
+-- a thread reaches the same objects, in the same order, in the erased state of the stripped script
+pub reach-erased : (P : Program) (S : State) (t : ℕ) → reachList (erase S .objects) (roots (strip P) (erase S) t) ≡ reachList (S .objects) (roots P S t)
+unfolding reachList erase
+reach-erased P S t = rw (roots-erased P S t, visits-erased (S .objects) (length (roots P S t))) (walk-erased (S .objects) _ [] (roots P S t))

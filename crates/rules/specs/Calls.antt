@@ -10,6 +10,7 @@ use Rattle.rules.specs.Mosts as Most
 use Rattle.rules.specs.Numbers as No
 use Rattle.rules.specs.Lists.{pad}
 use Rattle.rules.specs.Reading.{Reading, turnedAway, accepted, reading}
+use Rattle.rules.specs.Script.{Program}
 use Rattle.rules.specs.State.{State}
 use Rattle.rules.specs.Run.{run, Answer, refused, answer}
 use Rattle.rules.specs.Reach.{roots, Lists}
@@ -58,10 +59,10 @@ pub data Report : Type 0 where
   unreported : (number line : ℕ) → Report
   reached : (count : ℕ) → Report
 
--- on the state S and a thread that was started: the order of `objects` is free
-pub record Reports (S : State) (t : ℕ) (list : List ℕ) (report : Report) (after : List ℕ) : Type 0 where
+-- on the state S of a run of P and a thread that was started: the order of `objects` is free
+pub record Reports (P : Program) (S : State) (t : ℕ) (list : List ℕ) (report : Report) (after : List ℕ) : Type 0 where
   pub objects : List ℕ
-  pub lists : Lists (S .objects) (roots S t) objects
+  pub lists : Lists (S .objects) (roots P S t) objects
   pub answers : report ≡ reached (length objects)
   pub leaves : after ≡ pad Most.reachList 0 objects ++ drop Most.reachList list
 
@@ -71,10 +72,10 @@ pub record Unreported (number line : ℕ) (list : List ℕ) (report : Report) (a
   pub leaves : after ≡ list
 
 -- "17 no thread: report on a thread never started", "17 comes last"
-abbrev pub ReportsOn : State → ℕ → Bool → List ℕ → Report → List ℕ → Type 0
-ReportsOn S t true list report after = Reports S t list report after
-ReportsOn S t false list report after = Unreported No.noThread 0 list report after
+abbrev pub ReportsOn : Program → State → ℕ → Bool → List ℕ → Report → List ℕ → Type 0
+ReportsOn P S t true list report after = Reports P S t list report after
+ReportsOn P S t false list report after = Unreported No.noThread 0 list report after
 
 abbrev pub ReachReport : Mosts → (turns : List ℕ) → (thread : ℕ) → Reading → List ℕ → Report → List ℕ → Type 0
 ReachReport m turns t (turnedAway k n) list report after = Unreported k n list report after
-ReachReport m turns t (accepted P) list report after = let S = run m P turns .state in ReportsOn S t (ltb t (length (S .threads))) list report after
+ReachReport m turns t (accepted P) list report after = let S = run m P turns .state in ReportsOn P S t (ltb t (length (S .threads))) list report after

@@ -19,8 +19,9 @@ pub mod Fits
 pub mod Tables
 -- "Guarded and stripped": demand 3
 pub mod Stripped
--- the reach report; what the calls answer and leave in what was lent
+-- the reach report; messages that are sent and not yet received; what the calls answer and leave in what was lent
 pub mod Reach
+pub mod InFlight
 pub mod Calls
 -- "The printed run": the listing, and boxrun's own input
 pub mod Listing

@@ -1,4 +1,5 @@
--- The reach of a thread: "every object reached from the thread's slots, in all frames, and on through fields".
+-- The reach of a thread: "every object reached from the thread's slots, in all frames, and on through fields"; and, by document 02's L1, from the
+-- message that it put and that no thread has received yet.
 use Prim.Native.Nat.{ℕ, zero, suc, _+_, _≤_}
 use mathlib.Core.Path.{_≡_}
 use mathlib.Core.Bool.{Bool, true, false, cond}
@@ -9,7 +10,8 @@ use lib.ListN.{length}
 use Rattle.rules.specs.declared.Value.{Value}
 use Rattle.rules.specs.declared.Value.the-variants.{Absent, Obj, Chan}
 use Rattle.rules.specs.Lists.{among}
-use Rattle.rules.specs.State.{Object, Frame, State, objectAt, threadAt}
+use Rattle.rules.specs.Script.{Program, value, field, swap, call, new, cast, spawn, send, recv, Line, bind, give, lineAt}
+use Rattle.rules.specs.State.{Object, Frame, Sender, ready, waiting, Channel, State, objectAt, threadAt, channelAt, slotAt}
 
 -- 1 where the value is object n; and how many of these values are
 abbrev pub countOne : ℕ → Value → ℕ
@@ -31,13 +33,49 @@ pub record ReachedFrom (os : List Object) (vs : List Value) (x : ℕ) : Type 0 w
   pub held : 1 ≤ count first vs
   pub reaches : Reaches os first x
 
--- where a thread's reach starts: its slots, in all frames. "Messages in channels are not followed. A finished thread reaches nothing."
+-- ---- Where a thread's reach starts
+
+-- "from the thread's slots, in all frames"; "A finished thread reaches nothing."
 unfoldable pub slotsOf : List Frame → List Value
 slotsOf [] = []
 slotsOf (f ∷ fs) = f .slots ++ slotsOf fs
 
-unfoldable pub roots : State → ℕ → List Value
-roots S t = slotsOf (threadAt S t .frames)
+-- message i of a channel, "as long as the channel still holds that message"; else Absent, which an empty channel holds too
+unfoldable pub messageOf : Channel → ℕ → Value
+messageOf ch i = cond (eqb (ch .number) i) (ch .message) Absent
+
+-- the same of the channel that a slot holds
+unfoldable pub messageOn : State → ℕ → Value → Value
+messageOn S i Absent = Absent
+messageOn S i (Obj n) = Absent
+messageOn S i (Chan c) = messageOf (channelAt S c) i
+
+-- what the target slot of a send holds
+unfoldable pub sendTarget : Line → List Value → Value
+sendTarget (bind (value w)) vs = Absent
+sendTarget (bind (field s f)) vs = Absent
+sendTarget (bind (swap s f w)) vs = Absent
+sendTarget (bind (call s i w)) vs = Absent
+sendTarget (bind (new k n ws)) vs = Absent
+sendTarget (bind (cast k w)) vs = Absent
+sendTarget (bind (spawn b)) vs = Absent
+sendTarget (bind (send s w)) vs = slotAt vs s
+sendTarget (bind (recv s)) vs = Absent
+sendTarget (give w) vs = Absent
+
+-- L1: "the report for a waiting sender also starts from the message that it put"
+unfoldable pub putBy : Program → State → Sender → List Frame → Value
+putBy P S ready fs = Absent
+putBy P S (waiting i) [] = Absent
+putBy P S (waiting i) (f ∷ fs) = messageOn S i (sendTarget (lineAt P (f .block) (f .line)) (f .slots))
+
+unfoldable pub inFlight : Program → State → ℕ → Value
+inFlight P S t = putBy P S (threadAt S t .sender) (threadAt S t .frames)
+
+unfoldable pub roots : Program → State → ℕ → List Value
+roots P S t = slotsOf (threadAt S t .frames) ++ (inFlight P S t ∷ [])
+
+-- ---- The list
 
 -- how often the number n stands in a list
 unfoldable pub times : ℕ → List ℕ → ℕ

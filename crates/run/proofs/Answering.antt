@@ -19,16 +19,15 @@ use Rattle.rules.specs.Run.{Stop, none, stopped, run, finished, stuck, openEnd,
 use Rattle.rules.specs.Tables.{programWords, stateWords}
 use Rattle.rules.specs.Calls.{longText, longTurns, shortTable, readCall, programAfter, runCall, runAnswer, stateAfter}
 use Rattle.rules.proofs.ListLaws.{impossible, by-bool}
-use Rattle.rules.proofs.Accepted.{accepted-valid, reading-accepted, table-lines}
+use Rattle.rules.proofs.Accepted.{accepted-valid, reading-accepted}
 use Rattle.rules.proofs.Keeps.{fits-run}
 use Rattle.rules.proofs.Demand3.{stripped-matches}
 use Rattle.rules.proofs.TableWords.{program-words-length, state-words-length}
 use Rattle.table.specs.State.{Held}
-use Rattle.table.proofs.ProgramTable.{program-words-by-lines}
-use Rattle.table.proofs.ProgramLines.{blocks-of-lines}
 use Rattle.reader.specs.declared.Answer.the-variants.{Read, Refused}
 use Rattle.reader.specs.Answers as Reader
 use Rattle.turn.specs.Performed.{Loaded}
+use Rattle.turn.proofs.Located.{words-loaded}
 use Rattle.run.specs.declared.Answer.{Answer}
 use Rattle.run.specs.declared.Answer.the-variants as A
 use Rattle.run.specs.declared.playing.Played.{Played}
@@ -79,18 +78,6 @@ module _ (text program : List ℕ) (P : Program) (is : readCall mosts text progr
   pub valid : Valid mosts P
   unfolding readCall
   valid = accepted-valid mosts text P (reading-accepted mosts _ _ text P is .2)
-
-  pub loaded : {p : List ℕ} → p ≡ programWords P ++ drop Most.words program → Loaded p P
-  loaded words =
-      record {
-        counts = _;
-        rest = drop Most.words program;
-        filled = record {
-          words = words ∙ ap (λ (ws : List ℕ). ws ++ drop Most.words program) (program-words-by-lines P);
-          lines = table-lines P valid;
-          blocks = rw (blocks-of-lines P) (valid .few-blocks);
-        };
-      }
 
 -- ---- The turns played, from the fresh start
 
@@ -182,8 +169,8 @@ module _ (text turns program state : List ℕ) {p : List ℕ} (read : Read ≡ R
   pub ran : {s : List ℕ} {r : Answer} → RunsProgram p turns state r s → Ran (readCall mosts text program) turns program state r p s
   ran runs =
       let P = is-read .program in
-      let of-program = loaded text program P (is-read .is) program-there in
       let ok = valid text program P (is-read .is) in
+      let of-program = words-loaded P ok (drop Most.words program) program-there in
       rw (is-read .is)
       (record {
         answers = runs .answers P of-program ok;

@@ -20,6 +20,7 @@ use Rattle.rules.specs.Run as R
 use Rattle.rules.specs.Run.{none, Run, blockOf, lineNow, after, advance, runFrom, run}
 use Rattle.rules.specs.Fits.{Fits}
 use Rattle.rules.proofs.ListLaws.{impossible, by-bool, every-get, every-replicate}
+use Rattle.rules.proofs.OtherThreads.{turn-keeps}
 use Rattle.rules.proofs.Keeps.{here-fits, keeps-turn, keeps-run}
 use Rattle.table.specs.declared.state.Here.{Here}
 use Rattle.table.specs.State.{Held, Sees, Any, Placed, OnLine, Stands, frameAt}
@@ -34,7 +35,6 @@ use Rattle.checks.specs.declared.lines.Step.the-variants.{Next, Stay, Turned, W
 use Rattle.run.specs.declared.playing.Played.the-variants.{Through, Stopped}
 use Rattle.turn.specs.Performed.{StandsAt, Went, to-next, to-same, Performed, moved, waited, stopped, Loaded, PerformsHere}
 use Rattle.run.specs.Played.{Plays}
-use Rattle.run.proofs.OtherThreads.{turn-keeps}
 
 -- ---- The run, turn by turn
 

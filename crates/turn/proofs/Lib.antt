@@ -1,6 +1,6 @@
 -- Why a turn on the tables does what the rules say.
 -- a rule's result as the step taken; what a line says of the slots that are filled
-mod Steps
+pub mod Steps
 -- the frame where a thread stands, edited
 mod Frames
 -- the lines, by what they read and write
@@ -11,7 +11,7 @@ mod CallLines
 mod ChannelLines
 mod SendLines
 -- the line that a row's words tell
-mod Dispatch
+pub mod Dispatch
 -- where a turn stands; which turns wait
 pub mod Located
 mod Waiting

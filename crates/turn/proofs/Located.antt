@@ -1,8 +1,8 @@
--- A turn performs the line where its thread stands, which the tables tell; a thread without a frame idles.
+-- A turn performs the line where its thread stands, which the tables tell; a thread without a frame idles. A program's words are a table that is loaded.
 use Prim.Native.Nat.{ℕ, suc, _≤_}
 use native.Mathlib.Omega.{arith}
 use mathlib.Core.Path.{_≡_, refl, sym, ap, _∙_, subst}
-use mathlib.Core.List.{List, [], _∷_}
+use mathlib.Core.List.{List, [], _∷_, _++_}
 use lib.ListN.{length, List·getD-eq-default}
 use Rattle.rules.specs.Mosts.{mosts}
 use Rattle.rules.specs.Script.{Program, lineAt}
@@ -11,14 +11,33 @@ use Rattle.rules.specs.State.{Frame, Sender, Thread, noThread, State, threadAt}
 use Rattle.rules.specs.Turn as R
 use Rattle.rules.specs.Turn.{Res, ok, wait, turnOf, turn}
 use Rattle.rules.specs.Fits.{Fits}
+use Rattle.rules.specs.Tables.{programWords}
+use Rattle.rules.proofs.Accepted.{table-lines}
 use Rattle.rules.proofs.Keeps.{here-fits}
 use Rattle.table.specs.declared.state.Here.{Here}
 use Rattle.table.specs.State.{Held, Sees, Any, OnLine, Stands}
+use Rattle.table.proofs.ProgramTable.{program-words-by-lines}
+use Rattle.table.proofs.ProgramLines.{blocks-of-lines}
 use Rattle.checks.specs.Checked.{resultOf, hereAt, Stand}
 use Rattle.checks.proofs.Standing.{frame-is}
 use Rattle.checks.specs.declared.lines.Step.{Step}
 use Rattle.checks.specs.declared.lines.Step.the-variants.{Waits}
 use Rattle.turn.specs.Performed.{Loaded, Performed, PerformsHere, Went, to-next, to-same, to-other, Taken, moved, waited, stopped, TakesTurn}
+
+-- ---- The program's table
+
+-- the words of a valid program, and whatever stands past them
+pub words-loaded : (P : Program) → Valid mosts P → {p : List ℕ} (rest : List ℕ) → p ≡ programWords P ++ rest → Loaded p P
+words-loaded P valid rest words =
+    record {
+      counts = _;
+      rest = rest;
+      filled = record {
+        words = words ∙ ap (λ (ws : List ℕ). ws ++ rest) (program-words-by-lines P);
+        lines = table-lines P valid;
+        blocks = rw (blocks-of-lines P) (valid .few-blocks);
+      };
+    }
 
 -- ---- No frame
 

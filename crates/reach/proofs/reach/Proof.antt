@@ -1,6 +1,6 @@
 -- `reach::reach` meets its contract: 1 and 9 come first, then what turns the run away; a run that was made is reported on.
 use denote.Ref.{now}
-use Rattle.reach.proofs.Reporting.{text-long, turns-long, list-short, as-run, of-same, turned-away, turned-away-by-run, words-there, told}
+use Rattle.reach.proofs.Reporting.{text-long, turns-long, list-short, as-run, of-same, turned-away, turned-away-by-run, tables-there, told}
 use borrow.Author.Needs.{needs}
 use Rattle.reach.proofs.reach.Statement.{statement}
 use Rattle.reach.proofs.reach.Tie as tie
@@ -37,44 +37,48 @@ enum-told c = search needs
 
 report-state-requires : tie.Need-report-state-requires
 report-state-requires c κs =
-    let at-run = c .before .before .before .before .before .before .before .before in
+    let at-run = c .before .before .before .before .before .before .before .before .before in
     let at-if3 = at-run .before .before .before in
     let a = at-if3 .before .before .before .before .before .before .before .before .args in
     let run = at-run .run in
-    (words-there (now (a .text)) (now (a .turns)) (now (a .program)) (now (a .state)) (run .ensures .0) (run .ensures .1 .1 .0) (c .before .before .enum-told .given .1) tt, at-if3 .if3 .left)
+    let there = tables-there (now (a .text)) (now (a .turns)) (now (a .program)) (now (a .state)) (run .ensures .0) (run .ensures .1 .1 .0) (c .before .before .before .enum-told .given .1) tt (run .ensures .1 .0) in
+    (there .0, there .1, at-if3 .if3 .left)
 
 enum-told-2 : tie.Need-enum-told-2
 enum-told-2 c = search needs
 
 report-state-requires-2 : tie.Need-report-state-requires-2
 report-state-requires-2 c κs =
-    let at-run = c .before .before .before .before .before .before .before .before in
+    let at-run = c .before .before .before .before .before .before .before .before .before in
     let at-if3 = at-run .before .before .before in
     let a = at-if3 .before .before .before .before .before .before .before .before .args in
     let run = at-run .run in
-    (words-there (now (a .text)) (now (a .turns)) (now (a .program)) (now (a .state)) (run .ensures .0) (run .ensures .1 .1 .0) (c .before .before .enum-told2 .given .1) tt, at-if3 .if3 .left)
+    let there = tables-there (now (a .text)) (now (a .turns)) (now (a .program)) (now (a .state)) (run .ensures .0) (run .ensures .1 .1 .0) (c .before .before .before .enum-told2 .given .1) tt (run .ensures .1 .0) in
+    (there .0, there .1, at-if3 .if3 .left)
 
 enum-told-3 : tie.Need-enum-told-3
 enum-told-3 c = search needs
 
 report-state-requires-3 : tie.Need-report-state-requires-3
 report-state-requires-3 c κs =
-    let at-run = c .before .before .before .before .before .before .before .before in
+    let at-run = c .before .before .before .before .before .before .before .before .before in
     let at-if3 = at-run .before .before .before in
     let a = at-if3 .before .before .before .before .before .before .before .before .args in
     let run = at-run .run in
-    (words-there (now (a .text)) (now (a .turns)) (now (a .program)) (now (a .state)) (run .ensures .0) (run .ensures .1 .1 .0) (c .before .before .enum-told3 .given .1) tt, at-if3 .if3 .left)
+    let there = tables-there (now (a .text)) (now (a .turns)) (now (a .program)) (now (a .state)) (run .ensures .0) (run .ensures .1 .1 .0) (c .before .before .before .enum-told3 .given .1) tt (run .ensures .1 .0) in
+    (there .0, there .1, at-if3 .if3 .left)
 
 enum-told-4 : tie.Need-enum-told-4
 enum-told-4 c = search needs
 
 report-state-requires-4 : tie.Need-report-state-requires-4
 report-state-requires-4 c κs =
-    let at-run = c .before .before .before .before .before .before .before .before in
+    let at-run = c .before .before .before .before .before .before .before .before .before in
     let at-if3 = at-run .before .before .before in
     let a = at-if3 .before .before .before .before .before .before .before .before .args in
     let run = at-run .run in
-    (words-there (now (a .text)) (now (a .turns)) (now (a .program)) (now (a .state)) (run .ensures .0) (run .ensures .1 .1 .0) (c .before .before .enum-told4 .given .1) tt, at-if3 .if3 .left)
+    let there = tables-there (now (a .text)) (now (a .turns)) (now (a .program)) (now (a .state)) (run .ensures .0) (run .ensures .1 .1 .0) (c .before .before .before .enum-told4 .given .1) tt (run .ensures .1 .0) in
+    (there .0, there .1, at-if3 .if3 .left)
 
 same-length : tie.Need-same-length
 same-length c = search needs
@@ -103,7 +107,7 @@ same-length-5 c = search needs
 
 returns-5 : tie.Need-returns-5
 returns-5 c =
-    let at-enum-told = c .before .before .before .before .before in
+    let at-enum-told = c .before .before .before .before .before .before in
     let at-run = at-enum-told .before .before .before .before .before .before in
     let at-if3 = at-run .before .before .before in
     let a = at-if3 .before .before .before .before .before .before .before .before .args in
@@ -124,7 +128,7 @@ same-length-8 c = search needs
 
 returns-6 : tie.Need-returns-6
 returns-6 c =
-    let at-enum-told2 = c .before .before .before .before .before in
+    let at-enum-told2 = c .before .before .before .before .before .before in
     let at-run = at-enum-told2 .before .before .before .before .before .before in
     let at-if3 = at-run .before .before .before in
     let a = at-if3 .before .before .before .before .before .before .before .before .args in
@@ -145,7 +149,7 @@ same-length-11 c = search needs
 
 returns-7 : tie.Need-returns-7
 returns-7 c =
-    let at-enum-told3 = c .before .before .before .before .before in
+    let at-enum-told3 = c .before .before .before .before .before .before in
     let at-run = at-enum-told3 .before .before .before .before .before .before in
     let at-if3 = at-run .before .before .before in
     let a = at-if3 .before .before .before .before .before .before .before .before .args in
@@ -166,7 +170,7 @@ same-length-14 c = search needs
 
 returns-8 : tie.Need-returns-8
 returns-8 c =
-    let at-enum-told4 = c .before .before .before .before .before in
+    let at-enum-told4 = c .before .before .before .before .before .before in
     let at-run = at-enum-told4 .before .before .before .before .before .before in
     let at-if3 = at-run .before .before .before in
     let a = at-if3 .before .before .before .before .before .before .before .before .args in

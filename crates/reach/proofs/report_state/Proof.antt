@@ -1,4 +1,4 @@
--- `reach::report_state` meets its contract: the thread is not started; or its slots are walked from no mark, and what is marked is listed.
+-- `reach::report_state` meets its contract: the thread is not started; or its slots and the message that it put are walked from no mark, and what is marked is listed.
 use Rattle.reach.proofs.Reporting.{not-reported, reported}
 use borrow.Author.Needs.{needs}
 use Rattle.reach.proofs.report_state.Statement.{statement}
@@ -13,11 +13,11 @@ cast-if1 c = search needs
 returns : tie.Need-returns
 returns c = not-reported (c .before .thread-count .ensures .1) (c .if1 .taken)
 
-slice-aggregate-walk-thread : tie.Need-slice-aggregate-walk-thread
-slice-aggregate-walk-thread c = search needs
+slice-aggregate-walk-roots : tie.Need-slice-aggregate-walk-roots
+slice-aggregate-walk-roots c = search needs
 
-walk-thread-requires : tie.Need-walk-thread-requires
-walk-thread-requires c κs = search needs
+walk-roots-requires : tie.Need-walk-roots-requires
+walk-roots-requires c κs = search needs
 
 slice-aggregate-list-marked : tie.Need-slice-aggregate-list-marked
 slice-aggregate-list-marked c = search needs
@@ -30,9 +30,9 @@ same-length c = search needs
 
 returns-2 : tie.Need-returns-2
 returns-2 c =
-    let at-walk-thread = c .before .before .before .before .before .before in
-    let at-thread-count = at-walk-thread .before .before .before in
-    reported (at-thread-count .thread-count .ensures .1) (at-walk-thread .before .before .if1 .left) (at-walk-thread .walk-thread .ensures) (c .before .before .list-marked .ensures)
+    let at-walk-roots = c .before .before .before .before .before .before in
+    let at-thread-count = at-walk-roots .before .before .before in
+    reported (at-thread-count .thread-count .ensures .1) (at-walk-roots .before .before .if1 .left) (at-walk-roots .walk-roots .ensures) (c .before .before .list-marked .ensures)
 
 pub report-state-spec : {M : Type 1} → statement M
 report-state-spec =
@@ -41,8 +41,8 @@ report-state-spec =
     thread-count-requires
     cast-if1
     returns
-    slice-aggregate-walk-thread
-    walk-thread-requires
+    slice-aggregate-walk-roots
+    walk-roots-requires
     slice-aggregate-list-marked
     list-marked-requires
     same-length

@@ -1,0 +1,44 @@
+// The message that a waiting sender put: document 02's L1 counts it as the sender's, as long as the channel holds it.
+use rules::Value;
+ghost use mathlib.Core.Bool.{cond};
+ghost use Prim.Native.Nat.{_+_, _≤_, _<_};
+ghost use lib.Dec.{eqb};
+ghost use lib.ListN.{length};
+ghost use Rattle.rules.specs.declared.Value.the-variants.{Absent};
+ghost use Rattle.rules.specs.State.{channelAt};
+ghost use Rattle.table.specs.State.{InTable, Sees};
+ghost use Rattle.reach.specs.Walking.{SeesInFlight};
+
+// The message of channel c, if its number is the one that a sender whose word is d waits for.
+fn message_for(s: &[u16], c: u16, d: u16) -> Value
+    requires { ⌜ (8192 ≤ length (now s)) × (c < 16) ⌝ }
+    ensures { λ r. ⌜ InTable r ⌝ }
+    ensures { λ r. ⌜ Sees (now (s .entry)) (λ S. InTable (channelAt S c .message)) (λ S. cond (eqb (channelAt S c .number + 1) d) (channelAt S c .message) Absent) r ⌝ }
+{
+    if table::message_number(s, c) as usize + 1 == d as usize {
+        return table::message(s, c);
+    }
+    Value::Absent
+}
+
+// The message that thread t put, if it waits as its sender and the channel still holds it.
+pub fn in_flight(p: &[u16], s: &[u16], t: usize) -> Value
+    requires { ⌜ (8192 ≤ length (now p)) × (8192 ≤ length (now s)) × (t < 16) ⌝ }
+    ensures { λ r. ⌜ InTable r ⌝ }
+    ensures { λ r. ⌜ SeesInFlight (now (p .entry)) (now (s .entry)) t r ⌝ }
+{
+    let n = table::frame_count(s, t);
+    if n == 0 {
+        return Value::Absent;
+    }
+    let h = table::locate(p, s, t, n);
+    if table::part(p, h, 0) != 12 {
+        return Value::Absent; // at no send
+    }
+    let x = table::slot(s, h, table::part(p, h, 1) as usize % 16);
+    match x {
+        Value::Absent => Value::Absent,
+        Value::Obj(_) => Value::Absent,
+        Value::Chan(c) => message_for(s, c, table::sender(s, t)),
+    }
+}
