@@ -1,10 +1,10 @@
-//! The reach report: every object reached from a thread's slots, in all frames, and on through
-//! fields, each once.
+//! The reach report: every object reached from a thread's slots, in all frames, and from the message
+//! that it put and that is not yet taken, and on through fields, each once.
 
 use crate::machine::{run, Run};
 use crate::numbers::*;
 use crate::reading::{lengths, read_lines};
-use crate::state::{State, Value};
+use crate::state::{State, Thread, Value};
 
 /// A report on a run that was made: the run, and how many objects the list then holds, or 17.
 #[derive(Clone, Debug, PartialEq, Eq)]
@@ -54,7 +54,24 @@ pub fn reach(state: &State, thread: usize) -> Result<Vec<u16>, Refusal> {
             walk.visit(*value);
         }
     }
+    walk.visit(in_flight(state, thread));
     Ok(walk.list)
+}
+
+/// "The report for a waiting sender also starts from the message that it put, as long as the channel
+/// still holds that message": its number decides, since another may have taken its place. Once it is
+/// received the channel is empty.
+fn in_flight(state: &State, thread: &Thread) -> Value {
+    let sending = match thread.sending {
+        Some(sending) => sending,
+        None => return Value::Absent,
+    };
+    let channel = state.channel(sending.channel);
+    if channel.number == sending.number {
+        channel.message
+    } else {
+        Value::Absent
+    }
 }
 
 /// The objects, then zeros.

@@ -1,4 +1,5 @@
-//! The reach report: what a thread reaches, in all frames and on through fields, and its refusals.
+//! The reach report: what a thread reaches, in all frames, by a message in flight and on through
+//! fields, and its refusals.
 
 mod common;
 
@@ -20,6 +21,17 @@ fn reached(script: &str, turns: &[u8], thread: usize) -> Vec<u16> {
     let mut objects = list[..count].to_vec();
     objects.sort_unstable();
     objects
+}
+
+/// What threads 0 and 1 reach.
+fn both(script: &str, turns: &[u8]) -> (Vec<u16>, Vec<u16>) {
+    (reached(script, turns, 0), reached(script, turns, 1))
+}
+
+fn is_waiting_sender(script: &str, turns: &[u8], thread: usize) -> bool {
+    run_of(script, turns).state.threads[thread]
+        .sending
+        .is_some()
 }
 
 fn sharing() -> String {
@@ -59,19 +71,189 @@ fn through_fields_each_once() {
     assert_eq!(reached(&sharing(), &[0; 7], 0), vec![0, 1, 2, 3]);
 }
 
-/// The sent object 3 is in the channel, and then with thread 1.
+/// Thread 0 keeps object 0 and sends object 3, which holds object 2, which holds object 1; thread 1
+/// makes object 4 before it receives.
+fn parcel() -> String {
+    text(&[
+        "(kind (fields 0) (does))",
+        "(kind (fields 1) (does))",
+        "(thread)",
+        "(let (spawn 1))",
+        "(let (new imm 0))",
+        "(let (new iso 0))",
+        "(let (new iso 1 (take 3)))",
+        "(let (new iso 1 (take 4)))",
+        "(let (send 1 (take 5)))",
+        "(give (read 2))",
+        "(thread)",
+        "(let (new imm 0))",
+        "(let (recv 0))",
+        "(give (take 2))",
+    ])
+}
+
+/// The sixth turn is the put; until thread 1 receives, every turn leaves the message with thread 0.
 #[test]
-fn messages_are_not_followed() {
-    assert_eq!(reached(&sharing(), &[0; 8], 0), vec![0, 1, 2]);
-    assert_eq!(reached(&sharing(), &[0; 8], 1), vec![]);
-    assert_eq!(
-        reached(&sharing(), &[0, 0, 0, 0, 0, 0, 0, 0, 1], 1),
-        vec![3]
+fn a_message_in_flight_is_its_senders() {
+    let turns = [0, 0, 0, 0, 0, 0, 0, 1, 9, 0];
+    for made in 6..=turns.len() {
+        let others = if made < 8 { vec![] } else { vec![4] };
+        let reports = both(&parcel(), &turns[..made]);
+        assert_eq!(reports, (vec![0, 1, 2, 3], others), "{} turns", made);
+    }
+}
+
+/// Thread 0 is still on its send, first while thread 1 holds the message and then when nobody does.
+#[test]
+fn a_received_message_is_no_longer_its_senders() {
+    let turns = [0, 0, 0, 0, 0, 0, 1, 1, 1];
+    for (made, others) in [(8, vec![1, 2, 3, 4]), (9, vec![])] {
+        assert!(is_waiting_sender(&parcel(), &turns[..made], 0));
+        assert_eq!(both(&parcel(), &turns[..made]), (vec![0], others));
+    }
+    let moved_on = [0, 0, 0, 0, 0, 0, 1, 1, 0];
+    assert!(!is_waiting_sender(&parcel(), &moved_on, 0));
+    assert_eq!(both(&parcel(), &moved_on), (vec![0], vec![1, 2, 3, 4]));
+}
+
+/// Thread 1 makes object 1, receives object 0 and answers on the same channel before thread 0 has
+/// moved on: with its own object, or with the very object that it received.
+#[test]
+fn an_answer_is_not_the_first_senders() {
+    for (answer, got, kept) in [("1", 1, 0), ("2", 0, 1)] {
+        let answers = format!("(let (send 0 (take {})))", answer);
+        let script = sending(
+            "iso",
+            &["(let (recv 1))"],
+            "(give (take 4))",
+            &[
+                "(let (new iso 0))",
+                "(let (recv 0))",
+                &answers,
+                "(give (read 0))",
+            ],
+        );
+        let turns = [0, 0, 0, 1, 1, 1, 0, 0];
+        assert!(is_waiting_sender(&script, &turns[..6], 0));
+        assert_eq!(both(&script, &turns[..6]), (vec![], vec![0, 1]));
+        assert!(!is_waiting_sender(&script, &turns[..7], 0));
+        assert_eq!(both(&script, &turns[..7]), (vec![], vec![0, 1]));
+        assert!(is_waiting_sender(&script, &turns, 1));
+        assert_eq!(both(&script, &turns), (vec![got], vec![kept]));
+    }
+}
+
+/// The same with the parts changed: thread 1 puts object 0 on its own channel, and thread 0, which
+/// spawned it, receives and answers.
+#[test]
+fn an_answer_of_the_spawner_is_not_the_first_senders() {
+    for answer in ["2", "3"] {
+        let script = text(&[
+            "(kind (fields 0) (does))",
+            "(thread)",
+            "(let (spawn 1))",
+            "(let (recv 1))",
+            "(let (new iso 0))",
+            &format!("(let (send 1 (take {})))", answer),
+            "(give (read 1))",
+            "(thread)",
+            "(let (new iso 0))",
+            "(let (send 0 (take 1)))",
+            "(give (read 0))",
+        ]);
+        let turns = [0, 1, 1, 0, 0, 0];
+        assert_eq!(both(&script, &turns[..3]), (vec![], vec![0]));
+        assert!(is_waiting_sender(&script, &turns, 1));
+        assert_eq!(both(&script, &turns), (vec![0, 1], vec![]));
+    }
+}
+
+/// Thread 0 holds two channels, each with its first message: its own, object 1, is in the one that
+/// it sent on; object 0, of the other channel's thread, has the same number.
+#[test]
+fn numbers_count_in_each_channel() {
+    for (sent, other) in [(1, 2), (2, 1)] {
+        let script = text(&[
+            "(kind (fields 0) (does))",
+            "(thread)",
+            "(let (spawn 1))",
+            "(let (spawn 1))",
+            "(let (new iso 0))",
+            &format!("(let (send {} (take 3)))", sent),
+            "(give (read 1))",
+            "(thread)",
+            "(let (new iso 0))",
+            "(let (send 0 (take 1)))",
+            "(give (read 0))",
+        ]);
+        let turns = [0, 0, other, other, 0, 0];
+        assert_eq!(reached(&script, &turns, 0), vec![1]);
+        assert_eq!(reached(&script, &turns, usize::from(other)), vec![0]);
+        assert_eq!(reached(&script, &turns, sent), vec![]);
+    }
+}
+
+/// Thread 1 fills its own channel, which thread 0 holds in a slot: first before a new, then before a
+/// send on it, and then after a turn that found it full.
+#[test]
+fn a_thread_that_has_put_nothing_starts_from_no_message() {
+    let script = sending(
+        "iso",
+        &[],
+        "(give (read 1))",
+        &[
+            "(let (new iso 0))",
+            "(let (send 0 (take 1)))",
+            "(give (read 0))",
+        ],
     );
-    assert_eq!(
-        reached(&sharing(), &[0, 0, 0, 0, 0, 0, 0, 0, 1], 0),
-        vec![0, 1, 2]
-    );
+    assert_eq!(both(&script, &[0, 1, 1]), (vec![], vec![0]));
+    assert_eq!(both(&script, &[0, 1, 1, 0]), (vec![1], vec![0]));
+    assert_eq!(both(&script, &[0, 1, 1, 0, 0]), (vec![1], vec![0]));
+    assert!(!is_waiting_sender(&script, &[0, 1, 1, 0, 0], 0));
+}
+
+/// Thread 1 finishes after the put, or before it; its channel keeps the message.
+#[test]
+fn a_message_in_the_channel_of_a_finished_thread() {
+    let script = sending("iso", &[], "(give (read 1))", &["(give (read 0))"]);
+    for turns in [[0, 0, 0, 1, 0], [0, 1, 0, 0, 0]] {
+        let run = run_of(&script, &turns);
+        assert!(run.state.threads[1].finished());
+        assert_eq!((run.end, run.moves), (End::Stuck, 4));
+        assert_eq!(both(&script, &turns), (vec![0], vec![]));
+    }
+}
+
+/// The method's slot 1 is channel 2, the caller's is channel 1, and both channels hold their first
+/// message: object 0 is thread 1's, object 2 was put by the method on object 1.
+#[test]
+fn a_message_put_by_a_method() {
+    let script = text(&[
+        "(kind (fields 0) (does 3))",
+        "(thread)",
+        "(let (spawn 1))",
+        "(let (spawn 2))",
+        "(let (new imm 0))",
+        "(let (call 3 0 (read 2)))",
+        "(give (read 3))",
+        "(thread)",
+        "(let (new iso 0))",
+        "(let (send 0 (take 1)))",
+        "(give (read 0))",
+        "(thread)",
+        "(let (recv 0))",
+        "(give (take 1))",
+        "(method)",
+        "(let (new iso 0))",
+        "(let (send 1 (take 2)))",
+        "(give (read 1))",
+    ]);
+    let turns = [0, 0, 1, 1, 0, 0, 0, 0, 2];
+    let by_thread = |turns: &[u8]| [0, 1, 2].map(|thread| reached(&script, turns, thread));
+    assert_eq!(by_thread(&turns[..8]), [vec![1, 2], vec![0], vec![]]);
+    assert!(is_waiting_sender(&script, &turns, 0));
+    assert_eq!(by_thread(&turns), [vec![1], vec![0], vec![2]]);
 }
 
 #[test]
@@ -164,10 +346,9 @@ fn threads_may_reach_the_same_object() {
         "(let (recv 0))",
         "(give (read 1))",
     ]);
-    let both = |turns: &[u8]| (reached(&script, turns, 0), reached(&script, turns, 1));
-    assert_eq!(both(&[0, 0, 0, 0]), (vec![0, 1], vec![]));
-    assert_eq!(both(&[0, 0, 0, 0, 1]), (vec![0, 1], vec![0, 1]));
-    assert_eq!(both(&[0, 0, 0, 0, 1, 0, 0]), (vec![], vec![0, 1]));
+    assert_eq!(both(&script, &[0, 0, 0, 0]), (vec![0, 1], vec![]));
+    assert_eq!(both(&script, &[0, 0, 0, 0, 1]), (vec![0, 1], vec![0, 1]));
+    assert_eq!(both(&script, &[0, 0, 0, 0, 1, 0, 0]), (vec![], vec![0, 1]));
 }
 
 /// A chain of objects from one slot, and what is no longer held by any.
@@ -188,6 +369,21 @@ fn a_stopped_run_is_reported_on_as_it_stands() {
     assert!(matches!(report.run.end, End::Stopped(stop) if stop.number == 15));
     assert_eq!((report.run.moves, report.reached), (3, Ok(3)));
     assert_eq!(reached(&script, &[0; 5], 0), vec![0, 1, 2]);
+}
+
+/// Thread 1's cast of its channel stops the run while thread 0's message is in flight.
+#[test]
+fn a_message_in_flight_when_the_run_stops() {
+    let script = sending(
+        "iso",
+        &[],
+        "(give (read 1))",
+        &["(let (cast iso (read 0)))", "(give (read 0))"],
+    );
+    let turns = [0, 0, 0, 1];
+    let run = run_of(&script, &turns);
+    assert!(matches!(run.end, End::Stopped(stop) if (stop.number, stop.thread) == (13, 1)));
+    assert_eq!(both(&script, &turns), (vec![0], vec![]));
 }
 
 /// Method 1 wraps its argument 14 times, method 0 does so 14 times over: one slot holds the whole
