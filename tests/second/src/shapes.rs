@@ -151,7 +151,7 @@ fn dangling(random: &mut Random) -> Shape {
 }
 
 /// Two threads that send and receive on one channel, so that an answer may come before the sender
-/// has moved on.
+/// has moved on; a short list ends there now and then.
 fn answers(random: &mut Random) -> Shape {
     let mut client = String::from("(thread)\n(let (spawn 1))\n(let (new iso 0))\n");
     let mut server = String::from("(thread)\n");
@@ -165,8 +165,8 @@ fn answers(random: &mut Random) -> Shape {
     }
     client.push_str(&format!("(give (take {}))\n", held));
     server.push_str(&format!("(give (read {}))\n", got + 1));
-    let turns = if random.chance(50) {
-        scattered(random, 2)
+    let turns = if random.chance(80) {
+        scattered(random, 2, (5, 60))
     } else {
         list(random)
     };
@@ -176,8 +176,8 @@ fn answers(random: &mut Random) -> Shape {
     )
 }
 
-fn scattered(random: &mut Random, threads: usize) -> Vec<u8> {
-    let length = random.between(20, 120);
+fn scattered(random: &mut Random, threads: usize, (least, most): (usize, usize)) -> Vec<u8> {
+    let length = random.between(least, most);
     (0..length).map(|_| random.below(threads) as u8).collect()
 }
 
@@ -211,7 +211,10 @@ fn foreign_local(random: &mut Random) -> Shape {
         other.push_str(works[random.below(works.len())]);
     }
     other.push_str("(give (read 2))\n(method)\n(give (read 1))\n");
-    (format!("{}{}{}", kinds, own, other), scattered(random, 2))
+    (
+        format!("{}{}{}", kinds, own, other),
+        scattered(random, 2, (20, 120)),
+    )
 }
 
 /// The second thread holds a local for the channel that the first one has filled: guarded it would
