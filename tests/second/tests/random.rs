@@ -1,9 +1,10 @@
-//! Random inputs of fixed seeds: they reach everything, only moves change a state, and demand 3
-//! holds; and the check of demand 3 itself can fail.
+//! Random inputs of fixed seeds: they reach everything, only moves change a state, a message in
+//! flight is its sender's, and demand 3 holds; and the check of demand 3 itself can fail.
 
 mod common;
 
 use common::*;
+use second::checks::{decide, Decision};
 use second::demand3::{check, check_many, check_pair};
 use second::generate;
 use second::graphs::{deep, woven};
@@ -13,8 +14,9 @@ use second::machine::{run, End, Machine, Outcome};
 use second::random::Random;
 use second::reach::reach;
 use second::reading::read_lines;
-use second::script::{Cap, Expr};
+use second::script::{Cap, Expr, Program};
 use second::shapes::Shape;
+use second::state::{State, Value};
 use second::stripped::{erase, strip, strip_text};
 
 const SEED: u64 = 20_260_117;
@@ -134,6 +136,89 @@ fn reach_of_random_runs() {
         }
     }
     assert!(reached_any > 500);
+}
+
+/// Looks at the states that the first turns of many runs leave.
+fn each_state(mut look: impl FnMut(&Program, &State)) {
+    for n in 0..2_000 {
+        if let Ok((program, turns)) = accepted(&generate::input(SEED, n)) {
+            let mut machine = Machine::fresh(&program);
+            for thread in turns.iter().take(100) {
+                if machine.turn(*thread) == Outcome::Moved {
+                    look(&program, &machine.state);
+                }
+            }
+        }
+    }
+}
+
+/// Every message in a channel is reached by a thread that waits as a sender.
+#[test]
+fn every_message_is_a_waiting_senders() {
+    let mut messages = 0;
+    each_state(|_, state| {
+        let is_sender = |thread: &usize| state.threads[*thread].sending.is_some();
+        let senders = (0..state.threads.len()).filter(is_sender);
+        let reports: Vec<_> = senders
+            .map(|thread| reach(state, thread).unwrap())
+            .collect();
+        for channel in &state.channels {
+            if let Value::Obj(number) = channel.message {
+                assert!(reports.iter().any(|objects| objects.contains(&number)));
+                messages += 1;
+            }
+        }
+    });
+    assert!(messages > 500);
+}
+
+/// The message for which a thread would still wait at its turn. The thread stands on the line of its
+/// send, whose target slot holds the channel.
+fn awaited(program: &Program, state: &State, thread: usize) -> Option<Value> {
+    state.threads[thread].sending?;
+    if decide(program, state, thread as u8) != Decision::Wait {
+        return None;
+    }
+    let frame = state.threads[thread].frames.last()?;
+    let line = &program.blocks[usize::from(frame.block)].lets[usize::from(frame.line)];
+    match frame.slots[usize::from(line.target()?)] {
+        Value::Chan(channel) => Some(state.channel(channel).message),
+        Value::Absent | Value::Obj(_) => None,
+    }
+}
+
+/// A report is the one on the same state without messages, with the awaited one back in a slot.
+#[test]
+fn a_message_in_flight_counts_as_if_it_were_in_a_slot() {
+    let (mut in_flight, mut gone, mut replaced) = (0, 0, 0);
+    each_state(|program, state| {
+        for thread in 0..state.threads.len() {
+            let mut other = state.clone();
+            for channel in &mut other.channels {
+                channel.message = Value::Absent;
+            }
+            let message = awaited(program, state, thread);
+            if let Some(frame) = other.threads[thread].frames.last_mut() {
+                frame.slots.extend(message);
+            }
+            let objects = |state: &State| {
+                let mut objects = reach(state, thread).unwrap();
+                objects.sort_unstable();
+                objects
+            };
+            assert_eq!(objects(state), objects(&other));
+            match (message, state.threads[thread].sending) {
+                (Some(_), _) => in_flight += 1,
+                (None, Some(sending)) => {
+                    gone += 1;
+                    let message = state.channel(sending.channel).message;
+                    replaced += u64::from(message != Value::Absent);
+                }
+                (None, None) => {}
+            }
+        }
+    });
+    assert!(in_flight > 500 && gone > 100 && replaced > 20);
 }
 
 /// The shapes of many objects reach all that there can be, and fill all frames.
