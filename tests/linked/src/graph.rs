@@ -58,6 +58,13 @@ impl Graph<'_> {
         reach(&state, thread).map_or(false, |inner| inner.len() < self.objects.len())
     }
 
+    /// Without the message that the thread put, and that its channel still holds, there are fewer.
+    pub fn needs_message(&self, thread: usize) -> bool {
+        let mut state = self.state.clone();
+        state.threads[thread].sending = None;
+        reach(&state, thread).map_or(false, |others| others.len() < self.objects.len())
+    }
+
     /// A slot holds a channel whose message is none of the objects.
     pub fn leaves_message(&self, thread: usize) -> bool {
         let slots = self.state.threads[thread]
@@ -68,6 +75,18 @@ impl Graph<'_> {
             Value::Chan(number) => Some(self.state.channel(*number).message),
             Value::Absent | Value::Obj(_) => None,
         });
-        messages.any(|value| matches!(value, Value::Obj(number) if !self.objects.contains(&number)))
+        messages.any(|value| self.is_left(value))
+    }
+
+    /// The channel of a waiting sender holds another message than its own, none of the objects.
+    pub fn leaves_answer(&self, thread: usize) -> bool {
+        self.state.threads[thread].sending.map_or(false, |sending| {
+            let channel = self.state.channel(sending.channel);
+            channel.number != sending.number && self.is_left(channel.message)
+        })
+    }
+
+    fn is_left(&self, value: Value) -> bool {
+        matches!(value, Value::Obj(number) if !self.objects.contains(&number))
     }
 }

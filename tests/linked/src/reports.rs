@@ -24,7 +24,9 @@ pub struct Counts {
     pub rings: u64,
     pub shared: u64,
     pub outer: u64,
+    pub in_flight: u64,
     pub messages: u64,
+    pub answers: u64,
     pub stopped: u64,
     pub refused: [u64; NO_THREAD as usize + 1],
 }
@@ -61,7 +63,9 @@ impl Counts {
             ("objects in a ring", self.rings),
             ("an object held twice", self.shared),
             ("by an outer frame alone", self.outer),
-            ("a message not followed", self.messages),
+            ("by a message in flight alone", self.in_flight),
+            ("another's message left out", self.messages),
+            ("an answer left out", self.answers),
             ("a stopped run", self.stopped),
         ];
         rows.extend(telling.map(|(name, count)| (name.to_string(), count)));
@@ -82,7 +86,9 @@ impl Counts {
         self.rings += u64::from(graph.has_ring());
         self.shared += u64::from(graph.shares());
         self.outer += u64::from(graph.needs_outer_frames(thread));
+        self.in_flight += u64::from(graph.needs_message(thread));
         self.messages += u64::from(graph.leaves_message(thread));
+        self.answers += u64::from(graph.leaves_answer(thread));
         self.stopped += u64::from(matches!(report.run.end, End::Stopped(_)));
     }
 }
