@@ -90,7 +90,8 @@ uint16_t box_run(const uint8_t *text, size_t text_len,
                  uint8_t *state, size_t state_len,
                  size_t *number, size_t *thread, size_t *block, size_t *line, size_t *moves);
 
-/* Runs a script as box_run does, then lists every object that a thread reaches.
+/* Runs a script as box_run does, then lists every object that a thread reaches. The message that a waiting sender put counts as the sender's
+ * as long as the channel still holds it.
  *
  *   text, turns, program, state   as for box_run
  *   thread    the number of the thread to report on
