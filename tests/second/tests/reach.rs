@@ -73,7 +73,7 @@ fn through_fields_each_once() {
 
 /// Thread 0 keeps object 0 and sends object 3, which holds object 2, which holds object 1; thread 1
 /// makes object 4 before it receives.
-fn parcel() -> String {
+fn chain_sent() -> String {
     text(&[
         "(kind (fields 0) (does))",
         "(kind (fields 1) (does))",
@@ -98,7 +98,7 @@ fn a_message_in_flight_is_its_senders() {
     let turns = [0, 0, 0, 0, 0, 0, 0, 1, 9, 0];
     for made in 6..=turns.len() {
         let others = if made < 8 { vec![] } else { vec![4] };
-        let reports = both(&parcel(), &turns[..made]);
+        let reports = both(&chain_sent(), &turns[..made]);
         assert_eq!(reports, (vec![0, 1, 2, 3], others), "{} turns", made);
     }
 }
@@ -108,12 +108,12 @@ fn a_message_in_flight_is_its_senders() {
 fn a_received_message_is_no_longer_its_senders() {
     let turns = [0, 0, 0, 0, 0, 0, 1, 1, 1];
     for (made, others) in [(8, vec![1, 2, 3, 4]), (9, vec![])] {
-        assert!(is_waiting_sender(&parcel(), &turns[..made], 0));
-        assert_eq!(both(&parcel(), &turns[..made]), (vec![0], others));
+        assert!(is_waiting_sender(&chain_sent(), &turns[..made], 0));
+        assert_eq!(both(&chain_sent(), &turns[..made]), (vec![0], others));
     }
     let moved_on = [0, 0, 0, 0, 0, 0, 1, 1, 0];
-    assert!(!is_waiting_sender(&parcel(), &moved_on, 0));
-    assert_eq!(both(&parcel(), &moved_on), (vec![0], vec![1, 2, 3, 4]));
+    assert!(!is_waiting_sender(&chain_sent(), &moved_on, 0));
+    assert_eq!(both(&chain_sent(), &moved_on), (vec![0], vec![1, 2, 3, 4]));
 }
 
 /// Thread 1 makes object 1, receives object 0 and answers on the same channel before thread 0 has
