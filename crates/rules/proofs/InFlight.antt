@@ -31,7 +31,7 @@ use Rattle.rules.proofs.Keeps.{HereFits, here-fits, slot-range, left-ra
 
 -- ---- What a channel holds
 
--- the channel still holds message i: that is its number, and it is full
+-- channel c still holds message i
 record Held (S : State) (c i : ℕ) : Type 0 where
   number : channelAt S c .number ≡ i
   message : messageOf (channelAt S c) i ≡ channelAt S c .message
@@ -47,17 +47,15 @@ held-full S c i h = ap isAbsent (sym (still-held S c i h .message)) ∙ of-not (
 
 -- ---- Where a sender waits
 
-module _ (P : Program) (S : State) where
-  -- its reach starts from message i of its channel, as long as the channel holds it
-  pub flight-is : {t c i : ℕ} → WaitsOn P S t c i → inFlight P S t ≡ messageOf (channelAt S c) i
-  unfolding inFlight putBy sendTarget messageOn
-  flight-is w = rw (w .sender, w .frames, w .line, w .target) refl
+-- its reach starts from message i of its channel, as long as the channel holds it
+flight-is : (P : Program) (S : State) {t c i : ℕ} → WaitsOn P S t c i → inFlight P S t ≡ messageOf (channelAt S c) i
+unfolding inFlight putBy sendTarget messageOn
+flight-is P S w = rw (w .sender, w .frames, w .line, w .target) refl
 
--- a thread that puts itself ready waits for nothing
+-- a thread that is ready waits on nothing
 ready-waits-not : {i : ℕ} {d : Sender} → d ≡ ready → d ≡ waiting i → ⊥
 ready-waits-not r w = impossible cc
 
--- it waits on one message
 same-head : {f g : Frame} {fs gs xs : List Frame} → xs ≡ f ∷ fs → xs ≡ g ∷ gs → f ≡ g
 same-head a b = cc
 
@@ -70,6 +68,7 @@ same-channel a b = cc
 same-number : {x : Sender} {i j : ℕ} → x ≡ waiting i → x ≡ waiting j → i ≡ j
 same-number a b = cc
 
+-- a thread waits on one message
 one-wait : {P : Program} {S : State} {t c d i j : ℕ} → WaitsOn P S t c i → WaitsOn P S t d j → (c ≡ d) × (i ≡ j)
 one-wait {P} {d = d} w v =
     let frame = same-head (v .frames) (w .frames) in

@@ -23,7 +23,7 @@ one-more [] (suc u) x is-ready = kept refl
 one-more (y ∷ ts) zero x is-ready = kept refl
 one-more (y ∷ ts) (suc u) x is-ready = one-more ts u x is-ready
 
-pub started-other : (S : State) (b u : ℕ) → Other (threadAt S u) (threadAt (started S b) u)
+started-other : (S : State) (b u : ℕ) → Other (threadAt S u) (threadAt (started S b) u)
 unfolding threadAt started
 started-other S b u = one-more (S .threads) u _ refl
 
