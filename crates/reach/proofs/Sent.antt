@@ -2,7 +2,6 @@
 use Prim.Native.Nat.{ℕ, _+_, _%_}
 use native.Mathlib.Omega.{arith}
 use mathlib.Core.Path.{_≡_, refl, sym, ap, _∙_, subst}
-use mathlib.Core.Bool.{cond}
 use mathlib.Core.List.{List, [], _∷_}
 use lib.Dec.{eqb}
 use lib.ListN.{length, getD}
@@ -22,17 +21,13 @@ use Rattle.checks.proofs.Standing.{SlotSeen, slot-place, slot-read}
 use Rattle.turn.proofs.Steps.{let-names}
 use Rattle.turn.proofs.Dispatch.{wordAt, tells-send}
 use Rattle.turn.proofs.Located.{Found, Finds}
-use Rattle.reach.specs.Walking.{SeesInFlight}
+use Rattle.reach.specs.Walking.{messageFor, SeesInFlight}
 
 -- ---- A channel's message, by its number
 
--- the message of channel c, for a sender whose word is d
-abbrev pub forWord : State → (c d : ℕ) → Value
-forWord S c d = cond (eqb (channelAt S c .number + 1) d) (channelAt S c .message) Absent
-
 module _ {s : List ℕ} (c : ℕ) {k d : ℕ} (number : Sees s Any (λ S. channelAt S c .number) k) where
   pub number-fits : {v : Value} → k + 1 ≡ d → Sees s (λ S. InTable (channelAt S c .message)) (λ S. channelAt S c .message) v
-      → Sees s (λ S. InTable (channelAt S c .message)) (λ S. forWord S c d) v
+      → Sees s (λ S. InTable (channelAt S c .message)) (λ S. messageFor S c d) v
   number-fits fits read =
       record {
         sees = λ S rest held place.
@@ -40,7 +35,7 @@ module _ {s : List ℕ} (c : ℕ) {k d : ℕ} (number : Sees s Any (λ S. channe
             rw (eq-eqb (channelAt S c .number + 1) d is) (read .sees S rest held place);
       }
 
-  pub number-differs : (k + 1 ≡ d → ⊥) → Sees s (λ S. InTable (channelAt S c .message)) (λ S. forWord S c d) Absent
+  pub number-differs : (k + 1 ≡ d → ⊥) → Sees s (λ S. InTable (channelAt S c .message)) (λ S. messageFor S c d) Absent
   number-differs other =
       record {
         sees = λ S rest held place.
@@ -61,7 +56,7 @@ put-at P S ready f fs = refl
 put-at P S (waiting i) f fs = refl
 
 -- its word decides as its number does
-by-word : (S : State) (c : ℕ) (d : Sender) → bySender S d (Chan c) ≡ forWord S c (senderWord d)
+by-word : (S : State) (c : ℕ) (d : Sender) → bySender S d (Chan c) ≡ messageFor S c (senderWord d)
 unfolding messageOn messageOf
 by-word S c ready = rw (ne-eqb (channelAt S c .number + 1) 0 (λ e. omega arith)) refl
 by-word S c (waiting i) =
@@ -159,11 +154,11 @@ module _ {p s : List ℕ} {t : ℕ} {h : Here} (place : Finds p s t h) (same : h
           }
 
       pub target-channel : {c d : ℕ} {v : Value} → x ≡ Chan c → Sees s Any (λ S. senderWord (threadAt S t .sender)) d
-          → Sees s (λ S. InTable (channelAt S c .message)) (λ S. forWord S c d) v → SeesInFlight p s t v
+          → Sees s (λ S. InTable (channelAt S c .message)) (λ S. messageFor S c d) v → SeesInFlight p s t v
       target-channel {c} is-channel word message =
           record {
             is = λ P n S rest loaded held valid fits.
-                message .sees S rest held (message-in-table fits c) ∙ ap (forWord S c) (word .sees S rest held tt)
+                message .sees S rest held (message-in-table fits c) ∙ ap (messageFor S c) (word .sees S rest held tt)
                 ∙ sym (put-by-target (place .finds P n S rest loaded held valid fits) (target-is (place .finds P n S rest loaded held valid fits) ∙ is-channel)
                 ∙ by-word S c (threadAt S t .sender));
           }

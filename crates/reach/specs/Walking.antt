@@ -3,15 +3,16 @@ use Prim.Native.Nat.{ℕ, zero, suc, _+_}
 use mathlib.Core.Path.{_≡_}
 use mathlib.Core.Bool.{Bool, false, cond}
 use mathlib.Core.List.{List, _++_}
-use lib.Dec.{ltb}
+use lib.Dec.{eqb, ltb}
 use lib.ListN.{length, getD, drop}
 use Rattle.rules.specs.declared.Value.{Value}
+use Rattle.rules.specs.declared.Value.the-variants.{Absent}
 use Rattle.rules.specs.Mosts as Most
 use Rattle.rules.specs.Mosts.{mosts}
 use Rattle.rules.specs.Lists.{pad}
 use Rattle.rules.specs.Script.{Program}
 use Rattle.rules.specs.Valid.{Valid}
-use Rattle.rules.specs.State.{Object, State, threadAt}
+use Rattle.rules.specs.State.{Object, State, threadAt, channelAt}
 use Rattle.rules.specs.Fits.{InRange, Fits}
 use Rattle.rules.specs.Reach.{count, times, slotsOf, inFlight, roots, Walked}
 use Rattle.rules.specs.Calls as Calls
@@ -65,7 +66,10 @@ pub record WalksThread (s : List ℕ) (marks : List Bool) (t : ℕ) (marks₁ : 
   pub walks : (P : Program) (n : ℕ) (S : State) (rest met : List ℕ) → Held s S rest → Fits mosts P n S → Marked marks met
       → WalkedAll S (slotsOf (threadAt S t .frames)) met marks₁
 
--- and the message that it put
+-- and the message that it put: that of channel c, if its number is the one that a sender whose word is d waits for
+abbrev pub messageFor : State → (c d : ℕ) → Value
+messageFor S c d = cond (eqb (channelAt S c .number + 1) d) (channelAt S c .message) Absent
+
 pub record SeesInFlight (p s : List ℕ) (t : ℕ) (v : Value) : Type 0 where
   pub is : (P : Program) (n : ℕ) (S : State) (rest : List ℕ) → Loaded p P → Held s S rest → Valid mosts P → Fits mosts P n S → v ≡ inFlight P S t
 

@@ -1,19 +1,16 @@
 // The message that a waiting sender put: document 02's L1 counts it as the sender's, as long as the channel holds it.
 use rules::Value;
-ghost use mathlib.Core.Bool.{cond};
-ghost use Prim.Native.Nat.{_+_, _≤_, _<_};
-ghost use lib.Dec.{eqb};
+ghost use Prim.Native.Nat.{_≤_, _<_};
 ghost use lib.ListN.{length};
-ghost use Rattle.rules.specs.declared.Value.the-variants.{Absent};
 ghost use Rattle.rules.specs.State.{channelAt};
 ghost use Rattle.table.specs.State.{InTable, Sees};
-ghost use Rattle.reach.specs.Walking.{SeesInFlight};
+ghost use Rattle.reach.specs.Walking.{messageFor, SeesInFlight};
 
 // The message of channel c, if its number is the one that a sender whose word is d waits for.
 fn message_for(s: &[u16], c: u16, d: u16) -> Value
     requires { ⌜ (8192 ≤ length (now s)) × (c < 16) ⌝ }
     ensures { λ r. ⌜ InTable r ⌝ }
-    ensures { λ r. ⌜ Sees (now (s .entry)) (λ S. InTable (channelAt S c .message)) (λ S. cond (eqb (channelAt S c .number + 1) d) (channelAt S c .message) Absent) r ⌝ }
+    ensures { λ r. ⌜ Sees (now (s .entry)) (λ S. InTable (channelAt S c .message)) (λ S. messageFor S c d) r ⌝ }
 {
     if table::message_number(s, c) as usize + 1 == d as usize {
         return table::message(s, c);
