@@ -1,6 +1,5 @@
 -- Why the printed run stands in the output.
--- texts one after the other; the same for texts of a state
-mod Appends
+-- texts of a state, one after the other
 mod StateTexts
 -- the texts of parts, lines and rows; the rows of a state
 mod LineTexts

@@ -14,32 +14,15 @@ use Rattle.rules.specs.declared.Value.{Value}
 use Rattle.rules.specs.declared.Value.the-variants.{Absent, Obj, Chan}
 use Rattle.rules.specs.Lists.{Every}
 use Rattle.rules.specs.Text.{bytes, space}
-use Rattle.rules.specs.Templates.{digit, decimal, capWord, printMany}
+use Rattle.rules.specs.Templates.{decimal, capWord, printMany}
 use Rattle.rules.specs.State.{Object, Frame, Sender, ready, waiting, Thread, Channel, emptyChannel, slotAt}
 use Rattle.rules.specs.Tables.{senderWord}
 use Rattle.rules.specs.Fits.{IsObject}
 use Rattle.rules.specs.Run.{finished, stuck, openEnd, refused, ended, halted}
 use Rattle.rules.specs.Listing.{bracket, aLine, endWord, answerLine, valueText, objectLine, messageText, channelLine, senderText, threadParts, threadLine, numbered}
 use Rattle.rules.proofs.ListLaws.{by-bool, below, every-at}
-use Rattle.listing.specs.Writing.{numberPart, fieldPart, valueParts, objectParts, frameParts}
-
--- ---- Numbers
-
--- k numbers from a on
-from : ℕ → ℕ → List ℕ
-from a zero = []
-from a (suc k) = a ∷ from (suc a) k
-
-from-at : (a k d : ℕ) → d < k → a + d ≡ getD (from a k) d 0
-unfolding from
-from-at a zero d there = absurd (omega (arith, there))
-from-at a (suc k) zero there = add-zero a
-from-at a (suc k) (suc d) there = add-suc a d ∙ sym (suc-add a d) ∙ from-at (suc a) k d (omega (arith, there))
-
--- the digits' codes rise from that of 0
-pub digit-code : (d : ℕ) → d < 10 → 48 + d ≡ digit d
-unfolding from
-digit-code d there = from-at 48 10 d there
+use Rattle.texts.specs.Writing.{numberPart}
+use Rattle.listing.specs.Writing.{fieldPart, valueParts, objectParts, frameParts}
 
 -- ---- Values
 

@@ -27,9 +27,10 @@ use Rattle.run.specs.Answers.{answerOf}
 use Rattle.run.proofs.AnswerTells.{Made, run-made}
 use Rattle.listing.specs.declared.Printed.{Printed}
 use Rattle.listing.specs.declared.Printed.the-variants.{Refused, Written}
-use Rattle.listing.specs.Writing.{over, Wrote, Writes}
+use Rattle.texts.specs.Writing.{over, Wrote}
+use Rattle.listing.specs.Writing.{Writes}
 use Rattle.listing.specs.Outputs.{runText, outputBytes, printedOf, outputAfter, answerText, isRefusal}
-use Rattle.listing.proofs.Appends.{_▹_, same-text}
+use Rattle.texts.proofs.Appends.{_▹_, same-text}
 
 -- ---- The answer's line
 

@@ -1,8 +1,8 @@
--- What it is to write a text into a lent buffer, and a text of the state that a table holds.
+-- What it is to write a text of the state that a table holds.
 use Prim.Native.Nat.{ℕ, suc, _+_, _≤_}
 use mathlib.Core.Path.{_≡_}
-use mathlib.Core.List.{List, [], _∷_, _++_, map}
-use lib.ListN.{length, take, drop}
+use mathlib.Core.List.{List, [], _∷_, map}
+use lib.ListN.{length}
 use Rattle.rules.specs.declared.Value.{Value}
 use Rattle.rules.specs.declared.Value.the-variants.{Absent, Obj, Chan}
 use Rattle.rules.specs.Mosts.{mosts}
@@ -12,28 +12,15 @@ use Rattle.rules.specs.Script.{Program}
 use Rattle.rules.specs.State.{Object, Frame, State, threadAt}
 use Rattle.rules.specs.Fits.{Fits}
 use Rattle.rules.specs.Listing.{valueText}
+use Rattle.texts.specs.Writing.{Wrote}
 use Rattle.table.specs.State.{Held}
 
--- the text over the buffer's bytes from `at`
-unfoldable pub over : List ℕ → ℕ → List ℕ → List ℕ
-over l at t = take at l ++ (t ++ drop (at + length t) l)
-
--- the text stands at `at`, all else stays; the answer is the place after it, at most k bytes on
-pub record Wrote (k : ℕ) (l l₁ : List ℕ) (at r : ℕ) (text : List ℕ) : Type 0 where
-  pub is : l₁ ≡ over l at text
-  pub end : r ≡ at + length text
-  pub most : r ≤ at + k
-  pub from : at ≤ length l
-
--- the same for a text of any state of a run of which Q holds; the bound holds whatever the table is
+-- the text of any state of a run of which Q holds is written; the bound holds whatever the table is
 pub record Writes (k : ℕ) (s l l₁ : List ℕ) (at r : ℕ) (Q : State → Type 0) (text : State → List ℕ) : Type 0 where
   pub writes : (P : Program) (n : ℕ) (S : State) (rest : List ℕ) → Held s S rest → Fits mosts P n S → Q S → Wrote k l l₁ at r (text S)
   pub most : r ≤ at + k
 
 -- ---- Parts of a line, each after a space
-
-abbrev pub numberPart : ℕ → List ℕ
-numberPart n = space ∷ decimal n
 
 -- a field that is not there is not printed
 unfoldable pub fieldPart : Value → List ℕ

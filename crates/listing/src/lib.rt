@@ -1,7 +1,7 @@
 // The printed run: a run, and what document 01 prints of it, written into a lent output.
 mod answers;
 mod lines;
-mod texts;
+mod values;
 
 use answers::is_refusal;
 use answers::put_answer;

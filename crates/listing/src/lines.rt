@@ -1,10 +1,10 @@
 // The lines of the state that a run left, read from its table.
-use super::texts::put_cap;
-use super::texts::put_field;
-use super::texts::put_message;
-use super::texts::put_number;
-use super::texts::put_text;
-use super::texts::put_value;
+use super::values::put_field;
+use super::values::put_message;
+use super::values::put_value;
+use texts::put_cap;
+use texts::put_number;
+use texts::put_text;
 ghost use mathlib.Core.List.{_∷_};
 ghost use Prim.Native.Nat.{_+_, _≤_, _<_};
 ghost use lib.ListN.{length, drop};

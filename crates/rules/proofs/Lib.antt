@@ -24,4 +24,6 @@ pub mod Walks
 -- a message is its sender's until it is received
 pub mod InFlight
 pub mod TableWords
+-- a text that was read comes back
+pub mod Writer
 pub mod Theorems

@@ -17,12 +17,14 @@ use Rattle.rules.specs.Stripped.{Matches}
 use Rattle.rules.specs.Valid.{Valid}
 use Rattle.rules.specs.Fits.{Fits}
 use Rattle.rules.specs.InFlight.{SendersKeep}
+use Rattle.rules.specs.Writer.{ComesBack}
 use Rattle.rules.proofs.Printing.{scan-prints}
 use Rattle.rules.proofs.Accepted.{accepted-valid, accepted-lines}
 use Rattle.rules.proofs.Keeps.{keeps-run, moves-few, fits-run}
 use Rattle.rules.proofs.Demand3.{stripped-matches}
 use Rattle.rules.proofs.InFlight.{senders-keep}
 use Rattle.rules.proofs.TableWords.{In16Bits, program-words-small, state-words-small}
+use Rattle.rules.proofs.Writer.{comes-back}
 
 module _ (text : List ℕ) (P : Program) (is-accepted : script mosts text ≡ accepted P) where
   -- its program guarantees what the run relies on
@@ -55,3 +57,7 @@ module _ (text : List ℕ) (P : Program) (is-accepted : script mosts text ≡ ac
     -- Document 02, L1: "a parcel is the sender's until it is taken", and so is what it reaches in the reports.
     pub messages-are-their-senders : SendersKeep mosts P ts
     messages-are-their-senders = senders-keep mosts P ts valid (omega arith)
+
+-- Document 02, L2: "Every text that the reader accepts comes back byte for byte from its table."
+pub every-text-comes-back : ComesBack mosts
+every-text-comes-back = comes-back mosts

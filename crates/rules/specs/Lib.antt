@@ -19,10 +19,11 @@ pub mod Fits
 pub mod Tables
 -- "Guarded and stripped": demand 3
 pub mod Stripped
--- the reach report; messages that are sent and not yet received; what the calls answer and leave in what was lent
+-- the reach report; messages that are sent and not yet received; what the calls answer and leave in what was lent; a script written back out
 pub mod Reach
 pub mod InFlight
 pub mod Calls
+pub mod Writer
 -- "The printed run": the listing, and boxrun's own input
 pub mod Listing
 pub mod Input

@@ -1,4 +1,4 @@
--- The numbers of document 01's "Turning away". Each stands here and nowhere else.
+-- The numbers of document 01's "Turning away", and of document 02's. Each stands here and nowhere else.
 use Prim.Native.Nat.{ℕ}
 use mathlib.Core.Bool.{Bool, _||_}
 use lib.Dec.{eqb}
@@ -75,6 +75,10 @@ usedUp = 16
 -- report on a thread never started
 abbrev pub noThread : ℕ
 noThread = 17
+
+-- document 02, L2: no accepted text reads to this table
+abbrev pub noScript : ℕ
+noScript = 18
 
 -- "Permission is 14 and cast is 15": the numbers of the guards
 abbrev pub isGuard : ℕ → Bool

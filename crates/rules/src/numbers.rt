@@ -1,4 +1,4 @@
-// The numbers of document 01's "Turning away", for the code. (The definitions have theirs in specs/Numbers; the contracts hold them together.)
+// The numbers of document 01's "Turning away", and of document 02's, for the code. (The definitions have theirs in specs/Numbers; the contracts hold them together.)
 
 // text or turns too long
 pub const OVERLONG: u16 = 1;
@@ -38,3 +38,5 @@ pub const CAST: u16 = 15;
 pub const USED_UP: u16 = 16;
 // report on a thread never started
 pub const NO_THREAD: u16 = 17;
+// document 02, L2: no accepted text reads to this table
+pub const NO_SCRIPT: u16 = 18;

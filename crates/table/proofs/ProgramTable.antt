@@ -86,6 +86,14 @@ module _ {t counts rest : List ℕ} {Fs : List Form} (filled : Filled t counts F
       ∙ List·getD-append (pad Most.words 0 (usedWords counts Fs)) rest 0 i (rw (length-pad Most.words 0 (usedWords counts Fs)) h)
       ∙ get-pad Most.words 0 (usedWords counts Fs) i h
 
+  -- the counts stand first
+  pub count-is : (i : ℕ) → i < 8 → getD t i 0 ≡ getD counts i 0
+  unfolding usedWords
+  count-is i h =
+      used-word i (omega arith)
+      ∙ List·getD-append (pad 8 0 counts) _ 0 i (rw (length-pad 8 0 counts) h)
+      ∙ get-pad 8 0 counts i h
+
   -- word k of line n
   pub line-word-is : (n k i : ℕ) → n < length Fs → k < 8 → i ≡ 72 + n * 8 + k → getD t i 0 ≡ getD (row (getD Fs n noForm)) k 0
   unfolding usedWords

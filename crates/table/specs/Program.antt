@@ -1,8 +1,9 @@
 -- The program table by its lines, while it is filled and when it is full; and what each accessor says of the abstract program.
 use Prim.Native.Nat.{ℕ, suc, _≤_, _<_}
 use mathlib.Core.Path.{_≡_}
+use mathlib.Core.Bool.{Bool, true, false}
 use mathlib.Core.List.{List, [], _∷_, _++_, map}
-use lib.ListN.{length, getD}
+use lib.ListN.{length, getD, take}
 use Rattle.rules.specs.Mosts as Most
 use Rattle.rules.specs.Mosts.{mosts}
 use Rattle.rules.specs.Lists.{pad, cells}
@@ -41,7 +42,15 @@ pub record OpenerAdded (n b form : ℕ) (t t′ : List ℕ) : Type 0 where
 pub record Counted (kinds blocks lines : ℕ) (t t′ : List ℕ) : Type 0 where
   pub counted : (rest : List ℕ) (Fs : List Form) → Filled t [] Fs rest → Filled t′ (kinds ∷ blocks ∷ lines ∷ []) Fs rest
 
+-- the first words of the table are these, or they are not
+pub record Same (t words : List ℕ) (r : Bool) : Type 0 where
+  pub same : r ≡ true → take Most.words t ≡ words
+  pub other : r ≡ false → take Most.words t ≡ words → ⊥
+
 -- by lines of the text
+pub record LineCount (t : List ℕ) (r : ℕ) : Type 0 where
+  pub is : (counts rest : List ℕ) (Fs : List Form) → Filled t counts Fs rest → r ≡ getD counts 2 0
+
 pub record LineWord (t : List ℕ) (n k r : ℕ) : Type 0 where
   pub is : (counts rest : List ℕ) (Fs : List Form) → Filled t counts Fs rest → n < length Fs → r ≡ getD (row (getD Fs n noForm)) k 0
 

@@ -3,7 +3,7 @@ ghost use mathlib.Core.Path.{_≡_};
 ghost use mathlib.Core.List.{[], _∷_, _++_};
 ghost use Prim.Native.Nat.{_+_, _*_, _%_, _≤_, _<_};
 ghost use lib.ListN.{length, take, drop, getD, set};
-ghost use Rattle.table.specs.Program.{LineAdded, OpenerAdded, Counted, LineWord, BlockForm, FirstLine, KindFields, KindMethod};
+ghost use Rattle.table.specs.Program.{LineAdded, OpenerAdded, Counted, Same, LineCount, LineWord, BlockForm, FirstLine, KindFields, KindMethod};
 
 // Line n of the text: the number of its form, and its parts.
 pub fn add_line(t: &mut [u16], n: usize, form: u16, a: u16, b: u16, c: u16, d: u16, e: u16, f: u16)
@@ -53,6 +53,30 @@ pub fn copy_table(t: &mut [u16], from: &[u16])
         t[i] = from[i];
         i += 1;
     }
+}
+
+// Whether the first words of a table are all the words of another.
+pub fn same_table(t: &[u16], words: &[u16]) -> bool
+    requires { ⌜ (8192 ≤ length (now t)) × (length (now words) ≡ 8192) ⌝ }
+    ensures { λ r. ⌜ Same (now (t .entry)) (now (words .entry)) r ⌝ }
+{
+    let mut i: usize = 0;
+    while i < 8192 {
+        if t[i] != words[i] {
+            return false;
+        }
+        i += 1;
+    }
+    true
+}
+
+// How many lines the text has.
+pub fn line_count(t: &[u16]) -> usize
+    requires { ⌜ 8192 ≤ length (now t) ⌝ }
+    ensures { λ r. ⌜ (r ≡ getD (now (t .entry)) 2 0) × (r ≤ 65535) ⌝ }
+    ensures { λ r. ⌜ LineCount (now (t .entry)) r ⌝ }
+{
+    t[2] as usize
 }
 
 // Word k of line n of the text.

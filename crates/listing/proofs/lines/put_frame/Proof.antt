@@ -1,6 +1,7 @@
 -- `listing::lines::put_frame` meets its contract: the parts one after the other, each of what was read.
 use Rattle.rules.specs.Templates.{printMany}
-use Rattle.listing.specs.Writing.{numberPart, valueParts, frameParts}
+use Rattle.texts.specs.Writing.{numberPart}
+use Rattle.listing.specs.Writing.{valueParts, frameParts}
 use Rattle.listing.proofs.StateTexts.{of-seen, _▹_}
 use borrow.Author.Needs.{needs}
 use Rattle.listing.proofs.lines.put_frame.Statement.{statement}

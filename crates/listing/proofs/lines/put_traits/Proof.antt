@@ -2,7 +2,8 @@
 use mathlib.Core.List.{_∷_}
 use Rattle.rules.specs.Text.{space}
 use Rattle.rules.specs.Templates.{capWord, printMany}
-use Rattle.listing.specs.Writing.{numberPart, valueParts, objectParts}
+use Rattle.texts.specs.Writing.{numberPart}
+use Rattle.listing.specs.Writing.{valueParts, objectParts}
 use Rattle.listing.proofs.StateTexts.{of-seen, _▹_}
 use borrow.Author.Needs.{needs}
 use Rattle.listing.proofs.lines.put_traits.Statement.{statement}

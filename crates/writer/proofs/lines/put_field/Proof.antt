@@ -1,0 +1,44 @@
+-- `writer::lines::put_field` meets its contract: the parts of its line, one after the other.
+use native.Mathlib.Omega.{arith}
+use mathlib.Core.Path.{refl}
+use Rattle.texts.proofs.Appends.{_▹_, same-text}
+use borrow.Author.Needs.{needs}
+use Rattle.writer.proofs.lines.put_field.Statement.{statement}
+use Rattle.writer.proofs.lines.put_field.Tie as tie
+
+slice-aggregate-put-text : tie.Need-slice-aggregate-put-text
+slice-aggregate-put-text c = search needs
+
+put-text-requires : tie.Need-put-text-requires
+put-text-requires c κs = search needs
+
+put-number-requires : tie.Need-put-number-requires
+put-number-requires c κs = search needs
+
+put-number-requires-2 : tie.Need-put-number-requires-2
+put-number-requires-2 c κs = search needs
+
+slice-aggregate-put-text-2 : tie.Need-slice-aggregate-put-text-2
+slice-aggregate-put-text-2 c = search needs
+
+put-text-requires-2 : tie.Need-put-text-requires-2
+put-text-requires-2 c κs = search needs
+
+same-length : tie.Need-same-length
+same-length c = search needs
+
+returns : tie.Need-returns
+returns c = same-text 26 refl (omega arith) (c .before .before .before .before .before .before .before .before .before .before .before .before .before .before .before .put-text .ensures ▹ c .before .before .before .before .before .before .before .before .before .before .before .put-number .ensures ▹ c .before .before .before .before .before .before .before .put-number2 .ensures ▹ c .before .before .put-text2 .ensures)
+
+pub put-field-spec : {M : Type 1} → statement M
+put-field-spec =
+    tie.close
+    (tie.spec
+    slice-aggregate-put-text
+    put-text-requires
+    put-number-requires
+    put-number-requires-2
+    slice-aggregate-put-text-2
+    put-text-requires-2
+    same-length
+    returns)

@@ -1,0 +1,37 @@
+-- `writer::lines::put_numbers` meets its contract: four items, one after the other.
+use native.Mathlib.Omega.{arith}
+use Rattle.texts.proofs.Appends.{_▹_, same-text}
+use Rattle.rules.specs.Templates.{decimal}
+use Rattle.writer.proofs.Texts.{four-items}
+use borrow.Author.Needs.{needs}
+use Rattle.writer.proofs.lines.put_numbers.Statement.{statement}
+use Rattle.writer.proofs.lines.put_numbers.Tie as tie
+
+put-number-item-requires : tie.Need-put-number-item-requires
+put-number-item-requires c κs = search needs
+
+put-number-item-requires-2 : tie.Need-put-number-item-requires-2
+put-number-item-requires-2 c κs = search needs
+
+put-number-item-requires-3 : tie.Need-put-number-item-requires-3
+put-number-item-requires-3 c κs = search needs
+
+put-number-item-requires-4 : tie.Need-put-number-item-requires-4
+put-number-item-requires-4 c κs = search needs
+
+same-length : tie.Need-same-length
+same-length c = search needs
+
+returns : tie.Need-returns
+returns c = let x = c .before .before .before .before .before .before .before .before .before .before .before .before .before .before .before .before .before .args in same-text 24 (four-items decimal (x .a) (x .b) (x .c) (x .d)) (omega arith) (c .before .before .before .before .before .before .before .before .before .before .before .before .before .before .put-number-item .ensures ▹ c .before .before .before .before .before .before .before .before .before .before .put-number-item2 .ensures ▹ c .before .before .before .before .before .before .put-number-item3 .ensures ▹ c .before .before .put-number-item4 .ensures)
+
+pub put-numbers-spec : {M : Type 1} → statement M
+put-numbers-spec =
+    tie.close
+    (tie.spec
+    put-number-item-requires
+    put-number-item-requires-2
+    put-number-item-requires-3
+    put-number-item-requires-4
+    same-length
+    returns)

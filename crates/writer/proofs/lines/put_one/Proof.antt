@@ -1,0 +1,35 @@
+-- `writer::lines::put_one` meets its contract: the parts of its line, one after the other.
+use mathlib.Core.Path.{refl}
+use Rattle.texts.proofs.Appends.{_▹_, same-text}
+use borrow.Author.Needs.{needs}
+use Rattle.writer.proofs.lines.put_one.Statement.{statement}
+use Rattle.writer.proofs.lines.put_one.Tie as tie
+
+put-text-requires : tie.Need-put-text-requires
+put-text-requires c κs = search needs
+
+put-number-requires : tie.Need-put-number-requires
+put-number-requires c κs = search needs
+
+slice-aggregate-put-text : tie.Need-slice-aggregate-put-text
+slice-aggregate-put-text c = search needs
+
+put-text-requires-2 : tie.Need-put-text-requires-2
+put-text-requires-2 c κs = search needs
+
+same-length : tie.Need-same-length
+same-length c = search needs
+
+returns : tie.Need-returns
+returns c = same-text 20 refl (search needs) (c .before .before .before .before .before .before .before .before .before .before .before .put-text .ensures ▹ c .before .before .before .before .before .before .before .put-number .ensures ▹ c .before .before .put-text2 .ensures)
+
+pub put-one-spec : {M : Type 1} → statement M
+put-one-spec =
+    tie.close
+    (tie.spec
+    put-text-requires
+    put-number-requires
+    slice-aggregate-put-text
+    put-text-requires-2
+    same-length
+    returns)

@@ -1,0 +1,38 @@
+-- `writer::lines::put_operands` meets its contract: four items, one after the other.
+use native.Mathlib.Omega.{arith}
+use Rattle.texts.proofs.Appends.{_▹_, same-text}
+use Rattle.rules.specs.Templates.{printOperand}
+use Rattle.rules.specs.Tables.{operandOf}
+use Rattle.writer.proofs.Texts.{four-items}
+use borrow.Author.Needs.{needs}
+use Rattle.writer.proofs.lines.put_operands.Statement.{statement}
+use Rattle.writer.proofs.lines.put_operands.Tie as tie
+
+put-operand-item-requires : tie.Need-put-operand-item-requires
+put-operand-item-requires c κs = search needs
+
+put-operand-item-requires-2 : tie.Need-put-operand-item-requires-2
+put-operand-item-requires-2 c κs = search needs
+
+put-operand-item-requires-3 : tie.Need-put-operand-item-requires-3
+put-operand-item-requires-3 c κs = search needs
+
+put-operand-item-requires-4 : tie.Need-put-operand-item-requires-4
+put-operand-item-requires-4 c κs = search needs
+
+same-length : tie.Need-same-length
+same-length c = search needs
+
+returns : tie.Need-returns
+returns c = let x = c .before .before .before .before .before .before .before .before .before .before .before .before .before .before .before .before .before .args in same-text 52 (four-items (λ i. printOperand (operandOf i)) (x .a) (x .b) (x .c) (x .d)) (omega arith) (c .before .before .before .before .before .before .before .before .before .before .before .before .before .before .put-operand-item .ensures ▹ c .before .before .before .before .before .before .before .before .before .before .put-operand-item2 .ensures ▹ c .before .before .before .before .before .before .put-operand-item3 .ensures ▹ c .before .before .put-operand-item4 .ensures)
+
+pub put-operands-spec : {M : Type 1} → statement M
+put-operands-spec =
+    tie.close
+    (tie.spec
+    put-operand-item-requires
+    put-operand-item-requires-2
+    put-operand-item-requires-3
+    put-operand-item-requires-4
+    same-length
+    returns)

@@ -1,0 +1,75 @@
+-- The text of a form from the words of its line in the table, whatever words they are; and the lines that a table holds, written.
+use Prim.Native.Nat.{ℕ, zero, suc, _+_, _≤_, _<_}
+use mathlib.Core.List.{List, [], _∷_, map}
+use lib.ListN.{length, getD}
+use Rattle.rules.specs.Lists.{Every}
+use Rattle.rules.specs.Mosts as Most
+use Rattle.rules.specs.Text.{space, join}
+use Rattle.rules.specs.Script.{value, field, swap, call, new, cast, spawn, send, recv, bind, give, thread, method, Form, kind, opens, line}
+use Rattle.rules.specs.Templates.{printOperand, show}
+use Rattle.rules.specs.Reading.{operandsIn}
+use Rattle.rules.specs.Tables.{operandOf, capOf}
+use Rattle.texts.specs.Writing.{Wrote}
+use Rattle.table.specs.Program.{Filled, noForm}
+
+-- ---- A line by its words
+
+-- an operand after a space
+abbrev pub operandPart : ℕ → List ℕ
+operandPart w = space ∷ printOperand (operandOf w)
+
+-- an item is one more than what it stands for; 0 is none
+abbrev pub itemPart : (ℕ → List ℕ) → ℕ → List ℕ
+itemPart f zero = []
+itemPart f (suc i) = space ∷ f i
+
+abbrev pub itemsOf : List ℕ → List ℕ
+itemsOf [] = []
+itemsOf (zero ∷ ws) = itemsOf ws
+itemsOf (suc i ∷ ws) = i ∷ itemsOf ws
+
+-- the forms by their numbers, from 1
+abbrev pub formsOf : (a b c d e f : ℕ) → List Form
+formsOf a b c d e f =
+    kind (record { fields = a; methods = itemsOf (b ∷ c ∷ d ∷ e ∷ []) })
+    ∷ opens thread
+    ∷ opens method
+    ∷ line (give (operandOf a))
+    ∷ line (bind (value (operandOf a)))
+    ∷ line (bind (field a b))
+    ∷ line (bind (swap a b (operandOf c)))
+    ∷ line (bind (call a b (operandOf c)))
+    ∷ line (bind (new (capOf a) b (map operandOf (itemsOf (c ∷ d ∷ e ∷ f ∷ [])))))
+    ∷ line (bind (cast (capOf a) (operandOf b)))
+    ∷ line (bind (spawn a))
+    ∷ line (bind (send a (operandOf b)))
+    ∷ line (bind (recv a))
+    ∷ []
+
+-- nothing where no form has the number
+unfoldable pub lineText : (form a b c d e f : ℕ) → List ℕ
+lineText zero a b c d e f = []
+lineText (suc i) a b c d e f = getD (map show (formsOf a b c d e f)) i []
+
+-- ---- The lines of a table
+
+-- how long a form's list is: the method blocks of a kind, the operands of a line
+abbrev pub listLength : Form → ℕ
+listLength (kind K) = length (K .methods)
+listLength (opens o) = 0
+listLength (line x) = length (operandsIn (line x))
+
+abbrev pub FewParts : Form → Type 0
+FewParts F = listLength F ≤ 4
+
+-- line n; at most 77 bytes, whatever the table is
+pub record WritesLine (t : List ℕ) (n : ℕ) (l l₁ : List ℕ) (at r : ℕ) : Type 0 where
+  pub writes : (counts rest : List ℕ) (Fs : List Form) → Filled t counts Fs rest → n < length Fs → FewParts (getD Fs n noForm)
+      → Wrote 77 l l₁ at r (show (getD Fs n noForm))
+  pub most : r ≤ at + 77
+
+-- all lines, where they are no longer than a text may be
+pub record WritesLines (t l l₁ : List ℕ) (r : ℕ) : Type 0 where
+  pub writes : (kinds blocks : ℕ) (rest : List ℕ) (Fs : List Form) → Filled t (kinds ∷ blocks ∷ length Fs ∷ []) Fs rest → Every FewParts Fs
+      → length (join (map show Fs)) ≤ Most.text → Wrote 16461 l l₁ 0 r (join (map show Fs))
+  pub most : r ≤ 16461
