@@ -1,0 +1,2 @@
+-- Why the text that was read is what boxsave prints.
+mod Saves

@@ -1,0 +1,2 @@
+-- What boxsave prints.
+pub mod Saved
