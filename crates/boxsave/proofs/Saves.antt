@@ -9,7 +9,6 @@ use borrow.Author.Tests.{lt-ltb, le-ltb}
 use Rattle.rules.specs.Mosts as Most
 use Rattle.rules.specs.Mosts.{mosts}
 use Rattle.rules.specs.Numbers as No
-use Rattle.rules.specs.Script.{Program}
 use Rattle.rules.specs.Reading.{Reading, turnedAway, accepted, reading}
 use Rattle.rules.specs.Run.{refused}
 use Rattle.rules.specs.Calls.{longText, shortTable, readCall, programAfter}
