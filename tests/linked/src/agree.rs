@@ -3,12 +3,13 @@
 
 use second::damage::damage;
 use second::generate;
+use second::layout;
 use second::numbers::*;
 use second::random::Random;
 use second::reading;
 use second::script::Program;
 
-use crate::{full, layout, lent, library};
+use crate::{full, lent, library};
 
 /// What a run of texts came to: how many were read, and how many had each refusal, at line 0 and at later lines.
 #[derive(Clone, Debug, Default, PartialEq, Eq)]

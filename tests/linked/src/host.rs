@@ -3,6 +3,7 @@
 
 use std::fmt::Debug;
 
+use second::layout;
 use second::machine::Run;
 use second::numbers::*;
 use second::random::Random;
@@ -10,7 +11,7 @@ use second::script::Program;
 
 use crate::lent::Part;
 use crate::library::bytes;
-use crate::{agree, finder, layout, reports, runs};
+use crate::{agree, finder, reports, runs};
 
 /// What the calls came to.
 #[derive(Clone, Debug, Default)]

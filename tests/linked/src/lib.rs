@@ -7,7 +7,6 @@ pub mod finder;
 pub mod full;
 pub mod graph;
 pub mod host;
-pub mod layout;
 pub mod lent;
 pub mod library;
 pub mod loads;

@@ -2,6 +2,7 @@
 //! words by docs/LAYOUT.md, and every other lent word as it was; and demand 3, on the box's own tables.
 
 use second::input;
+use second::layout;
 use second::machine::{self, End, Run};
 use second::numbers::*;
 use second::random::Random;
@@ -11,7 +12,7 @@ use second::stripped::{strip, strip_text};
 use second::{generate, turns};
 
 use crate::agree::{self, same_words};
-use crate::{layout, lent, library};
+use crate::{lent, library};
 
 const ENDS: usize = 3;
 

@@ -13,6 +13,8 @@ pub mod checks;
 pub mod machine;
 pub mod state;
 
+pub mod layout;
+
 pub mod lines;
 pub mod listing;
 pub mod reach;

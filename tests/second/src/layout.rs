@@ -1,8 +1,8 @@
 //! The words of both tables, once more, from docs/LAYOUT.md alone.
 
-use second::numbers::TABLE_WORDS;
-use second::script::{Block, Cap, Expr, Kind, Mode, Operand, Program, Sort};
-use second::state::{Channel, Frame, Object, State, Thread, Value};
+use crate::numbers::TABLE_WORDS;
+use crate::script::{Block, Cap, Expr, Kind, Mode, Operand, Program, Sort};
+use crate::state::{Channel, Frame, Object, State, Thread, Value};
 
 const FIRST_LINES: usize = 8;
 const LINES: usize = 72;
