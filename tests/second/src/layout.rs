@@ -4,9 +4,12 @@ use crate::numbers::TABLE_WORDS;
 use crate::script::{Block, Cap, Expr, Kind, Mode, Operand, Program, Sort};
 use crate::state::{Channel, Frame, Object, State, Thread, Value};
 
-const FIRST_LINES: usize = 8;
-const LINES: usize = 72;
-const LINE: usize = 8;
+pub const KIND_COUNT: usize = 0;
+pub const BLOCK_COUNT: usize = 1;
+pub const LINE_COUNT: usize = 2;
+pub const FIRST_LINES: usize = 8;
+pub const LINES: usize = 72;
+pub const LINE: usize = 8;
 
 const OBJECTS: usize = 8;
 const OBJECT: usize = 8;
@@ -84,9 +87,9 @@ pub fn program(value: &Program) -> Vec<u16> {
         words[FIRST_LINES + number] = lines.len() as u16 + 1;
         lines.extend(block(opened));
     }
-    words[0] = value.kinds.len() as u16;
-    words[1] = value.blocks.len() as u16;
-    words[2] = lines.len() as u16;
+    words[KIND_COUNT] = value.kinds.len() as u16;
+    words[BLOCK_COUNT] = value.blocks.len() as u16;
+    words[LINE_COUNT] = lines.len() as u16;
     for (number, line) in lines.iter().enumerate() {
         let place = LINES + number * LINE;
         words[place..place + line.len()].copy_from_slice(line);

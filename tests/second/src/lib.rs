@@ -14,6 +14,7 @@ pub mod machine;
 pub mod state;
 
 pub mod layout;
+pub mod writing;
 
 pub mod lines;
 pub mod listing;

@@ -17,6 +17,7 @@ pub const PERMISSION: u8 = 14;
 pub const CAST: u8 = 15;
 pub const USED_UP: u8 = 16;
 pub const NO_THREAD: u8 = 17;
+pub const NO_SCRIPT: u8 = 18;
 
 pub const MOST_TEXT: usize = 16_384;
 pub const MOST_TURNS: usize = 32_768;
@@ -31,6 +32,8 @@ pub const MOST_BLOCKS: usize = 64;
 pub const MOST_SLOTS: usize = 16;
 pub const MOST_LETS: usize = 512;
 pub const MOST_OPERANDS: usize = 4;
+/// Every kind, opener, give and let.
+pub const MOST_LINES: usize = MOST_KINDS + 2 * MOST_BLOCKS + MOST_LETS;
 
 pub const MOST_OBJECTS: usize = 256;
 pub const MOST_THREADS: usize = 16;
