@@ -29,6 +29,9 @@ extern "C" {
 #define BOX_TEXT_MOST 16384
 #define BOX_TURNS_MOST 32768
 
+/* The shortest buffer that may be lent for a text, in bytes. A shorter one is refused with BOX_SHORT_TABLE. */
+#define BOX_SCRIPT_BYTES 16384
+
 /* How a run ends. */
 #define BOX_FINISHED 0 /* all threads finished */
 #define BOX_STUCK 1    /* some unfinished, and each of these would wait */
@@ -59,6 +62,9 @@ extern "C" {
 /* A refusal of the report alone; the run was made. */
 #define BOX_NO_THREAD 17 /* report on a thread never started */
 
+/* A refusal of the writer alone. */
+#define BOX_NO_SCRIPT 18 /* no accepted text reads to this table */
+
 /* Reads a script into a program table.
  *
  *   text      the script, lent to be read
@@ -69,6 +75,17 @@ extern "C" {
 uint16_t box_read(const uint8_t *text, size_t text_len,
                   uint8_t *program, size_t program_len,
                   size_t *line);
+
+/* Writes the text that reads to a program table.
+ *
+ *   program   a program table, lent to be read, at least BOX_TABLE_BYTES
+ *   script    gets the text, at least BOX_SCRIPT_BYTES
+ *   length    gets how many bytes were written, 0 on a refusal
+ *
+ * Answers 0, BOX_SHORT_TABLE or BOX_NO_SCRIPT. On a refusal the buffer keeps every byte; else its bytes past the length keep their value. */
+uint16_t box_write(const uint8_t *program, size_t program_len,
+                   uint8_t *script, size_t script_len,
+                   size_t *length);
 
 /* Runs a script on a list of turns, from a fresh start. It reads the text itself.
  *
