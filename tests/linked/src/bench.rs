@@ -8,9 +8,9 @@ use second::numbers::TABLE_WORDS;
 use second::reading;
 
 use crate::chart::{self, Row};
-use crate::loads::{self, Load};
 use crate::full;
 use crate::library::bytes;
+use crate::loads::{self, Load};
 
 fn median(mut times: Vec<f64>) -> f64 {
     times.sort_by(|a, b| a.total_cmp(b));

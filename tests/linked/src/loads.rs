@@ -57,12 +57,7 @@ fn ping_pong() -> Load {
     );
     let second = thread(&["(new local 1)", "(call 1 3 (read 0))"], "(read 0)");
     let work: Vec<String> = (1..7)
-        .flat_map(|n| {
-            [
-                "(recv 1)".to_string(),
-                format!("(send 1 (take {}))", n * 2),
-            ]
-        })
+        .flat_map(|n| ["(recv 1)".to_string(), format!("(send 1 (take {}))", n * 2)])
         .collect();
     let calls = tower(&work, "(read 1)", |_| "(read 1)".to_string());
     Load {
