@@ -40,9 +40,14 @@ pub struct Part {
 const MARGIN: usize = 64;
 
 impl Part {
-    /// A table or a list for at least so many words.
+    /// A table or a list for at least so many words; now and then too short.
     pub fn old(random: &mut Random, words: usize) -> Part {
         let length = length(random, 2 * words);
+        Part::of(random, length)
+    }
+
+    /// Of so many bytes.
+    pub fn of(random: &mut Random, length: usize) -> Part {
         let from = MARGIN + random.below(8);
         let all = old_words(random).flat_map(u16::to_le_bytes);
         Part {
@@ -56,6 +61,10 @@ impl Part {
         &mut self.all[self.from..self.from + self.length]
     }
 
+    pub fn bytes(&self) -> &[u8] {
+        &self.all[self.from..self.from + self.length]
+    }
+
     /// How many words there is room for.
     pub fn words(&self) -> usize {
         self.length / 2
@@ -63,20 +72,23 @@ impl Part {
 
     /// The first words, low byte first.
     pub fn front(&self, count: usize) -> Vec<u16> {
-        let bytes = &self.all[self.from..self.from + 2 * count];
+        let bytes = &self.bytes()[..2 * count];
         bytes
             .chunks(2)
             .map(|pair| u16::from(pair[0]) + 256 * u16::from(pair[1]))
             .collect()
     }
 
-    /// The same with other words at its front; every other byte as it was.
+    /// The same with other words at its front, as far as it goes; every other byte as it was.
     pub fn with(&self, words: &[u16]) -> Part {
+        let bytes: Vec<u8> = words.iter().flat_map(|word| word.to_le_bytes()).collect();
+        self.with_bytes(&bytes[..bytes.len().min(self.length)])
+    }
+
+    /// The same with other bytes at its front.
+    pub fn with_bytes(&self, bytes: &[u8]) -> Part {
         let mut part = self.clone();
-        for (pair, word) in part.lend().chunks_mut(2).zip(words) {
-            pair[0] = (word % 256) as u8;
-            pair[1] = (word / 256) as u8;
-        }
+        part.lend()[..bytes.len()].copy_from_slice(bytes);
         part
     }
 

@@ -12,3 +12,5 @@ pub mod library;
 pub mod loads;
 pub mod reports;
 pub mod runs;
+pub mod tables;
+pub mod writes;

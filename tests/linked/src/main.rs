@@ -1,12 +1,12 @@
 //! The program `linked`: `read SEED COUNT` and `run SEED COUNT` hold the compiled box against the second interpreter, on words; `host SEED
-//! COUNT` does so through the calls of a C host, on bytes; `bench [FILE]` measures both, and shows the times of the file's lines, a load's
-//! name, a tab and its ns, beside them.
+//! COUNT` does so through the calls of a C host, on bytes, and `write SEED COUNT` for tables that are written back to their texts; `bench
+//! [FILE]` measures both, and shows the times of the file's lines, a load's name, a tab and its ns, beside them.
 
 use std::env;
 use std::fs;
 use std::process;
 
-use linked::{agree, bench, host, runs};
+use linked::{agree, bench, host, runs, writes};
 use second::console::{complain, out};
 
 const CALLS: usize = 4001;
@@ -33,6 +33,9 @@ fn main() {
             ("host", Ok(seed), Ok(count)) => {
                 told(host::many(seed, count).map(|counts| (counts.rows(), counts.missing())))
             }
+            ("write", Ok(seed), Ok(count)) => {
+                told(writes::many(seed, count).map(|counts| (counts.rows(), counts.missing())))
+            }
             _ => usage(),
         },
         _ => usage(),
@@ -41,7 +44,7 @@ fn main() {
 }
 
 fn usage() -> i32 {
-    complain("linked read SEED COUNT | run SEED COUNT | host SEED COUNT | bench [FILE]\n");
+    complain("linked read SEED COUNT | run SEED COUNT | host SEED COUNT | write SEED COUNT | bench [FILE]\n");
     2
 }
 

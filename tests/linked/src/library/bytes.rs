@@ -3,7 +3,7 @@
 use second::machine::End;
 use second::numbers::Refusal;
 
-use super::{refused, told};
+use super::{byte, refused, told};
 
 extern "C" {
     fn box_read(
@@ -43,6 +43,13 @@ extern "C" {
         count: *mut usize,
         line: *mut usize,
     ) -> u16;
+    fn box_write(
+        program: *const u8,
+        program_length: usize,
+        script: *mut u8,
+        script_length: usize,
+        length: *mut usize,
+    ) -> u16;
     fn box_line(text: *const u8, text_length: usize, n: usize, start: *mut usize) -> usize;
 }
 
@@ -56,6 +63,18 @@ pub fn read(text: &[u8], program: &mut [u8]) -> Result<(), Refusal> {
         (0, 0) => Ok(()),
         (0, _) => panic!("a script was read, at line {}", line),
         _ => Err(refused(number.into(), line)),
+    }
+}
+
+/// Writes the text that reads to a lent table into a lent buffer: how many bytes, or the number of the refusal.
+pub fn write(program: &[u8], script: &mut [u8]) -> Result<usize, u8> {
+    let mut written = usize::MAX;
+    let (bytes, length) = (script.as_mut_ptr(), script.len());
+    let number = unsafe { box_write(program.as_ptr(), program.len(), bytes, length, &mut written) };
+    match (number, written) {
+        (0, _) => Ok(written),
+        (_, 0) => Err(byte(number.into())),
+        _ => panic!("no answer of a writing: {} {}", number, written),
     }
 }
 
