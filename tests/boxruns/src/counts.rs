@@ -53,11 +53,4 @@ impl Counts {
         rows.push(("stopped by a guard alone".to_string(), self.stopped_alone));
         rows
     }
-
-    pub fn missing(&self) -> Vec<String> {
-        let rows = self.rows().into_iter();
-        rows.filter(|(_, count)| *count == 0)
-            .map(|(name, _)| name)
-            .collect()
-    }
 }

@@ -293,6 +293,42 @@ fn long_inputs() -> Vec<Fixed> {
     all
 }
 
+/// Texts for boxsave, each with the refusal that document 01 settles for it; with none, the text comes back.
+pub fn texts() -> Vec<Fixed> {
+    let text = |name: &str, text: String, first_line: &str| Fixed {
+        name: format!("save: {}", name),
+        input: text.into_bytes(),
+        first_line: first_line.to_string(),
+    };
+    let longest = longest_script();
+    let every = "(kind (fields 4) (does 2 2 2 2))\n(thread)\n(let (read 0))\n(let (take 1))\n(let (field 2 0))\n(let (swap 3 10 (take 2)))\n\
+                 (let (call 1 255 (read 4)))\n(let (new local 0 (read 1) (take 2) (read 3) (take 4)))\n(let (cast unsafe (take 5)))\n\
+                 (let (spawn 1))\n(let (send 8 (take 6)))\n(let (recv 8))\n(give (take 10))\n(thread)\n(give (read 0))\n(method)\n(give (take 1))\n";
+    vec![
+        text("the shortest", SMALL.to_string(), ""),
+        text("case A", A.to_string(), ""),
+        text("every form", every.to_string(), ""),
+        text("16,384 bytes", longest.clone(), ""),
+        text("16,385 bytes", format!("{}\n", longest), "(refused 1 0)"),
+        text("a million bytes", "(".repeat(1_000_000), "(refused 1 0)"),
+        text("nothing", String::new(), "(refused 7 0)"),
+        text("one LF", "\n".to_string(), "(refused 3 0)"),
+        text("16,384 LFs", "\n".repeat(MOST_TEXT), "(refused 3 0)"),
+        text("without LF", SMALL.trim_end().to_string(), "(refused 3 1)"),
+        text(
+            "a line of turns",
+            format!("{}(turns 0)\n", SMALL),
+            "(refused 3 2)",
+        ),
+        text(
+            "a stray byte",
+            format!("{}(Thread)\n", SMALL),
+            "(refused 2 2)",
+        ),
+        text("cut", A.replace("(give (take 1))\n", ""), "(refused 7 8)"),
+    ]
+}
+
 pub fn all() -> Vec<Fixed> {
     let mut all = cases_a_to_i();
     all.extend(case_j());

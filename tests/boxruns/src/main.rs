@@ -1,5 +1,6 @@
 //! The program `boxruns`: `boxruns PATH SEED COUNT` starts the boxrun at PATH on the examples, on inputs that are written out and on COUNT
-//! random ones, and holds what it prints to the second interpreter's, byte for byte, and to demand 3.
+//! random ones, and holds what it prints to the second interpreter's, byte for byte, and to demand 3. `boxruns save PATH SEED COUNT` does the
+//! same with the boxsave at PATH, on scripts alone.
 
 #![forbid(unsafe_code)]
 
@@ -10,9 +11,11 @@ mod many;
 mod one;
 mod printed;
 mod program;
+mod saves;
 
 use std::env;
 use std::fs;
+use std::io;
 use std::path::{Path, PathBuf};
 use std::process;
 
@@ -25,23 +28,35 @@ use program::Program;
 
 const EXAMPLES: &str = concat!(env!("CARGO_MANIFEST_DIR"), "/../../examples");
 
+/// What many inputs came to: the rows to show; or the first difference.
+type Held = Result<Vec<(String, u64)>, Difference>;
+
 fn main() {
     let arguments: Vec<String> = env::args().skip(1).collect();
-    let numbers = match arguments.as_slice() {
-        [path, seed, count] => Some((path, seed.parse(), count.parse())),
-        _ => None,
-    };
-    let status = match numbers {
-        Some((path, Ok(seed), Ok(count))) => {
-            let path = PathBuf::from(path);
-            told(all(&Program { path }, seed, count))
-        }
-        _ => {
-            complain("boxruns PATH SEED COUNT\n");
-            2
-        }
+    let words: Vec<&str> = arguments.iter().map(String::as_str).collect();
+    let status = match words.as_slice() {
+        ["save", path, seed, count] => started(path, seed, count, |program, seed, count| {
+            saves::all(program, seed, count).map(|counts| counts.rows())
+        }),
+        [path, seed, count] => started(path, seed, count, |program, seed, count| {
+            all(program, seed, count).map(|counts| counts.rows())
+        }),
+        _ => usage(),
     };
     process::exit(status);
+}
+
+fn usage() -> i32 {
+    complain("boxruns PATH SEED COUNT | save PATH SEED COUNT\n");
+    2
+}
+
+fn started(path: &str, seed: &str, count: &str, all: fn(&Program, u64, u64) -> Held) -> i32 {
+    let path = PathBuf::from(path);
+    match (seed.parse(), count.parse()) {
+        (Ok(seed), Ok(count)) => told(all(&Program { path }, seed, count)),
+        _ => usage(),
+    }
 }
 
 fn all(program: &Program, seed: u64, count: u64) -> Result<Counts, Difference> {
@@ -49,7 +64,10 @@ fn all(program: &Program, seed: u64, count: u64) -> Result<Counts, Difference> {
     written_out(program, &mut counts)?;
     examples(program, &mut counts)?;
     in_pieces(program)?;
-    counts.join(&many::many(program, seed, count)?);
+    let one = |input: &[u8], counts: &mut Counts| one::one(program, input, counts).map(|_| ());
+    for part in many::many(seed, count, many::input, one)? {
+        counts.join(&part);
+    }
     Ok(counts)
 }
 
@@ -78,27 +96,34 @@ fn written_out(program: &Program, counts: &mut Counts) -> Result<(), Difference>
     Ok(())
 }
 
-/// Each NAME.box prints NAME.out.
-fn examples(program: &Program, counts: &mut Counts) -> Result<(), Difference> {
-    let unreadable = |fault: std::io::Error| differs("examples", b"", fault.to_string());
-    let mut found = 0;
+/// The inputs of the examples, of which there are some.
+fn example_files() -> Result<Vec<PathBuf>, Difference> {
+    let unreadable = |fault: io::Error| differs("examples", b"", fault.to_string());
+    let mut found = Vec::new();
     for entry in fs::read_dir(EXAMPLES).map_err(unreadable)? {
         let path = entry.map_err(unreadable)?.path();
         if path
             .extension()
-            .map_or(true, |extension| extension != "box")
+            .map_or(false, |extension| extension == "box")
         {
-            continue;
+            found.push(path);
         }
+    }
+    if found.is_empty() {
+        return Err(differs("examples", b"", "there are none".to_string()));
+    }
+    Ok(found)
+}
+
+/// Each NAME.box prints NAME.out.
+fn examples(program: &Program, counts: &mut Counts) -> Result<(), Difference> {
+    for path in example_files()? {
+        let unreadable = |fault: io::Error| differs(&name(&path), b"", fault.to_string());
         let input = fs::read(&path).map_err(unreadable)?;
         let expected = fs::read(path.with_extension("out")).map_err(unreadable)?;
         let difference = |fault| differs(&name(&path), &input, fault);
         one::one(program, &input, counts).map_err(difference)?;
         one::same(&boxrun(&input), &expected).map_err(difference)?;
-        found += 1;
-    }
-    if found == 0 {
-        return Err(differs("examples", b"", "there are none".to_string()));
     }
     Ok(())
 }
@@ -107,28 +132,34 @@ fn name(path: &Path) -> String {
     path.display().to_string()
 }
 
+/// The first half, the rest, and the last byte.
+fn in_three(input: &[u8]) -> [&[u8]; 3] {
+    let (first, rest) = input.split_at(input.len() / 2);
+    let (middle, last) = rest.split_at(rest.len().saturating_sub(1));
+    [first, middle, last]
+}
+
 /// Standard input that comes bit by bit is the same input.
 fn in_pieces(program: &Program) -> Result<(), Difference> {
-    for case in fixed::all().iter().filter(|case| case.input.len() > 1) {
-        let (first, rest) = case.input.split_at(case.input.len() / 2);
-        let (middle, last) = rest.split_at(rest.len() - 1);
+    for case in fixed::all() {
         program
-            .printed_in_pieces(&[first, middle, last])
+            .printed_in_pieces(&in_three(&case.input))
             .and_then(|ours| one::same(&ours, &boxrun(&case.input)))
             .map_err(|fault| differs(&format!("{}, in pieces", case.name), &case.input, fault))?;
     }
     Ok(())
 }
 
-fn told(held: Result<Counts, Difference>) -> i32 {
+fn told(held: Held) -> i32 {
     match held {
-        Ok(counts) => {
-            let rows = counts.rows().into_iter();
+        Ok(rows) => {
             let text: String = rows
+                .iter()
                 .map(|(name, number)| format!("{:<28}{:>10}\n", name, number))
                 .collect();
             let status = out(text.as_bytes());
-            let missing = counts.missing();
+            let zeros = rows.iter().filter(|(_, count)| *count == 0);
+            let missing: Vec<&str> = zeros.map(|(name, _)| name.as_str()).collect();
             if missing.is_empty() {
                 return status;
             }

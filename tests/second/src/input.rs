@@ -1,10 +1,11 @@
-//! boxrun as a function: its input, a script and the last line `(turns T ..)`, to what it prints.
+//! boxrun as a function: its input, a script and the last line `(turns T ..)`, to what it prints. And
+//! boxsave: a script alone, to the same script.
 
 use crate::form::turns_line;
 use crate::listing::{listing, refused};
 use crate::machine::run;
 use crate::numbers::*;
-use crate::reading::read_lent;
+use crate::reading::{read, read_lent};
 use crate::script::Program;
 use crate::stripped::strip;
 
@@ -27,6 +28,14 @@ pub fn boxrun(input: &[u8]) -> Vec<u8> {
 pub fn boxrun_stripped(input: &[u8]) -> Vec<u8> {
     match accepted(input) {
         Ok((program, turns)) => listing(&run(&strip(&program), &turns)).into_bytes(),
+        Err(refusal) => refused(refusal).into_bytes(),
+    }
+}
+
+/// What boxsave prints: the script itself, for every text that is accepted comes back byte for byte.
+pub fn boxsave(input: &[u8]) -> Vec<u8> {
+    match read(input) {
+        Ok(_) => input.to_vec(),
         Err(refusal) => refused(refusal).into_bytes(),
     }
 }

@@ -1,9 +1,9 @@
-//! boxrun's own input: the last line, its faults before the script's, and long input.
+//! boxrun's own input: the last line, its faults before the script's, and long input; and boxsave's, a script alone.
 
 mod common;
 
 use common::*;
-use second::input::boxrun;
+use second::input::{boxrun, boxsave};
 
 fn prints(input: &str) -> String {
     String::from_utf8(boxrun(input.as_bytes())).unwrap()
@@ -158,4 +158,17 @@ fn long_input_is_1_at_line_0() {
 fn threads_out_of_range_are_idle() {
     let script = text(&["(thread)", "(let (spawn 0))", "(give (read 1))"]);
     assert_eq!(printed(&script, "0 16 255 1"), printed(&script, "0 1"));
+}
+
+#[test]
+fn boxsave_prints_the_script_or_its_refusal() {
+    let saved = |text: &str| String::from_utf8(boxsave(text.as_bytes())).unwrap();
+    for script in [SMALL.to_string(), case_a(), case_g()] {
+        assert_eq!(saved(&script), script);
+    }
+    assert_eq!(saved(""), "(refused 7 0)\n");
+    assert_eq!(saved(SMALL.trim_end()), "(refused 3 1)\n");
+    assert_eq!(saved(&input(SMALL, "0")), "(refused 3 2)\n");
+    assert_eq!(saved(&"(".repeat(16_384)), "(refused 3 0)\n");
+    assert_eq!(saved(&"(".repeat(16_385)), "(refused 1 0)\n");
 }
