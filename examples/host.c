@@ -1,5 +1,6 @@
 /*
- * A small host of the box: runs a script on a list of turns, tells what came of it, and which objects each thread still reaches.
+ * A small host of the box: runs a script on a list of turns, tells what came of it, and which objects each thread still reaches; then loads the
+ * script and saves it again, as an editor does.
  *
  *     cc -std=c11 -O2 -Iinclude -o host examples/host.c target/staticlib/libhost.a
  *
@@ -12,6 +13,7 @@
 #include <stdint.h>
 #include <stdio.h>
 #include <stdlib.h>
+#include <string.h>
 
 #include "box.h"
 
@@ -20,12 +22,12 @@ enum { BLOCK_STARTS = 8 }; /* the word of the program table where the blocks' fi
 static const char *const end_words[] = {[BOX_FINISHED] = "finished", [BOX_STUCK] = "stuck", [BOX_OPEN] = "open"};
 static const char *const number_words[] = {
     "", "overlong", "stray byte", "malformed", "over count", "unbound", "self taken", "unfinished", "dangling", "short table", "absent",
-    "no field", "no method", "wrong thing", "permission", "cast", "used up", "no thread",
+    "no field", "no method", "wrong thing", "permission", "cast", "used up", "no thread", "no script",
 };
 
 /* What is lent to the box. Text and turns have room for one more than the most, so that the box itself refuses what is too long. */
 static uint8_t text[BOX_TEXT_MOST + 1], turns[BOX_TURNS_MOST + 1];
-static uint8_t program[BOX_TABLE_BYTES], state[BOX_TABLE_BYTES], list[BOX_LIST_BYTES];
+static uint8_t program[BOX_TABLE_BYTES], state[BOX_TABLE_BYTES], list[BOX_LIST_BYTES], script[BOX_SCRIPT_BYTES];
 static size_t text_len, turns_len;
 
 /* Word n of a table or list: two bytes, the low one first. */
@@ -89,6 +91,22 @@ static void reports(void)
     }
 }
 
+/* The script is read into a table and written from it. What is written is the text that was read, byte for byte. */
+static int save(void)
+{
+    size_t line, length;
+    uint16_t number = box_read(text, text_len, program, sizeof program, &line);
+    if (number == 0)
+        number = box_write(program, sizeof program, script, sizeof script, &length);
+    if (number != 0) {
+        printf("not saved: %u %s\n", number, number_words[number]);
+        return 0;
+    }
+    int same = length == text_len && memcmp(script, text, length) == 0;
+    printf("saved: %zu bytes, %s\n", length, same ? "the same as were loaded" : "not those that were loaded");
+    return same;
+}
+
 static int load(const char *name)
 {
     FILE *file = fopen(name, "rb");
@@ -126,5 +144,5 @@ int main(int argc, char **argv)
     if (run() == BOX_REFUSED)
         return 1;
     reports();
-    return 0;
+    return save() ? 0 : 1;
 }

@@ -16,7 +16,7 @@
 #include "box.h"
 
 /* The numbers of document 01, written out once more; `constants` holds the header's to them. */
-enum { MOST_TEXT = 16384, MOST_TURNS = 32768, TABLE = 16384, LIST = 512, FILL = 0xa5, UNSET = 12345 };
+enum { MOST_TEXT = 16384, MOST_TURNS = 32768, TABLE = 16384, LIST = 512, SCRIPT = 16384, FILL = 0xa5, UNSET = 12345 };
 enum { FINISHED, STUCK, OPEN, STOPPED, REFUSED };
 
 static unsigned passed, failed;
@@ -134,6 +134,12 @@ static struct answer run(struct lent l)
     return a;
 }
 
+static uint16_t write_out(struct part program, struct part script, size_t *length)
+{
+    *length = UNSET;
+    return box_write(program.bytes, program.length, script.bytes, script.length, length);
+}
+
 static uint16_t reach(struct lent l, size_t thread, size_t *count, size_t *line)
 {
     *count = *line = UNSET;
@@ -192,12 +198,13 @@ static void constants(void)
     static const int numbers[] = {
         BOX_OVERLONG, BOX_STRAY_BYTE, BOX_MALFORMED, BOX_OVER_COUNT, BOX_UNBOUND, BOX_SELF_TAKEN, BOX_UNFINISHED, BOX_DANGLING, BOX_SHORT_TABLE,
         BOX_ABSENT, BOX_NO_FIELD, BOX_NO_METHOD, BOX_WRONG_THING, BOX_PERMISSION, BOX_CAST, BOX_USED_UP, BOX_NO_THREAD,
+        BOX_NO_SCRIPT,
     };
     for (int n = 0; n < 5; n++)
         check(ends[n] == n, "the header's end %d", n);
-    for (int n = 0; n < 17; n++)
+    for (int n = 0; n < 18; n++)
         check(numbers[n] == n + 1, "the header's number %d", n + 1);
-    check(BOX_TABLE_BYTES == TABLE && BOX_LIST_BYTES == LIST, "the header's lengths");
+    check(BOX_TABLE_BYTES == TABLE && BOX_LIST_BYTES == LIST && BOX_SCRIPT_BYTES == SCRIPT, "the header's lengths");
     check(BOX_TEXT_MOST == MOST_TEXT && BOX_TURNS_MOST == MOST_TURNS, "the header's mosts");
 }
 
@@ -409,6 +416,107 @@ static void reports(void)
     give_all_back(lent);
 }
 
+/* ---- The writer ---- */
+
+/* Every form of a line, every number of digits, a method; its lines stand from word 72 on, eight words each, the last at 200. */
+#define EVERY_FORM "(kind (fields 4) (does 2 2 2 2))\n(thread)\n(let (read 0))\n(let (take 1))\n(let (field 2 10))\n(let (swap 3 99 (take 2)))\n" \
+    "(let (call 1 255 (read 4)))\n(let (new local 0 (read 1) (take 2) (read 3) (take 4)))\n(let (cast unsafe (take 5)))\n(let (spawn 1))\n" \
+    "(let (send 8 (take 6)))\n(let (recv 8))\n(give (take 10))\n(thread)\n(give (take 0))\n(method)\n(give (take 1))\n"
+
+static void set_word(struct part table, size_t n, unsigned word)
+{
+    table.bytes[2 * n] = (uint8_t)(word & 255);
+    table.bytes[2 * n + 1] = (uint8_t)(word >> 8);
+}
+
+/* The table that a script reads to, one word of it changed (word 3 is 0 anyway), where it cannot be written. Some bytes more are lent. */
+static struct part loaded(const char *text, size_t place, unsigned word, size_t extra)
+{
+    struct part program = lend(TABLE + extra);
+    size_t line = UNSET;
+    uint16_t number = box_read((const uint8_t *)text, strlen(text), program.bytes, program.length, &line);
+    check(number == 0, "a script is loaded: %u at line %zu", number, line);
+    set_word(program, place, word);
+    struct part fixed = lend_fixed(program.bytes, program.length);
+    give_back(program);
+    return fixed;
+}
+
+/* A table is written as this text, and the buffer's other bytes stay. */
+static void written(const char *name, struct part program, const char *text, size_t extra)
+{
+    struct part script = lend(SCRIPT + extra);
+    size_t length, expected = strlen(text);
+    uint16_t number = write_out(program, script, &length);
+    check(number == 0 && length == expected, "%s: %u, %zu bytes", name, number, length);
+    check(memcmp(script.bytes, text, expected) == 0, "%s: byte for byte", name);
+    check(kept(script, expected), "%s: the buffer's other bytes stay", name);
+    give_back(script);
+    give_back(program);
+}
+
+static void not_written(const char *name, struct part program, size_t script_len, uint16_t number)
+{
+    struct part script = lend(script_len);
+    size_t length;
+    uint16_t answered = write_out(program, script, &length);
+    check(answered == number && length == 0, "%s: %u, %zu bytes", name, answered, length);
+    check(kept(script, 0), "%s: every byte of the buffer stays", name);
+    give_back(script);
+    give_back(program);
+}
+
+/* Word 89 of case D is its capability, 1 for iso; line 19 of the longest script, at word 224, has the field 25. */
+static void writing(void)
+{
+    static const char *const scripts[] = {CASE_A, CASE_D, CASE_E, CASE_I, REACHING, ANSWERING, EVERY_FORM};
+    for (size_t n = 0; n < sizeof scripts / sizeof scripts[0]; n++)
+        for (size_t extra = 0; extra < 4; extra++)
+            written("a script comes back", loaded(scripts[n], 3, 0, extra), scripts[n], 3 - extra);
+    written("16,384 bytes come back", loaded(longest(), 3, 0, 0), longest(), 0);
+    not_written("18, 16,385 bytes", loaded(longest(), 226, 100, 0), SCRIPT, 18);
+    written("another script", loaded(CASE_D, 89, 3, 0), KIND "(thread)\n(let (new unsafe 0))\n(give (read 1))\n", 0);
+}
+
+/* Words of case A's table that no accepted text has; its nine lines stand from word 72 on, eight words each. */
+static void not_scripts(void)
+{
+    static const struct { const char *name; size_t place; unsigned word; } changed[] = {
+        {"18, fewer kinds", 0, 0}, {"18, more kinds", 0, 2}, {"18, fewer blocks", 1, 1}, {"18, more blocks", 1, 3},
+        {"18, no line", 2, 0}, {"18, a line less", 2, 8}, {"18, a line more", 2, 10}, {"18, 65,535 lines", 2, 65535},
+        {"18, a spare word", 3, 1}, {"18, another first line", 8, 3}, {"18, a first line of no block", 10, 10},
+        {"18, form 0", 72, 0}, {"18, form 14", 88, 14}, {"18, form 258", 80, 258}, {"18, an opener in a block", 88, 2},
+        {"18, five fields", 73, 5}, {"18, 256 fields", 73, 256},
+        {"18, a thread for a method", 74, 1}, {"18, a method after none", 75, 1}, {"18, no such block", 89, 2}, {"18, a fifth capability", 97, 4},
+        {"18, no such kind", 98, 1}, {"18, operands unlike the fields", 99, 1}, {"18, slot 1000", 129, 1000}, {"18, a slot not yet filled", 129, 1},
+        {"18, an operand of slot 256", 113, 512}, {"18, a word after the last part", 95, 1}, {"18, a row past the last", 144, 2},
+        {"18, a word after all rows", 5448, 1}, {"18, the last word", 8191, 256},
+    };
+    for (size_t n = 0; n < sizeof changed / sizeof changed[0]; n++)
+        not_written(changed[n].name, loaded(CASE_A, changed[n].place, changed[n].word, 0), SCRIPT, 18);
+    not_written("18, self taken", loaded(EVERY_FORM, 201, 1, 0), SCRIPT, 18);
+    not_written("18, old bytes", lend(TABLE), SCRIPT, 18);
+    not_written("18, zeros", lend_fixed(zero_turns, TABLE), SCRIPT, 18);
+    struct lent lent = lend_run(CASE_A, "\0\0\0\1\0", 5);
+    run(lent);
+    not_written("18, a state", lend_fixed(lent.state.bytes, TABLE), SCRIPT, 18);
+    give_all_back(lent);
+}
+
+/* 9 for a short table and for a short buffer, also where the table holds no script. */
+static void short_buffers(void)
+{
+    static const size_t lengths[] = {0, 1, 2, 8191, 8192, TABLE - 2, TABLE - 1};
+    struct part script = loaded(CASE_A, 3, 0, 0);
+    for (size_t n = 0; n < sizeof lengths / sizeof lengths[0]; n++) {
+        not_written("9, table", lend_fixed(script.bytes, lengths[n]), SCRIPT, 9);
+        not_written("9, both", lend_fixed(script.bytes, lengths[n]), lengths[n], 9);
+        not_written("9, buffer", loaded(CASE_A, 3, 0, 0), lengths[n], 9);
+        not_written("9, buffer, before 18", loaded(CASE_A, 3, 1, 0), lengths[n], 9);
+    }
+    give_back(script);
+}
+
 /* ---- The line finder ---- */
 
 static void line_is(const char *text, size_t n, size_t start, size_t length)
@@ -449,6 +557,8 @@ static void nulls(void)
     check(same(a, (struct answer){REFUSED, 9, 0, 0, 0, 0}), "all null, run: end %u, number %zu", a.end, a.number);
     number = reach(none, 0, &count, &line);
     check(number == 9 && count == 0 && line == 0, "all null, reach: %u", number);
+    number = write_out(none.program, none.list, &count);
+    check(number == 9 && count == 0, "all null, write: %u", number);
     struct lent idle = {lent.text, {0}, lent.program, lent.state, lent.list};
     a = run(idle);
     check(same(a, (struct answer){OPEN, 0, 0, 0, 0, 0}), "null turns: end %u, %zu moves", a.end, a.moves);
@@ -464,12 +574,15 @@ enum { THREADS = 4, CALLS = 200, STACK = 256 * 1024 };
 static void *calling(void *right)
 {
     struct lent lent = lend_run(CASE_A, "\0\0\0\1\0", 5);
+    struct part script = lend(SCRIPT);
     for (int n = 0; n < CALLS; n++) {
-        size_t count, line;
+        size_t count, line, length;
         int same_run = same(run(lent), (struct answer){OPEN, 0, 0, 0, 0, 5}) && word(lent.state, 6955) == 1;
         int same_report = reach(lent, 1, &count, &line) == 0 && count == 1 && word(lent.list, 0) == 0;
-        *(int *)right += same_run && same_report;
+        int same_text = write_out(lent.program, script, &length) == 0 && length == strlen(CASE_A) && memcmp(script.bytes, CASE_A, length) == 0;
+        *(int *)right += same_run && same_report && same_text;
     }
+    give_back(script);
     give_all_back(lent);
     return NULL;
 }
@@ -501,6 +614,9 @@ int main(void)
     short_lists();
     messages();
     reports();
+    writing();
+    not_scripts();
+    short_buffers();
     line_finder();
     several_threads();
     printf("%u passed, %u failed\n", passed, failed);

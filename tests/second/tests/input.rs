@@ -1,4 +1,5 @@
-//! boxrun's own input: the last line, its faults before the script's, and long input; and boxsave's, a script alone.
+//! boxrun's own input: the last line, its faults before the script's, and long input; and boxsave's,
+//! a script alone.
 
 mod common;
 
