@@ -4,8 +4,9 @@ use std::hint::black_box;
 use std::time::Instant;
 
 use second::machine;
-use second::numbers::TABLE_WORDS;
+use second::numbers::{MOST_TEXT, TABLE_WORDS};
 use second::reading;
+use second::writing;
 
 use crate::chart::{self, Row};
 use crate::full;
@@ -33,8 +34,37 @@ fn medians(calls: usize, mut ours: impl FnMut(), mut theirs: impl FnMut()) -> (f
     (median(left), median(right))
 }
 
-/// Reading 16,384 bytes, by the byte. The table is lent full of old bytes.
-fn reading_row(calls: usize) -> Row {
+/// One call on 16,384 bytes: its name, and the seconds of both.
+struct Whole {
+    name: &'static str,
+    ours: f64,
+    second: f64,
+}
+
+impl Whole {
+    fn row(&self) -> Row {
+        let byte = |time: f64| time / MOST_TEXT as f64 * 1e9;
+        Row {
+            name: format!("{}, by the byte", self.name),
+            ours: byte(self.ours),
+            second: byte(self.second),
+            lua: None,
+        }
+    }
+
+    /// The same by the script.
+    fn line(&self) -> String {
+        let megabytes = MOST_TEXT as f64 / self.ours / 1e6;
+        let micros = self.ours * 1e6;
+        format!(
+            "{} a script of {} bytes: {:.1} µs, {:.0} MB/s\n",
+            self.name, MOST_TEXT, micros, megabytes
+        )
+    }
+}
+
+/// Reading 16,384 bytes. The table is lent full of old bytes.
+fn whole_reading(calls: usize) -> Whole {
     let text = full::script(1);
     let mut table = vec![0xa5; 2 * TABLE_WORDS];
     let (ours, second) = medians(
@@ -46,13 +76,40 @@ fn reading_row(calls: usize) -> Row {
             let _ = black_box(reading::read(black_box(&text)));
         },
     );
-    let byte = |time: f64| time / text.len() as f64 * 1e9;
-    Row {
-        name: "reading, by the byte".to_string(),
-        ours: byte(ours),
-        second: byte(second),
-        lua: None,
+    Whole {
+        name: "reading",
+        ours,
+        second,
     }
+}
+
+/// Writing them back from their table. The buffer is lent full of old bytes.
+fn whole_writing(calls: usize) -> Result<Whole, String> {
+    let text = full::script(1);
+    let mut table = vec![0xa5; 2 * TABLE_WORDS];
+    bytes::read(&text, &mut table).map_err(|refusal| format!("writing: {:?}", refusal))?;
+    let pairs = table.chunks(2);
+    let words: Vec<u16> = pairs
+        .map(|pair| u16::from_le_bytes([pair[0], pair[1]]))
+        .collect();
+    let mut buffer = vec![0xa5; MOST_TEXT];
+    let (ours, second) = medians(
+        calls,
+        || {
+            let _ = black_box(bytes::write(black_box(&table), &mut buffer));
+        },
+        || {
+            let _ = black_box(writing::write(black_box(&words), MOST_TEXT));
+        },
+    );
+    if buffer != text {
+        return Err("writing: the script does not come back".to_string());
+    }
+    Ok(Whole {
+        name: "writing",
+        ours,
+        second,
+    })
 }
 
 /// The turns of a load: a whole run less the same run on no turns, by turn.
@@ -98,15 +155,24 @@ fn run_row(calls: usize, load: &Load, lua: &str) -> Result<Row, String> {
 
 /// What a person reads; `lua` has the lines that the Lua side printed, if any.
 pub fn shown(calls: usize, lua: &str) -> Result<String, String> {
-    let mut rows = vec![reading_row(calls)];
+    let wholes = [whole_reading(calls), whole_writing(calls)?];
+    let mut rows: Vec<Row> = wholes.iter().map(Whole::row).collect();
     for load in loads::all() {
         rows.push(run_row(calls / 10, &load, lua)?);
     }
     let head = format!(
         "ns a turn: the compiled box, the second interpreter and Lua 5.4 coroutines over plain tables, resumed at every turn; ratio: the box's time by theirs.\n\
-         Medians of {} calls (reading: {}), box and second turn about.\n\n",
+         Medians of {} calls (reading and writing: {}), box and second turn about.\n\n",
         calls / 10,
         calls
     );
-    Ok([head, chart::table(&rows), chart::bars(&rows)].concat())
+    let lines: String = wholes.iter().map(Whole::line).collect();
+    Ok([
+        head,
+        chart::table(&rows),
+        "\n".to_string(),
+        lines,
+        chart::bars(&rows),
+    ]
+    .concat())
 }

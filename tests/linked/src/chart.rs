@@ -1,6 +1,6 @@
 //! What the bench prints: a table, and a bar for each time.
 
-/// The times of one load, in ns a turn (for reading, ns a byte). A load without a Lua side has none.
+/// The times of one load, in ns a turn (for reading and writing, ns a byte). A load without a Lua side has none.
 pub struct Row {
     pub name: String,
     pub ours: f64,
