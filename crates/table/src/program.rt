@@ -61,7 +61,7 @@ pub fn same_table(t: &[u16], words: &[u16]) -> bool
     ensures { λ r. ⌜ Same (now (t .entry)) (now (words .entry)) r ⌝ }
 {
     let mut i: usize = 0;
-    while i < 8192 {
+    while i < 8192 { // the rows past the last line too
         if t[i] != words[i] {
             return false;
         }

@@ -58,7 +58,7 @@ pub fn put_cap(buf: &mut [u8], at: usize, cap: Cap) -> usize
     requires { ⌜ at + 7 ≤ length (now buf) ⌝ }
     ensures { λ r. ⌜ Wrote 7 (now (buf .entry)) (now (buf .exit)) at r (space ∷ capWord cap) ⌝ }
 {
-    let a = put_byte(buf, at, b' ');
+    let a = put_byte(buf, at, b' '); // before the word
     match cap {
         Cap::Imm => put_text(buf, a, &rules::IMM),
         Cap::Iso => put_text(buf, a, &rules::ISO),
