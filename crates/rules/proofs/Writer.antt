@@ -1,11 +1,14 @@
 -- A text that was read comes back: read again into its table it is accepted again, so it is one of the texts of which the writer's contract speaks.
+-- Which texts read to a table is told by its first words: every table that is long enough accepts the same texts.
 use Prim.Native.Nat.{ℕ, _≤_}
+use native.Mathlib.Nat.{le-refl}
 use native.Mathlib.Omega.{arith}
-use mathlib.Core.Path.{_≡_, sym}
-use mathlib.Core.Bool.{false}
+use mathlib.Core.Path.{_≡_, sym, _∙_}
+use mathlib.Core.Bool.{Bool, true, false}
 use mathlib.Core.List.{List, map}
-use lib.ListN.{length, drop, length-append}
-use lib.Seq.{take-append-seam}
+use mathlib.Core.Logic.{_⊎_, inl, inr}
+use lib.ListN.{length, take, drop, length-append}
+use lib.Seq.{take-append-seam, length-take-le, take-take}
 use borrow.Author.Tests.{ltb-false, le-ltb}
 use Rattle.rules.specs.declared.Mosts.{Mosts}
 use Rattle.rules.specs.Mosts as Most
@@ -16,7 +19,7 @@ use Rattle.rules.specs.Reading.{nothing, scanned, scan, reading, accepte
 use Rattle.rules.specs.Valid.{Valid}
 use Rattle.rules.specs.Tables.{programWords}
 use Rattle.rules.specs.Calls.{longText, shortTable, readCall, programAfter}
-use Rattle.rules.specs.Writer.{ReadsTo, shortBuffer, Answer, Written, WriteCall, ComesBack}
+use Rattle.rules.specs.Writer.{ReadsTo, NoneReadsTo, Answer, Written, Writes, shortBuffer, WritesUnless, WriteCall, ComesBack}
 use Rattle.rules.proofs.Printing.{scan-prints}
 use Rattle.rules.proofs.Accepted.{accepted-valid, accepted-lines, reading-accepted}
 use Rattle.rules.proofs.TableWords.{program-words-length}
@@ -49,6 +52,56 @@ module _ (m : Mosts) (text table : List ℕ) (P : Program) (read : readCall m te
   pub read-again : (other : List ℕ) → Most.words ≤ length other → readCall m text other ≡ accepted P
   unfolding readCall shortTable reading
   read-again other long-enough = rw (le-ltb (length other) Most.words long-enough, met-none .0) (met-none .2)
+
+-- ---- Only a table's first words matter
+
+-- to a table with the same first words
+reads-to-same-words : (m : Mosts) (table other text : List ℕ) → Most.words ≤ length other → take Most.words table ≡ take Most.words other → ReadsTo m table text → ReadsTo m other text
+reads-to-same-words m table other text long same reads =
+    record {
+      program = reads .program;
+      reads = read-again m text table (reads .program) (reads .reads) other long;
+      words = sym same ∙ reads .words;
+    }
+
+module _ (m : Mosts) (table : List ℕ) (long : Most.words ≤ length table) where
+  -- what "8,192 words" leave of it
+  abbrev front : List ℕ
+  front = take Most.words table
+
+  front-long : Most.words ≤ length front
+  front-long = rw (length-take-le Most.words table long) (le-refl Most.words)
+
+  front-of-front : take Most.words front ≡ take Most.words table
+  front-of-front = take-take Most.words Most.words table (le-refl Most.words)
+
+  to-front : (text : List ℕ) → ReadsTo m table text → ReadsTo m front text
+  to-front text reads = reads-to-same-words m table front text front-long (sym front-of-front) reads
+
+  from-front : (text : List ℕ) → ReadsTo m front text → ReadsTo m table text
+  from-front text reads = reads-to-same-words m front table text long front-of-front reads
+
+  decided-from-front : ((text : List ℕ) × ReadsTo m front text) ⊎ NoneReadsTo m front → ((text : List ℕ) × ReadsTo m table text) ⊎ NoneReadsTo m table
+  decided-from-front (inl some) = inl (some .0, from-front (some .0) (some .1))
+  decided-from-front (inr none) = inr (λ text reads. none text (to-front text reads))
+
+  module _ (buffer : List ℕ) (answer : Answer) (after : List ℕ) where
+    writes-by-front : Writes m front buffer answer after → Writes m table buffer answer after
+    writes-by-front writes =
+        record {
+          comes-back = λ text reads. writes .comes-back text (to-front text reads);
+          no-script = λ none. writes .no-script (λ text reads. none text (from-front text reads));
+          decided = decided-from-front (writes .decided);
+        }
+
+    unless-by-front : (short : Bool) → WritesUnless short m front buffer answer after → WritesUnless short m table buffer answer after
+    unless-by-front true call = call
+    unless-by-front false call = writes-by-front call
+
+    pub write-call-by-front : WriteCall m front buffer answer after → WriteCall m table buffer answer after
+    unfolding shortTable
+    write-call-by-front call =
+        rw (le-ltb (length table) Most.words long) (unless-by-front (shortBuffer buffer) (rw (le-ltb (length front) Most.words front-long) at call))
 
 -- ---- Read and written
 
