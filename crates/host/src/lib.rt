@@ -3,7 +3,7 @@ ghost use mathlib.Core.Path.{_≡_};
 ghost use mathlib.Core.Bool.{_||_};
 ghost use Prim.Native.Nat.{_*_, _≤_};
 ghost use lib.Dec.{ltb};
-ghost use lib.ListN.{length};
+ghost use lib.ListN.{length, take};
 ghost use Rattle.rules.specs.Mosts as Most;
 ghost use Rattle.rules.specs.Mosts.{mosts};
 ghost use Rattle.rules.specs.Text.{lines, findLine, startOf};
@@ -11,7 +11,7 @@ ghost use Rattle.rules.specs.Tables.{programWords};
 ghost use Rattle.rules.specs.Calls.{runAnswer};
 ghost use Rattle.reader.specs.Answers.{numberOf, lineOf};
 ghost use Rattle.run.specs.Answers.{Tells};
-ghost use Rattle.host.specs.Bytes.{bytesAfter};
+ghost use Rattle.host.specs.Bytes.{bytesAfter, wordsOf};
 ghost use Rattle.host.specs.Calls.{earlyNumber, tableAfter, readBytes, runBytes, ranWords, Demand3, reachBytes, ReportsBytes};
 
 const TABLE: usize = 16384; // bytes of a table
@@ -28,6 +28,20 @@ fn store(t: &mut [u8], words: &[u16])
         let x = words[i];
         t[2 * i] = (x % 256) as u8;
         t[2 * i + 1] = (x / 256) as u8;
+        i += 1;
+    }
+}
+
+// The first bytes as words.
+fn load(words: &mut [u16], bytes: &[u8])
+    requires { ⌜ 2 * length (now words) ≤ length (now bytes) ⌝ }
+    ensures { λ _. ⌜ now (words .exit) ≡ take (length (now (words .entry))) (wordsOf (now (bytes .entry))) ⌝ }
+{
+    let mut i = 0;
+    while i < words.len() {
+        let low = bytes[2 * i];
+        let high = bytes[2 * i + 1];
+        words[i] = low as u16 + 256 * high as u16;
         i += 1;
     }
 }
