@@ -7,6 +7,7 @@ use native.Mathlib.Omega.{arith}
 use lib.Dec.{ltb}
 use lib.ListN.{length, take, drop, drop-of-length-le}
 use lib.Seq.{take-at}
+use borrow.Author.Tests.{lt-ltb}
 use Rattle.rules.specs.Mosts as Most
 use Rattle.rules.specs.Mosts.{mosts}
 use Rattle.rules.specs.Numbers as No
@@ -16,19 +17,24 @@ use Rattle.rules.specs.Reading.{Reading, turnedAway, accepted}
 use Rattle.rules.specs.State.{State}
 use Rattle.rules.specs.Run.{Run, End, Stop, none, stopped, finished, stuck, openEnd, ended, run, endOf, answerOf, answer}
 use Rattle.rules.specs.Tables.{programWords, stateWords}
-use Rattle.rules.specs.Calls.{programAfter, runAnswer, stateAfter, unreported, reached, ReportsOn, ReachReport}
+use Rattle.rules.specs.Calls.{shortTable, programAfter, runAnswer, stateAfter, unreported, reached, ReportsOn, ReachReport}
+use Rattle.rules.specs.Writer.{refused, WriteCall}
 use Rattle.rules.proofs.ListLaws.{impossible, length-pad}
 use Rattle.rules.proofs.Demand3.{stripped-matches}
 use Rattle.rules.proofs.TableWords.{program-words-length, state-words-length}
+use Rattle.rules.proofs.Writer.{write-call-by-front}
 use Rattle.reader.specs.declared.Answer.the-variants.{Read, Refused}
 use Rattle.reader.specs.Answers as Reader
 use Rattle.reader.specs.Answers.{numberOf, lineOf}
+use Rattle.writer.specs.declared.Answer.{Answer}
+use Rattle.writer.specs.Answers as Writer
 use Rattle.run.specs.Answers.{endNumber, Tells}
 use Rattle.reach.specs.declared.Report.{Report}
 use Rattle.reach.specs.Walking.{reportOf}
-use Rattle.host.specs.Bytes.{bytesOf, bytesAfter}
-use Rattle.host.specs.Calls.{tableAfter, ranWords, Guarded, Demand3, ReportsBytes}
+use Rattle.host.specs.Bytes.{bytesOf, bytesAfter, wordsOf}
+use Rattle.host.specs.Calls.{tableAfter, ranWords, Guarded, Demand3, ReportsBytes, writeNumber, writeLength, WritesBytes}
 use Rattle.host.proofs.Stored.{bytes-length, stored}
+use Rattle.host.proofs.Loaded.{short-words, long-words}
 use Rattle.host.proofs.First.{AtMost9}
 
 -- ---- Reading
@@ -237,3 +243,28 @@ module _ (turns : List ℕ) (t : ℕ) (program state list l₀ l₁ : List ℕ) 
           program-is = program-held P turns p₀ s₀ program state p-long s-long p-written s-written p-kept s-kept;
           state-is = state-held P turns p₀ s₀ program state p-long s-long p-written s-written p-kept s-kept;
         }
+
+-- ---- Writing
+
+pub write-early : (program script : List ℕ) → length program < 2 * Most.words → WritesBytes program script No.shortTable 0 script
+unfolding shortTable
+write-early program script short =
+    record {
+      answer = refused No.shortTable;
+      writes = rw (lt-ltb _ _ (short-words Most.words program short)) (record { answers = refl; leaves = refl });
+      number-is = refl;
+      length-is = refl;
+    }
+
+-- the words that were loaded are the program table's first
+pub write-done : (program script words after : List ℕ) {r : Answer} (r′ : Answer) → 2 * Most.words ≤ length program → words ≡ take Most.words (wordsOf program)
+    → r ≡ r′ → WriteCall mosts words script (Writer.answerOf r) after
+    → WritesBytes program script (writeNumber (Writer.answerOf r′)) (writeLength (Writer.answerOf r′)) after
+write-done program script words after r′ room loaded told call =
+    record {
+      answer = Writer.answerOf r′;
+      writes = write-call-by-front mosts (wordsOf program) (long-words Most.words program room) script (Writer.answerOf r′) after
+          (subst (λ (l : List ℕ). WriteCall mosts l script (Writer.answerOf r′) after) loaded (subst (λ (r : Answer). WriteCall mosts words script (Writer.answerOf r) after) told call));
+      number-is = refl;
+      length-is = refl;
+    }

@@ -9,7 +9,7 @@ use lib.Seq.{append-snoc, drop-cons, drop-length, length-take-le, set-at, take-s
 use Rattle.host.specs.Bytes.{wordsOf}
 
 -- an odd last byte is no word
-pub words-length : (bytes : List ℕ) → (2 * length (wordsOf bytes) ≤ length bytes) × (length bytes ≤ 2 * length (wordsOf bytes) + 1)
+words-length : (bytes : List ℕ) → (2 * length (wordsOf bytes) ≤ length bytes) × (length bytes ≤ 2 * length (wordsOf bytes) + 1)
 unfolding wordsOf
 words-length [] = (omega arith, omega arith)
 words-length (low ∷ []) = (omega arith, omega arith)
@@ -17,7 +17,7 @@ words-length (low ∷ high ∷ bytes) =
     let rest = words-length bytes in
     (omega (arith, rest .0), omega (arith, rest .1))
 
-pub word-at : (bytes : List ℕ) (i : ℕ) → 2 * i + 1 < length bytes → getD (wordsOf bytes) i 0 ≡ getD bytes (2 * i) 0 + 256 * getD bytes (2 * i + 1) 0
+word-at : (bytes : List ℕ) (i : ℕ) → 2 * i + 1 < length bytes → getD (wordsOf bytes) i 0 ≡ getD bytes (2 * i) 0 + 256 * getD bytes (2 * i + 1) 0
 unfolding wordsOf
 word-at [] i h = absurd (omega arith)
 word-at (low ∷ []) i h = absurd (omega arith)

@@ -1,4 +1,4 @@
--- The calls of document 01 for a host that lends bytes: the answer as numbers, and every lent byte afterwards.
+-- The calls of documents 01 and 02 for a host that lends bytes: the answer as numbers, and every lent byte afterwards.
 use Prim.Native.Nat.{ℕ, _*_}
 use mathlib.Core.Path.{_≡_}
 use mathlib.Core.Bool.{Bool, _||_, cond}
@@ -14,8 +14,9 @@ use Rattle.rules.specs.Run.{run, answer}
 use Rattle.rules.specs.Stripped.{Matches}
 use Rattle.rules.specs.Tables.{stateWords}
 use Rattle.rules.specs.Calls.{longText, longTurns, Report, unreported, reached, ReachReport}
+use Rattle.rules.specs.Writer.{Answer, refused, wrote, WriteCall}
 use Rattle.run.specs.Answers.{Tells}
-use Rattle.host.specs.Bytes.{bytesOf, bytesAfter}
+use Rattle.host.specs.Bytes.{bytesOf, bytesAfter, wordsOf}
 
 -- "9 short table: a lent table or list under its length", which is n words
 unfoldable pub shortBytes : ℕ → List ℕ → Bool
@@ -87,3 +88,21 @@ pub record ReportsBytes (C : Reading) (turns : List ℕ) (thread : ℕ) (list : 
   pub count-is : count ≡ countOf report
   pub line-is : line ≡ lineOf report
   pub leaves : after ≡ listAfter report words list
+
+-- ---- document 02, L2: "write a script back out"
+
+-- the answer as numbers: that of the refusal, 0 for none; how many bytes are written, 0 where there are none
+abbrev pub writeNumber : Answer → ℕ
+writeNumber (refused k) = k
+writeNumber (wrote n) = 0
+
+abbrev pub writeLength : Answer → ℕ
+writeLength (refused k) = 0
+writeLength (wrote n) = n
+
+-- document 02's call on the words that the program table's bytes are
+pub record WritesBytes (program script : List ℕ) (number length : ℕ) (after : List ℕ) : Type 0 where
+  pub answer : Answer
+  pub writes : WriteCall mosts (wordsOf program) script answer after
+  pub number-is : number ≡ writeNumber answer
+  pub length-is : length ≡ writeLength answer

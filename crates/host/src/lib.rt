@@ -12,7 +12,7 @@ ghost use Rattle.rules.specs.Calls.{runAnswer};
 ghost use Rattle.reader.specs.Answers.{numberOf, lineOf};
 ghost use Rattle.run.specs.Answers.{Tells};
 ghost use Rattle.host.specs.Bytes.{bytesAfter, wordsOf};
-ghost use Rattle.host.specs.Calls.{earlyNumber, tableAfter, readBytes, runBytes, ranWords, Demand3, reachBytes, ReportsBytes};
+ghost use Rattle.host.specs.Calls.{earlyNumber, tableAfter, readBytes, runBytes, ranWords, Demand3, reachBytes, ReportsBytes, WritesBytes};
 
 const TABLE: usize = 16384; // bytes of a table
 
@@ -205,4 +205,25 @@ pub extern "C" fn box_line(text: &[u8], n: usize, start: &mut usize) -> usize
     *start = reader::line_start(text, n);
     let line = reader::find_line(text, n);
     line.len()
+}
+
+// Writes the script that a program table holds: 0 and how many bytes, or the refusal's number and 0. A refusal changes no byte.
+#[no_mangle]
+pub extern "C" fn box_write(program: &[u8], script: &mut [u8], length: &mut usize) -> u16
+    ensures { λ r. ⌜ WritesBytes (now (program .entry)) (now (script .entry)) r (now (length .exit)) (now (script .exit)) ⌝ }
+{
+    *length = 0;
+    if program.len() < TABLE {
+        return rules::numbers::SHORT_TABLE; // before any 18
+    }
+    let mut words = [0u16; 8192];
+    load(&mut words, program);
+    let answer = writer::write(&words, script);
+    match answer {
+        writer::Answer::Refused(number) => number,
+        writer::Answer::Written(n) => {
+            *length = n;
+            0
+        }
+    }
 }
