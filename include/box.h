@@ -7,7 +7,7 @@
  * - What is lent is lent for the call alone: nothing is kept after it, and nothing is carried from one call to the next.
  * - Slices and numbers that the call writes must overlap no other argument.
  * - The tables and the list are written, never read: what they held does not matter. Bytes past BOX_TABLE_BYTES (BOX_LIST_BYTES) keep their
- *   value.
+ *   value. Only box_write reads a table, which may hold any bytes; it writes none.
  * - Every number that is lent by pointer is written by every call, 0 where there is nothing to say.
  * - A call takes under 64 KB of stack, allocates nothing, and may be made by several threads at once, each on arguments of its own.
  */
@@ -29,7 +29,7 @@ extern "C" {
 #define BOX_TEXT_MOST 16384
 #define BOX_TURNS_MOST 32768
 
-/* The shortest buffer that may be lent for a text, in bytes. A shorter one is refused with BOX_SHORT_TABLE. */
+/* The shortest buffer that may be lent for a script to be written, in bytes. A shorter one is refused with BOX_SHORT_TABLE. */
 #define BOX_SCRIPT_BYTES 16384
 
 /* How a run ends. */
@@ -62,7 +62,7 @@ extern "C" {
 /* A refusal of the report alone; the run was made. */
 #define BOX_NO_THREAD 17 /* report on a thread never started */
 
-/* A refusal of the writer alone. */
+/* A refusal of box_write alone. */
 #define BOX_NO_SCRIPT 18 /* no accepted text reads to this table */
 
 /* Reads a script into a program table.
@@ -76,13 +76,14 @@ uint16_t box_read(const uint8_t *text, size_t text_len,
                   uint8_t *program, size_t program_len,
                   size_t *line);
 
-/* Writes the text that reads to a program table.
+/* Writes a script back out from its program table. Every text that box_read accepts comes back byte for byte.
  *
- *   program   a program table, lent to be read, at least BOX_TABLE_BYTES
- *   script    gets the text, at least BOX_SCRIPT_BYTES
- *   length    gets how many bytes were written, 0 on a refusal
+ *   program   the program table, lent to be read, at least BOX_TABLE_BYTES; bytes past these are not looked at
+ *   script    gets the text, at least BOX_SCRIPT_BYTES; bytes past the text keep their value
+ *   length    gets how many bytes were written
  *
- * Answers 0, BOX_SHORT_TABLE or BOX_NO_SCRIPT. On a refusal the buffer keeps every byte; else its bytes past the length keep their value. */
+ * Answers 0 where the script was written. Else BOX_SHORT_TABLE, or BOX_NO_SCRIPT where no accepted text reads to this table; the buffer then
+ * keeps every byte, and the length is 0. */
 uint16_t box_write(const uint8_t *program, size_t program_len,
                    uint8_t *script, size_t script_len,
                    size_t *length);
