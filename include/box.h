@@ -9,7 +9,8 @@
  * - The tables and the list are written, never read: what they held does not matter. Bytes past BOX_TABLE_BYTES (BOX_LIST_BYTES) keep their
  *   value. Only box_write reads a table, which may hold any bytes; it writes none.
  * - Every number that is lent by pointer is written by every call, 0 where there is nothing to say.
- * - A call takes under 64 KB of stack, allocates nothing, and may be made by several threads at once, each on arguments of its own.
+ * - A call takes under 64 KB of stack, box_write under 72 KB, allocates nothing, and may be made by several threads at once, each on arguments of
+ *   its own.
  */
 #ifndef BOX_H
 #define BOX_H
