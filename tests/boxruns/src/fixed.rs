@@ -2,6 +2,7 @@
 //! first line that document 01 settles for it.
 
 use second::numbers::{MOST_INPUT, MOST_TEXT};
+use second::shapes::longest_script;
 
 pub struct Fixed {
     pub name: String,
@@ -230,22 +231,6 @@ fn turns_lines() -> Vec<Fixed> {
     ));
     all.push(fixed("idle turns", SMALL, " 1 15 16 255", "(end open 0)"));
     all
-}
-
-/// A script of exactly 16,384 bytes: 18 kinds, 64 threads and 512 lets.
-fn longest_script() -> String {
-    let block = |short: usize| {
-        let lets: String = (0..8)
-            .map(|n| {
-                format!(
-                    "(let (swap 0 {} (read 0)))\n",
-                    if n < short { "25" } else { "255" }
-                )
-            })
-            .collect();
-        format!("(thread)\n{}(give (read 0))\n", lets)
-    };
-    [KIND.repeat(18), block(2), block(0).repeat(63)].concat()
 }
 
 fn long_inputs() -> Vec<Fixed> {

@@ -313,6 +313,23 @@ pub fn long_script(random: &mut Random) -> Shape {
     (text, rounds(2, 20))
 }
 
+/// A script of exactly 16,384 bytes: 18 kinds, 64 threads and 512 lets.
+pub fn longest_script() -> String {
+    let block = |short: usize| {
+        let lets: String = (0..8)
+            .map(|n| {
+                format!(
+                    "(let (swap 0 {} (read 0)))\n",
+                    if n < short { "25" } else { "255" }
+                )
+            })
+            .collect();
+        format!("(thread)\n{}(give (read 0))\n", lets)
+    };
+    let kinds = "(kind (fields 0) (does))\n".repeat(18);
+    [kinds, block(2), block(0).repeat(63)].concat()
+}
+
 /// An input at or just past its most, by its turns.
 pub fn long_turns(random: &mut Random) -> Shape {
     let text =

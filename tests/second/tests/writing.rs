@@ -8,6 +8,7 @@ use second::input::parts;
 use second::layout::{self, BLOCK_COUNT, FIRST_LINES, KIND_COUNT, LINE, LINES, LINE_COUNT};
 use second::numbers::*;
 use second::reading::read;
+use second::shapes::longest_script;
 use second::writing::{write, Unwritten};
 
 /// Every form of a line.
@@ -144,26 +145,10 @@ fn every_most_comes_back() {
     comes_back(&script);
 }
 
-/// A script of exactly 16,384 bytes: 18 kinds, 64 threads and 512 lets.
-fn longest() -> String {
-    let block = |short: usize| {
-        let lets: String = (0..8)
-            .map(|n| {
-                format!(
-                    "(let (swap 0 {} (read 0)))\n",
-                    if n < short { "25" } else { "255" }
-                )
-            })
-            .collect();
-        format!("(thread)\n{}(give (read 0))\n", lets)
-    };
-    [PLAIN_KIND.repeat(18), block(2), block(0).repeat(63)].concat()
-}
-
 /// One digit less comes back; one digit more is a text that is too long for the reader.
 #[test]
 fn a_text_of_16384_bytes_comes_back_and_a_longer_one_is_none() {
-    let script = longest();
+    let script = longest_script();
     assert_eq!(script.len(), MOST_TEXT);
     comes_back(&script);
     let first_let = LINES + 19 * LINE;
