@@ -19,6 +19,7 @@ use Rattle.rules.proofs.ListLaws.{impossible}
 use Rattle.rules.proofs.Theorems.{every-text-comes-back}
 use Rattle.reader.specs.Answers.{answerOf}
 use Rattle.reader.specs.declared.Answer.the-variants as Reader
+use Rattle.listing.specs.declared.Printed.{Printed}
 use Rattle.listing.specs.declared.Printed.the-variants.{Refused, Written}
 use Rattle.listing.specs.Outputs.{printedOf, outputAfter}
 use Rattle.writer.specs.Answers as Told
@@ -44,10 +45,9 @@ module _ (text table : List ℕ) (wide : length table ≡ Most.words) where
   unfolding readCall shortTable
   same-reading = rw (le-ltb (length table) Most.words (omega arith)) refl
 
-  -- a refusal is printed as its line
-  pub saved-refused : {k n : ℕ} → Reader.Refused k n ≡ answerOf (readCall mosts text table) → answerLine (refused k n) ≡ savedText text
+  refusal-line : {k n : ℕ} → Reader.Refused k n ≡ answerOf (readCall mosts text table) → answerLine (refused k n) ≡ savedText text
   unfolding savedText
-  saved-refused {k} {n} e = of-reading (reading mosts (longText text) false text) (e ∙ ap answerOf same-reading)
+  refusal-line {k} {n} e = of-reading (reading mosts (longText text) false text) (e ∙ ap answerOf same-reading)
     where
       of-reading : (x : Reading) → Reader.Refused k n ≡ answerOf x → answerLine (refused k n) ≡ savedAs x text
       of-reading (turnedAway i l) same =
@@ -55,6 +55,12 @@ module _ (text table : List ℕ) (wide : length table ≡ Most.words) where
           let line : n ≡ l = cc in
           rw (number, line) refl
       of-reading (accepted P) same = impossible cc
+
+  -- a refusal is printed as its line
+  pub saved-refused : {k n : ℕ} (output : List ℕ) {after : List ℕ} {r : Printed} → Reader.Refused k n ≡ answerOf (readCall mosts text table)
+      → (r ≡ printedOf (answerLine (refused k n)) output) × (after ≡ outputAfter (answerLine (refused k n)) output)
+      → (r ≡ printedOf (savedText text) output) × (after ≡ outputAfter (savedText text) output)
+  saved-refused output {after} {r} e = subst (λ (t : List ℕ). (r ≡ printedOf t output) × (after ≡ outputAfter t output)) (refusal-line e)
 
   -- and what was read comes back
   pub saved-written : {table₁ output after : List ℕ} {answer : Writer.Answer} → Reader.Read ≡ answerOf (readCall mosts text table)

@@ -4,3 +4,5 @@ mod Stored
 mod Loaded
 mod First
 mod Crossing
+-- a script that is loaded and saved comes back
+mod RoundTrip

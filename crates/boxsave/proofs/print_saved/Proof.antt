@@ -8,7 +8,9 @@ use Rattle.boxsave.proofs.print_saved.Statement.{statement}
 use Rattle.boxsave.proofs.print_saved.Tie as tie
 
 returns : tie.Need-returns
-returns c = printed-short (savedText (now (c .before .before .before .args .text))) (now (c .before .before .before .args .output)) (c .if1 .taken)
+returns c =
+    let start = c .before .before .before .args in
+    printed-short (savedText (now (start .text))) (now (start .output)) (c .if1 .taken)
 
 slice-aggregate-read : tie.Need-slice-aggregate-read
 slice-aggregate-read c = search needs
@@ -41,19 +43,34 @@ same-length : tie.Need-same-length
 same-length c = search needs
 
 returns-2 : tie.Need-returns-2
-returns-2 c = rw (saved-refused (now (c .before .before .before .before .before .before .before .before .before .before .before .before .before .args .text)) _ (search needs) (sym (c .before .before .before .before .before .answer .given .1) ∙ c .before .before .before .before .before .before .before .before .read .ensures .0)) at (c .before .before .print-refusal .ensures)
+returns-2 c =
+    let at-read = c .before .before .before .before .before .before .before .before in
+    let start = at-read .before .before .before .before .before .args in
+    saved-refused (now (start .text)) _ (search needs) (now (start .output)) (sym (c .before .before .before .before .before .answer .given .1) ∙ at-read .read .ensures .0) (c .before .before .print-refusal .ensures)
 
 same-length-2 : tie.Need-same-length-2
 same-length-2 c = search needs
 
 returns-3 : tie.Need-returns-3
-returns-3 c = absurd (never-refused (now (c .before .before .before .before .before .before .before .before .before .before .before .before .before .before .before .before .args .text)) (now (c .before .before .before .before .before .before .before .before .before .before .before .before .before .before .before .before .args .output)) (saved-written (now (c .before .before .before .before .before .before .before .before .before .before .before .before .before .before .before .before .args .text)) _ (search needs) (sym (c .before .before .before .before .before .before .before .before .enum-told .given .1) ∙ c .before .before .before .before .before .before .before .before .before .before .before .read .ensures .0) (c .before .before .before .before .before .before .before .before .before .before .before .read .ensures .1) (search needs) (c .before .before .before .before .before .write .ensures)) (c .before .written .given .1))
+returns-3 c =
+    let at-write = c .before .before .before .before .before in
+    let at-read = at-write .before .before .before .before .before .before in
+    let start = at-read .before .before .before .before .before .args in
+    let read = sym (at-write .before .before .before .enum-told .given .1) ∙ at-read .read .ensures .0 in
+    let saved = saved-written (now (start .text)) _ (search needs) read (at-read .read .ensures .1) (search needs) (at-write .write .ensures) in
+    absurd (never-refused (now (start .text)) (now (start .output)) saved (c .before .written .given .1))
 
 same-length-3 : tie.Need-same-length-3
 same-length-3 c = search needs
 
 returns-4 : tie.Need-returns-4
-returns-4 c = saved-printed (now (c .before .before .before .before .before .before .before .before .before .before .before .before .before .before .before .before .args .text)) (now (c .before .before .before .before .before .before .before .before .before .before .before .before .before .before .before .before .args .output)) (saved-written (now (c .before .before .before .before .before .before .before .before .before .before .before .before .before .before .before .before .args .text)) _ (search needs) (sym (c .before .before .before .before .before .before .before .before .enum-told .given .1) ∙ c .before .before .before .before .before .before .before .before .before .before .before .read .ensures .0) (c .before .before .before .before .before .before .before .before .before .before .before .read .ensures .1) (search needs) (c .before .before .before .before .before .write .ensures)) (c .before .written2 .given .1) (search needs)
+returns-4 c =
+    let at-write = c .before .before .before .before .before in
+    let at-read = at-write .before .before .before .before .before .before in
+    let start = at-read .before .before .before .before .before .args in
+    let read = sym (at-write .before .before .before .enum-told .given .1) ∙ at-read .read .ensures .0 in
+    let saved = saved-written (now (start .text)) _ (search needs) read (at-read .read .ensures .1) (search needs) (at-write .write .ensures) in
+    saved-printed (now (start .text)) (now (start .output)) saved (c .before .written2 .given .1) (search needs)
 
 pub print-saved-spec : {M : Type 1} → statement M
 print-saved-spec =

@@ -29,7 +29,9 @@ array-share-prefix-text : tie.Need-array-share-prefix-text
 array-share-prefix-text c = search needs
 
 slice-aggregate-read : tie.Need-slice-aggregate-read
-slice-aggregate-read c = sym (length-take-le _ _ (omega (arith, c .before .before .put-lines .ensures .most)))
+slice-aggregate-read c =
+    let lines = c .before .before .put-lines in
+    sym (length-take-le (lines .result) (lines .last .0) (omega (arith, lines .ensures .most)))
 
 slice-aggregate-read-2 : tie.Need-slice-aggregate-read-2
 slice-aggregate-read-2 c = search needs
@@ -53,7 +55,9 @@ array-share-prefix-text-2 : tie.Need-array-share-prefix-text-2
 array-share-prefix-text-2 c = search needs
 
 slice-aggregate-put-text : tie.Need-slice-aggregate-put-text
-slice-aggregate-put-text c = sym (length-take-le _ _ (omega (arith, c .before .before .before .before .before .before .before .before .before .before .before .before .put-lines .ensures .most)))
+slice-aggregate-put-text c =
+    let lines = c .before .before .before .before .before .before .before .before .before .before .before .before .put-lines in
+    sym (length-take-le (lines .result) (lines .last .0) (omega (arith, lines .ensures .most)))
 
 put-text-requires : tie.Need-put-text-requires
 put-text-requires c κs =
