@@ -12,7 +12,7 @@ use Rattle.rules.specs.Script.{Program}
 use Rattle.rules.specs.Reading.{reading, accepted}
 use Rattle.rules.specs.Tables.{programWords}
 use Rattle.rules.specs.Calls.{longText, shortTable, readCall}
-use Rattle.rules.specs.Writer.{shortBuffer, WriteCall, Written}
+use Rattle.rules.specs.Writer.{shortBuffer, WriteCall}
 use Rattle.rules.proofs.Accepted.{reading-accepted}
 use Rattle.rules.proofs.TableWords.{program-words-length}
 use Rattle.rules.proofs.Theorems.{every-text-comes-back}
