@@ -48,8 +48,8 @@ pub fn copy_table(t: &mut [u16], from: &[u16])
     requires { ⌜ (8192 ≤ length (now t)) × (length (now from) ≡ 8192) ⌝ }
     ensures { λ _. ⌜ now (t .exit) ≡ now (from .entry) ++ drop 8192 (now (t .entry)) ⌝ }
 {
-    let mut i: usize = 0;
-    while i < 8192 {
+    let mut i: usize = 0; // from the first word
+    while i < 8192 { // to the last word
         t[i] = from[i];
         i += 1;
     }
