@@ -9,12 +9,13 @@ use borrow.Author.Tests.{le-ltb}
 use Rattle.rules.specs.Mosts as Most
 use Rattle.rules.specs.Mosts.{mosts}
 use Rattle.rules.specs.Script.{Program}
-use Rattle.rules.specs.Reading.{reading, accepted}
+use Rattle.rules.specs.Reading.{accepted}
 use Rattle.rules.specs.Tables.{programWords}
-use Rattle.rules.specs.Calls.{longText, shortTable, readCall}
+use Rattle.rules.specs.Calls.{longText, readCall}
 use Rattle.rules.specs.Writer.{shortBuffer, WriteCall}
 use Rattle.rules.proofs.Accepted.{reading-accepted}
 use Rattle.rules.proofs.TableWords.{program-words-length}
+use Rattle.rules.proofs.Writer.{reads-into}
 use Rattle.rules.proofs.Theorems.{every-text-comes-back}
 use Rattle.host.specs.Bytes.{bytesOf, wordsOf}
 use Rattle.host.specs.Calls.{shortBytes, tableAfter, readBytes, writeNumber, writeLength, WritesBytes}
@@ -24,12 +25,12 @@ unfolding bytesOf wordsOf
 stored-and-loaded [] bs = refl
 stored-and-loaded (w ∷ ws) bs = ap₂ _∷_ (omega arith) (stored-and-loaded ws bs)
 
--- on a table of 8,192 words, and whatever stands past them
-read-into : (text program : List ℕ) (P : Program) → readBytes text program ≡ accepted P → (table : List ℕ) → Most.words ≤ length table → readCall mosts text table ≡ accepted P
-unfolding readBytes readCall shortTable reading
-read-into text program P read table long =
+-- on words as on bytes
+read-words : (text program : List ℕ) (P : Program) → readBytes text program ≡ accepted P → (table : List ℕ) → Most.words ≤ length table → readCall mosts text table ≡ accepted P
+unfolding readBytes
+read-words text program P read =
     let met-none = reading-accepted mosts (longText text) (shortBytes Most.words program) text P read in
-    rw (le-ltb (length table) Most.words long, met-none .0) (met-none .2)
+    reads-into mosts text P (met-none .0) (met-none .2)
 
 -- box_read and then box_write
 pub script-comes-back : (text program script : List ℕ) (P : Program) → readBytes text program ≡ accepted P → Most.text ≤ length script
@@ -43,6 +44,6 @@ script-comes-back text program script P read room number bytes after saved =
     let past : drop Most.words table ≡ rest = drop-at (programWords P) rest Most.words (program-words-length P) in
     let words : wordsOf (tableAfter programWords (accepted P) program) ≡ programWords P ++ drop Most.words table =
     stored-and-loaded (programWords P) _ ∙ ap (programWords P ++_) (sym past) in
-    let written = every-text-comes-back text table script P (read-into text program P read table long) (le-ltb (length script) Most.text room) (saved .answer) after
+    let written = every-text-comes-back text table script P (read-words text program P read table long) (le-ltb (length script) Most.text room) (saved .answer) after
     (subst (λ (t : List ℕ). WriteCall mosts t script (saved .answer) after) words (saved .writes)) in
     (saved .number-is ∙ ap writeNumber (written .answers), saved .length-is ∙ ap writeLength (written .answers), written .leaves)

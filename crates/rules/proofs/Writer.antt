@@ -24,6 +24,12 @@ use Rattle.rules.proofs.Printing.{scan-prints}
 use Rattle.rules.proofs.Accepted.{accepted-valid, accepted-lines, reading-accepted}
 use Rattle.rules.proofs.TableWords.{program-words-length}
 
+-- a text in which reading meets none of 1 to 8 reads into every table that is long enough
+pub reads-into : (m : Mosts) (text : List ℕ) (P : Program) → longText text ≡ false → script m text ≡ accepted P → (table : List ℕ) → Most.words ≤ length table
+    → readCall m text table ≡ accepted P
+unfolding readCall shortTable reading
+reads-into m text P short is table long = rw (le-ltb (length table) Most.words long, short) is
+
 -- ---- A text that some table was long enough for
 
 module _ (m : Mosts) (text table : List ℕ) (P : Program) (read : readCall m text table ≡ accepted P) where
@@ -34,10 +40,6 @@ module _ (m : Mosts) (text table : List ℕ) (P : Program) (read : readCall m te
   pub read-length : length text ≤ Most.text
   unfolding longText
   read-length = ltb-false _ _ (met-none .0)
-
-  pub read-table : Most.words ≤ length table
-  unfolding shortTable
-  read-table = ltb-false _ _ (met-none .1)
 
   pub read-lines : scan m nothing 0 (lines text) ≡ scanned (linesOf P)
   read-lines = accepted-lines m text P (met-none .2)
@@ -50,8 +52,7 @@ module _ (m : Mosts) (text table : List ℕ) (P : Program) (read : readCall m te
 
   -- it reads into every table that is
   pub read-again : (other : List ℕ) → Most.words ≤ length other → readCall m text other ≡ accepted P
-  unfolding readCall shortTable reading
-  read-again other long-enough = rw (le-ltb (length other) Most.words long-enough, met-none .0) (met-none .2)
+  read-again = reads-into m text P (met-none .0) (met-none .2)
 
 -- ---- Only a table's first words matter
 

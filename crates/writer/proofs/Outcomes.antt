@@ -41,7 +41,7 @@ use Rattle.writer.specs.Lines.{FewParts, WritesLines}
 few-parts : (m : Mosts) (s : Sofar) (F : Form) → overMost m s F ≡ false → FewParts F
 unfolding overMost operandsIn
 few-parts m s (kind K) h = ltb-false Most.methods (length (K .methods)) (or-false₃ (leb (m .kinds) (s .kinds)) (ltb Most.fields (K .fields)) _ h .2)
-few-parts m s (opens o) h = omega arith
+few-parts m s (opens o) h = tt
 few-parts m s (line (give w)) h = omega arith
 few-parts m s (line (bind e)) h =
     ltb-false Most.operands (length (operandsIn (line (bind e)))) (or-false₃ (leb Most.slots (slotsFilled (s .place))) (leb (m .lets) (s .lets)) _ h .2)

@@ -15,18 +15,18 @@ use Rattle.rules.proofs.ListLaws.{every-at}
 use Rattle.texts.specs.Writing.{Wrote}
 use Rattle.texts.proofs.Appends.{nothing, _▹_, same-text}
 use Rattle.table.specs.Program.{Filled, noForm, LineCount, LineWord}
-use Rattle.writer.specs.Lines.{lineText, FewParts, WritesLine, WritesLines}
+use Rattle.writer.specs.Lines.{lineText, FewParts, lineBytes, WritesLine, WritesLines}
 use Rattle.writer.proofs.Texts.{form-told}
 
 -- the words of a line are those of its form
 pub line-written : {t l l₁ : List ℕ} {n at r form a b c d e f : ℕ}
     → LineWord t n 0 form → LineWord t n 1 a → LineWord t n 2 b → LineWord t n 3 c → LineWord t n 4 d → LineWord t n 5 e → LineWord t n 6 f
-    → Wrote 77 l l₁ at r (lineText form a b c d e f) → WritesLine t n l l₁ at r
+    → Wrote lineBytes l l₁ at r (lineText form a b c d e f) → WritesLine t n l l₁ at r
 line-written {t} {l} {l₁} {n} {at} {r} w₀ w₁ w₂ w₃ w₄ w₅ w₆ written = record { writes = told; most = written .most }
   where
-    told : (counts rest : List ℕ) (Fs : List Form) → Filled t counts Fs rest → n < length Fs → FewParts (getD Fs n noForm) → Wrote 77 l l₁ at r (show (getD Fs n noForm))
+    told : (counts rest : List ℕ) (Fs : List Form) → Filled t counts Fs rest → n < length Fs → FewParts (getD Fs n noForm) → Wrote lineBytes l l₁ at r (show (getD Fs n noForm))
     told counts rest Fs filled there few =
-        same-text 77
+        same-text lineBytes
         (rw (w₀ .is counts rest Fs filled there, w₁ .is counts rest Fs filled there, w₂ .is counts rest Fs filled there, w₃ .is counts rest Fs filled there, w₄ .is counts rest Fs filled there, w₅ .is counts rest Fs filled there, w₆ .is counts rest Fs filled there) (form-told (getD Fs n noForm) few))
         (omega arith) written
 
@@ -58,38 +58,38 @@ first-lines-shorter (suc n) (F ∷ Fs) = omega (arith, first-lines-shorter n Fs,
 
 -- the first n lines of whatever lines the table holds
 pub record SoFar (t l l₁ : List ℕ) (at n : ℕ) : Type 0 where
-  writes : (counts rest : List ℕ) (Fs : List Form) → Filled t counts Fs rest → Every FewParts Fs → n ≤ length Fs → Wrote 16461 l l₁ 0 at (textOf (take n Fs))
+  writes : (counts rest : List ℕ) (Fs : List Form) → Filled t counts Fs rest → Every FewParts Fs → n ≤ length Fs → Wrote (Most.text + lineBytes) l l₁ 0 at (textOf (take n Fs))
 
 pub none-yet : {t l : List ℕ} → SoFar t l l 0 0
 unfolding textOf join
-none-yet = record { writes = λ counts rest Fs filled few there. nothing 16461 (omega arith) }
+none-yet = record { writes = λ counts rest Fs filled few there. nothing (Most.text + lineBytes) (omega arith) }
 
-pub one-line-more : {t l l₁ l₂ : List ℕ} {at r n : ℕ} → at ≤ 16384 → SoFar t l l₁ at n → WritesLine t n l₁ l₂ at r → SoFar t l l₂ r (n + 1)
+pub one-line-more : {t l l₁ l₂ : List ℕ} {at r n : ℕ} → at ≤ Most.text → SoFar t l l₁ at n → WritesLine t n l₁ l₂ at r → SoFar t l l₂ r (n + 1)
 one-line-more {t} {l} {l₁} {l₂} {at} {r} {n} room before next = record { writes = more }
   where
-    more : (counts rest : List ℕ) (Fs : List Form) → Filled t counts Fs rest → Every FewParts Fs → n + 1 ≤ length Fs → Wrote 16461 l l₂ 0 r (textOf (take (n + 1) Fs))
+    more : (counts rest : List ℕ) (Fs : List Form) → Filled t counts Fs rest → Every FewParts Fs → n + 1 ≤ length Fs → Wrote (Most.text + lineBytes) l l₂ 0 r (textOf (take (n + 1) Fs))
     more counts rest Fs filled few there =
         let both = before .writes counts rest Fs filled few (omega arith) ▹ next .writes counts rest Fs filled (omega arith) (every-at FewParts Fs n noForm (omega arith) few) in
-        let said = same-text 16538 (text-more Fs n (omega arith)) (omega arith) both in
+        let said = same-text (Most.text + lineBytes + lineBytes) (text-more Fs n (omega arith)) (omega arith) both in
         record { is = said .is; end = said .end; most = omega (arith, next .most); from = said .from }
 
-module _ {t l l₁ : List ℕ} {at n count : ℕ} (small : at ≤ 16461) (so-far : SoFar t l l₁ at n) where
+module _ {t l l₁ : List ℕ} {at n count : ℕ} (small : at ≤ Most.text + lineBytes) (so-far : SoFar t l l₁ at n) where
   -- all lines
   pub all-written : LineCount t count → n ≡ count % 673 → WritesLines t l l₁ at
   all-written counted done = record { writes = all; most = small }
     where
       all : (kinds blocks : ℕ) (rest : List ℕ) (Fs : List Form) → Filled t (kinds ∷ blocks ∷ length Fs ∷ []) Fs rest → Every FewParts Fs
-          → length (join (map show Fs)) ≤ Most.text → Wrote 16461 l l₁ 0 at (join (map show Fs))
+          → length (join (map show Fs)) ≤ Most.text → Wrote (Most.text + lineBytes) l l₁ 0 at (join (map show Fs))
       all kinds blocks rest Fs filled few short =
           let lines-are : n ≡ length Fs = omega (arith, counted .is _ rest Fs filled, filled .lines) in
-          same-text 16461 (ap textOf (take-all n Fs (omega arith)) ∙ text-of Fs) (omega arith) (so-far .writes _ rest Fs filled few (omega arith))
+          same-text (Most.text + lineBytes) (ap textOf (take-all n Fs (omega arith)) ∙ text-of Fs) (omega arith) (so-far .writes _ rest Fs filled few (omega arith))
 
   -- longer than a text may be, though lines are left
-  pub too-long : LineCount t count → n < count % 673 → 16384 < at → WritesLines t l l₁ at
+  pub too-long : LineCount t count → n < count % 673 → Most.text < at → WritesLines t l l₁ at
   too-long counted left long = record { writes = none; most = small }
     where
       none : (kinds blocks : ℕ) (rest : List ℕ) (Fs : List Form) → Filled t (kinds ∷ blocks ∷ length Fs ∷ []) Fs rest → Every FewParts Fs
-          → length (join (map show Fs)) ≤ Most.text → Wrote 16461 l l₁ 0 at (join (map show Fs))
+          → length (join (map show Fs)) ≤ Most.text → Wrote (Most.text + lineBytes) l l₁ 0 at (join (map show Fs))
       none kinds blocks rest Fs filled few short =
           let there : n ≤ length Fs = omega (arith, counted .is _ rest Fs filled, filled .lines) in
           let whole : length (textOf Fs) ≤ Most.text = rw (text-of Fs) short in

@@ -1,4 +1,5 @@
 -- The text of a form from the words of its line in the table, whatever words they are; and the lines that a table holds, written.
+use Prim.{Unit}
 use Prim.Native.Nat.{ℕ, zero, suc, _+_, _≤_, _<_}
 use mathlib.Core.List.{List, [], _∷_, map}
 use lib.ListN.{length, getD}
@@ -53,23 +54,24 @@ lineText (suc i) a b c d e f = getD (map show (formsOf a b c d e f)) i []
 
 -- ---- The lines of a table
 
--- how long a form's list is: the method blocks of a kind, the operands of a line
-abbrev pub listLength : Form → ℕ
-listLength (kind K) = length (K .methods)
-listLength (opens o) = 0
-listLength (line x) = length (operandsIn (line x))
-
+-- a kind's method blocks, a line's operands are no more than their most
 abbrev pub FewParts : Form → Type 0
-FewParts F = listLength F ≤ 4
+FewParts (kind K) = length (K .methods) ≤ Most.methods
+FewParts (opens o) = Unit {0}
+FewParts (line x) = length (operandsIn (line x)) ≤ Most.operands
 
--- line n; at most 77 bytes, whatever the table is
+-- the longest that a line's words can say, in bytes
+abbrev pub lineBytes : ℕ
+lineBytes = 77
+
+-- line n; its end is bounded whatever the table is
 pub record WritesLine (t : List ℕ) (n : ℕ) (l l₁ : List ℕ) (at r : ℕ) : Type 0 where
   pub writes : (counts rest : List ℕ) (Fs : List Form) → Filled t counts Fs rest → n < length Fs → FewParts (getD Fs n noForm)
-      → Wrote 77 l l₁ at r (show (getD Fs n noForm))
-  pub most : r ≤ at + 77
+      → Wrote lineBytes l l₁ at r (show (getD Fs n noForm))
+  pub most : r ≤ at + lineBytes
 
 -- all lines, where they are no longer than a text may be
 pub record WritesLines (t l l₁ : List ℕ) (r : ℕ) : Type 0 where
   pub writes : (kinds blocks : ℕ) (rest : List ℕ) (Fs : List Form) → Filled t (kinds ∷ blocks ∷ length Fs ∷ []) Fs rest → Every FewParts Fs
-      → length (join (map show Fs)) ≤ Most.text → Wrote 16461 l l₁ 0 r (join (map show Fs))
-  pub most : r ≤ 16461
+      → length (join (map show Fs)) ≤ Most.text → Wrote (Most.text + lineBytes) l l₁ 0 r (join (map show Fs))
+  pub most : r ≤ Most.text + lineBytes

@@ -73,82 +73,123 @@ same-length : tie.Need-same-length
 same-length c = search needs
 
 returns : tie.Need-returns
-returns c = let x = c .before .before .before .before .before .before .args in same-text 77 (kind-text (x .a) (x .b) (x .c) (x .d) (x .e) (x .f) (c .before .before .before .before .match .keys1)) (omega arith) (c .before .before .put-kind .ensures)
+returns c =
+    let at-match = c .before .before .before .before in
+    let x = at-match .before .before .args in
+    same-text 77 (kind-text (x .a) (x .b) (x .c) (x .d) (x .e) (x .f) (at-match .match .keys1)) (omega arith) (c .before .before .put-kind .ensures)
 
 same-length-2 : tie.Need-same-length-2
 same-length-2 c = search needs
 
 returns-2 : tie.Need-returns-2
-returns-2 c = let x = c .before .before .before .before .before .before .before .args in same-text 77 (thread-text (x .a) (x .b) (x .c) (x .d) (x .e) (x .f) (c .before .before .before .before .before .match .keys2)) (omega arith) (c .before .before .put-text .ensures)
+returns-2 c =
+    let at-match = c .before .before .before .before .before in
+    let x = at-match .before .before .args in
+    same-text 77 (thread-text (x .a) (x .b) (x .c) (x .d) (x .e) (x .f) (at-match .match .keys2)) (omega arith) (c .before .before .put-text .ensures)
 
 same-length-3 : tie.Need-same-length-3
 same-length-3 c = search needs
 
 returns-3 : tie.Need-returns-3
-returns-3 c = let x = c .before .before .before .before .before .before .before .args in same-text 77 (method-text (x .a) (x .b) (x .c) (x .d) (x .e) (x .f) (c .before .before .before .before .before .match .keys3)) (omega arith) (c .before .before .put-text2 .ensures)
+returns-3 c =
+    let at-match = c .before .before .before .before .before in
+    let x = at-match .before .before .args in
+    same-text 77 (method-text (x .a) (x .b) (x .c) (x .d) (x .e) (x .f) (at-match .match .keys3)) (omega arith) (c .before .before .put-text2 .ensures)
 
 same-length-4 : tie.Need-same-length-4
 same-length-4 c = search needs
 
 returns-4 : tie.Need-returns-4
-returns-4 c = let x = c .before .before .before .before .before .before .before .args in same-text 77 (give-text (x .a) (x .b) (x .c) (x .d) (x .e) (x .f) (c .before .before .before .before .before .match .keys4)) (omega arith) (c .before .before .put-value .ensures)
+returns-4 c =
+    let at-match = c .before .before .before .before .before in
+    let x = at-match .before .before .args in
+    same-text 77 (give-text (x .a) (x .b) (x .c) (x .d) (x .e) (x .f) (at-match .match .keys4)) (omega arith) (c .before .before .put-value .ensures)
 
 same-length-5 : tie.Need-same-length-5
 same-length-5 c = search needs
 
 returns-5 : tie.Need-returns-5
-returns-5 c = let x = c .before .before .before .before .before .before .before .args in same-text 77 (value-text (x .a) (x .b) (x .c) (x .d) (x .e) (x .f) (c .before .before .before .before .before .match .keys5)) (omega arith) (c .before .before .put-value2 .ensures)
+returns-5 c =
+    let at-match = c .before .before .before .before .before in
+    let x = at-match .before .before .args in
+    same-text 77 (value-text (x .a) (x .b) (x .c) (x .d) (x .e) (x .f) (at-match .match .keys5)) (omega arith) (c .before .before .put-value2 .ensures)
 
 same-length-6 : tie.Need-same-length-6
 same-length-6 c = search needs
 
 returns-6 : tie.Need-returns-6
-returns-6 c = let x = c .before .before .before .before .before .before .args in same-text 77 (field-text (x .a) (x .b) (x .c) (x .d) (x .e) (x .f) (c .before .before .before .before .match .keys6)) (omega arith) (c .before .before .put-field .ensures)
+returns-6 c =
+    let at-match = c .before .before .before .before in
+    let x = at-match .before .before .args in
+    same-text 77 (field-text (x .a) (x .b) (x .c) (x .d) (x .e) (x .f) (at-match .match .keys6)) (omega arith) (c .before .before .put-field .ensures)
 
 same-length-7 : tie.Need-same-length-7
 same-length-7 c = search needs
 
 returns-7 : tie.Need-returns-7
-returns-7 c = let x = c .before .before .before .before .before .before .before .args in same-text 77 (swap-text (x .a) (x .b) (x .c) (x .d) (x .e) (x .f) (c .before .before .before .before .before .match .keys7)) (omega arith) (c .before .before .put-place .ensures)
+returns-7 c =
+    let at-match = c .before .before .before .before .before in
+    let x = at-match .before .before .args in
+    same-text 77 (swap-text (x .a) (x .b) (x .c) (x .d) (x .e) (x .f) (at-match .match .keys7)) (omega arith) (c .before .before .put-place .ensures)
 
 same-length-8 : tie.Need-same-length-8
 same-length-8 c = search needs
 
 returns-8 : tie.Need-returns-8
-returns-8 c = let x = c .before .before .before .before .before .before .before .args in same-text 77 (call-text (x .a) (x .b) (x .c) (x .d) (x .e) (x .f) (c .before .before .before .before .before .match .keys8)) (omega arith) (c .before .before .put-place2 .ensures)
+returns-8 c =
+    let at-match = c .before .before .before .before .before in
+    let x = at-match .before .before .args in
+    same-text 77 (call-text (x .a) (x .b) (x .c) (x .d) (x .e) (x .f) (at-match .match .keys8)) (omega arith) (c .before .before .put-place2 .ensures)
 
 same-length-9 : tie.Need-same-length-9
 same-length-9 c = search needs
 
 returns-9 : tie.Need-returns-9
-returns-9 c = let x = c .before .before .before .before .before .before .args in same-text 77 (new-text (x .a) (x .b) (x .c) (x .d) (x .e) (x .f) (c .before .before .before .before .match .keys9)) (omega arith) (c .before .before .put-new .ensures)
+returns-9 c =
+    let at-match = c .before .before .before .before in
+    let x = at-match .before .before .args in
+    same-text 77 (new-text (x .a) (x .b) (x .c) (x .d) (x .e) (x .f) (at-match .match .keys9)) (omega arith) (c .before .before .put-new .ensures)
 
 same-length-10 : tie.Need-same-length-10
 same-length-10 c = search needs
 
 returns-10 : tie.Need-returns-10
-returns-10 c = let x = c .before .before .before .before .before .before .args in same-text 77 (cast-text (x .a) (x .b) (x .c) (x .d) (x .e) (x .f) (c .before .before .before .before .match .keys10)) (omega arith) (c .before .before .put-cast .ensures)
+returns-10 c =
+    let at-match = c .before .before .before .before in
+    let x = at-match .before .before .args in
+    same-text 77 (cast-text (x .a) (x .b) (x .c) (x .d) (x .e) (x .f) (at-match .match .keys10)) (omega arith) (c .before .before .put-cast .ensures)
 
 same-length-11 : tie.Need-same-length-11
 same-length-11 c = search needs
 
 returns-11 : tie.Need-returns-11
-returns-11 c = let x = c .before .before .before .before .before .before .before .args in same-text 77 (spawn-text (x .a) (x .b) (x .c) (x .d) (x .e) (x .f) (c .before .before .before .before .before .match .keys11)) (omega arith) (c .before .before .put-one .ensures)
+returns-11 c =
+    let at-match = c .before .before .before .before .before in
+    let x = at-match .before .before .args in
+    same-text 77 (spawn-text (x .a) (x .b) (x .c) (x .d) (x .e) (x .f) (at-match .match .keys11)) (omega arith) (c .before .before .put-one .ensures)
 
 same-length-12 : tie.Need-same-length-12
 same-length-12 c = search needs
 
 returns-12 : tie.Need-returns-12
-returns-12 c = let x = c .before .before .before .before .before .before .args in same-text 77 (send-text (x .a) (x .b) (x .c) (x .d) (x .e) (x .f) (c .before .before .before .before .match .keys12)) (omega arith) (c .before .before .put-send .ensures)
+returns-12 c =
+    let at-match = c .before .before .before .before in
+    let x = at-match .before .before .args in
+    same-text 77 (send-text (x .a) (x .b) (x .c) (x .d) (x .e) (x .f) (at-match .match .keys12)) (omega arith) (c .before .before .put-send .ensures)
 
 same-length-13 : tie.Need-same-length-13
 same-length-13 c = search needs
 
 returns-13 : tie.Need-returns-13
-returns-13 c = let x = c .before .before .before .before .before .before .before .args in same-text 77 (recv-text (x .a) (x .b) (x .c) (x .d) (x .e) (x .f) (c .before .before .before .before .before .match .keys13)) (omega arith) (c .before .before .put-one2 .ensures)
+returns-13 c =
+    let at-match = c .before .before .before .before .before in
+    let x = at-match .before .before .args in
+    same-text 77 (recv-text (x .a) (x .b) (x .c) (x .d) (x .e) (x .f) (at-match .match .keys13)) (omega arith) (c .before .before .put-one2 .ensures)
 
 returns-14 : tie.Need-returns-14
-returns-14 c = let x = c .before .before .args in same-text 77 (no-text (x .form) (x .a) (x .b) (x .c) (x .d) (x .e) (x .f) (c .match .rest)) (omega arith) (nothing 0 (search needs))
+returns-14 c =
+    let x = c .before .before .args in
+    same-text 77 (no-text (x .form) (x .a) (x .b) (x .c) (x .d) (x .e) (x .f) (c .match .rest)) (omega arith) (nothing 0 (search needs))
 
 pub put-form-spec : {M : Type 1} → statement M
 put-form-spec =

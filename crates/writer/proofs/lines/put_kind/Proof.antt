@@ -34,7 +34,13 @@ same-length : tie.Need-same-length
 same-length c = search needs
 
 returns : tie.Need-returns
-returns c = same-text 53 refl (omega arith) (c .before .before .before .before .before .before .before .before .before .before .before .before .before .before .before .before .before .before .before .before .put-text .ensures ▹ c .before .before .before .before .before .before .before .before .before .before .before .before .before .before .before .before .put-number .ensures ▹ c .before .before .before .before .before .before .before .before .before .before .before .put-text2 .ensures ▹ c .before .before .before .before .before .before .before .put-numbers .ensures ▹ c .before .before .put-text3 .ensures)
+returns c =
+    let at-put-numbers = c .before .before .before .before .before .before .before in
+    let at-put-text2 = at-put-numbers .before .before .before .before in
+    let at-put-number = at-put-text2 .before .before .before .before .before in
+    let at-put-text = at-put-number .before .before .before .before in
+    same-text 53 refl (omega arith)
+    (at-put-text .put-text .ensures ▹ at-put-number .put-number .ensures ▹ at-put-text2 .put-text2 .ensures ▹ at-put-numbers .put-numbers .ensures ▹ c .before .before .put-text3 .ensures)
 
 pub put-kind-spec : {M : Type 1} → statement M
 put-kind-spec =

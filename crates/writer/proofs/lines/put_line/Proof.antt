@@ -32,7 +32,16 @@ same-length : tie.Need-same-length
 same-length c = search needs
 
 returns : tie.Need-returns
-returns c = line-written (c .before .before .before .before .before .before .before .before .before .before .line-word .ensures .1) (c .before .before .before .before .before .before .before .before .before .line-word2 .ensures .1) (c .before .before .before .before .before .before .before .before .line-word3 .ensures .1) (c .before .before .before .before .before .before .before .line-word4 .ensures .1) (c .before .before .before .before .before .before .line-word5 .ensures .1) (c .before .before .before .before .before .line-word6 .ensures .1) (c .before .before .before .before .line-word7 .ensures .1) (c .before .before .put-form .ensures)
+returns c =
+    let at-line-word7 = c .before .before .before .before in
+    let at-line-word6 = at-line-word7 .before in
+    let at-line-word5 = at-line-word6 .before in
+    let at-line-word4 = at-line-word5 .before in
+    let at-line-word3 = at-line-word4 .before in
+    let at-line-word2 = at-line-word3 .before in
+    let at-line-word = at-line-word2 .before in
+    line-written (at-line-word .line-word .ensures .1) (at-line-word2 .line-word2 .ensures .1) (at-line-word3 .line-word3 .ensures .1) (at-line-word4 .line-word4 .ensures .1)
+    (at-line-word5 .line-word5 .ensures .1) (at-line-word6 .line-word6 .ensures .1) (at-line-word7 .line-word7 .ensures .1) (c .before .before .put-form .ensures)
 
 pub put-line-spec : {M : Type 1} → statement M
 put-line-spec =

@@ -23,7 +23,9 @@ same-length : tie.Need-same-length Inv-loop μ-loop
 same-length c = search needs
 
 returns : tie.Need-returns Inv-loop μ-loop
-returns c = too-long (c .before .before .loop .inv .1) (c .before .before .loop .inv .3) (c .before .before .before .line-count .ensures .1) (search needs) (c .if1 .taken)
+returns c =
+    let at-line-count = c .before .before .before in
+    too-long (c .before .before .loop .inv .1) (c .before .before .loop .inv .3) (at-line-count .line-count .ensures .1) (search needs) (c .if1 .taken)
 
 put-line-requires : tie.Need-put-line-requires Inv-loop μ-loop
 put-line-requires c κs = search needs

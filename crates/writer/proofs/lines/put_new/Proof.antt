@@ -34,7 +34,14 @@ same-length : tie.Need-same-length
 same-length c = search needs
 
 returns : tie.Need-returns
-returns c = same-text 77 refl (omega arith) (c .before .before .before .before .before .before .before .before .before .before .before .before .before .before .before .before .before .before .before .before .put-text .ensures ▹ rw (c .before .before .before .before .before .before .before .before .before .before .before .before .before .before .before .before .cap-of .ensures) at (c .before .before .before .before .before .before .before .before .before .before .before .before .before .before .before .put-cap .ensures) ▹ c .before .before .before .before .before .before .before .before .before .before .before .put-number .ensures ▹ c .before .before .before .before .before .before .before .put-operands .ensures ▹ c .before .before .put-text2 .ensures)
+returns c =
+    let at-put-operands = c .before .before .before .before .before .before .before in
+    let at-put-number = at-put-operands .before .before .before .before in
+    let at-put-cap = at-put-number .before .before .before .before in
+    let at-cap-of = at-put-cap .before in
+    let at-put-text = at-cap-of .before .before .before .before in
+    same-text 77 refl (omega arith)
+    (at-put-text .put-text .ensures ▹ rw (at-cap-of .cap-of .ensures) at (at-put-cap .put-cap .ensures) ▹ at-put-number .put-number .ensures ▹ at-put-operands .put-operands .ensures ▹ c .before .before .put-text2 .ensures)
 
 pub put-new-spec : {M : Type 1} → statement M
 put-new-spec =

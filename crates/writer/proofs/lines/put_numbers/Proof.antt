@@ -23,7 +23,13 @@ same-length : tie.Need-same-length
 same-length c = search needs
 
 returns : tie.Need-returns
-returns c = let x = c .before .before .before .before .before .before .before .before .before .before .before .before .before .before .before .before .before .args in same-text 24 (four-items decimal (x .a) (x .b) (x .c) (x .d)) (omega arith) (c .before .before .before .before .before .before .before .before .before .before .before .before .before .before .put-number-item .ensures ▹ c .before .before .before .before .before .before .before .before .before .before .put-number-item2 .ensures ▹ c .before .before .before .before .before .before .put-number-item3 .ensures ▹ c .before .before .put-number-item4 .ensures)
+returns c =
+    let at-put-number-item3 = c .before .before .before .before .before .before in
+    let at-put-number-item2 = at-put-number-item3 .before .before .before .before in
+    let at-put-number-item = at-put-number-item2 .before .before .before .before in
+    let x = at-put-number-item .before .before .before .args in
+    same-text 24 (four-items decimal (x .a) (x .b) (x .c) (x .d)) (omega arith)
+    (at-put-number-item .put-number-item .ensures ▹ at-put-number-item2 .put-number-item2 .ensures ▹ at-put-number-item3 .put-number-item3 .ensures ▹ c .before .before .put-number-item4 .ensures)
 
 pub put-numbers-spec : {M : Type 1} → statement M
 put-numbers-spec =

@@ -21,7 +21,10 @@ same-length : tie.Need-same-length
 same-length c = search needs
 
 returns : tie.Need-returns
-returns c = same-text 20 refl (search needs) (c .before .before .before .before .before .before .before .before .before .before .before .put-text .ensures ▹ c .before .before .before .before .before .before .before .put-number .ensures ▹ c .before .before .put-text2 .ensures)
+returns c =
+    let at-put-number = c .before .before .before .before .before .before .before in
+    let at-put-text = at-put-number .before .before .before .before in
+    same-text 20 refl (search needs) (at-put-text .put-text .ensures ▹ at-put-number .put-number .ensures ▹ c .before .before .put-text2 .ensures)
 
 pub put-one-spec : {M : Type 1} → statement M
 put-one-spec =

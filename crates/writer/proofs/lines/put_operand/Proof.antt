@@ -25,7 +25,11 @@ same-length : tie.Need-same-length
 same-length c = search needs
 
 returns : tie.Need-returns
-returns c = same-text 13 (taken-operand _ (c .before .before .before .before .before .before .before .before .before .before .before .before .before .if1 .taken)) (omega arith) (c .before .before .before .before .before .before .before .before .before .before .put-text .ensures ▹ c .before .before .before .before .before .before .put-number .ensures ▹ c .before .before .put-byte .ensures)
+returns c =
+    let at-put-number = c .before .before .before .before .before .before in
+    let at-put-text = at-put-number .before .before .before .before in
+    let at-if1 = at-put-text .before .before .before in
+    same-text 13 (taken-operand _ (at-if1 .if1 .taken)) (omega arith) (at-put-text .put-text .ensures ▹ at-put-number .put-number .ensures ▹ c .before .before .put-byte .ensures)
 
 slice-aggregate-put-text-2 : tie.Need-slice-aggregate-put-text-2
 slice-aggregate-put-text-2 c = search needs
@@ -46,7 +50,12 @@ same-length-2 : tie.Need-same-length-2
 same-length-2 c = search needs
 
 returns-2 : tie.Need-returns-2
-returns-2 c = same-text 13 (read-operand _ (c .before .before .before .before .before .before .before .before .before .before .before .before .before .if1 .left)) (omega arith) (c .before .before .before .before .before .before .before .before .before .before .put-text2 .ensures ▹ c .before .before .before .before .before .before .put-number2 .ensures ▹ c .before .before .put-byte2 .ensures)
+returns-2 c =
+    let at-put-number2 = c .before .before .before .before .before .before in
+    let at-put-text2 = at-put-number2 .before .before .before .before in
+    let at-if1 = at-put-text2 .before .before .before in
+    same-text 13 (read-operand _ (at-if1 .if1 .left)) (omega arith)
+    (at-put-text2 .put-text2 .ensures ▹ at-put-number2 .put-number2 .ensures ▹ c .before .before .put-byte2 .ensures)
 
 pub put-operand-spec : {M : Type 1} → statement M
 put-operand-spec =

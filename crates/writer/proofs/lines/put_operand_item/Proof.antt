@@ -21,7 +21,9 @@ same-length : tie.Need-same-length
 same-length c = search needs
 
 returns-2 : tie.Need-returns-2
-returns-2 c = same-text 13 (an-item (λ i. printOperand (operandOf i)) _ (c .before .before .before .before .if1 .left)) (omega arith) (c .before .before .put-operand .ensures)
+returns-2 c =
+    let at-if1 = c .before .before .before .before in
+    same-text 13 (an-item (λ i. printOperand (operandOf i)) _ (at-if1 .if1 .left)) (omega arith) (c .before .before .put-operand .ensures)
 
 pub put-operand-item-spec : {M : Type 1} → statement M
 put-operand-item-spec =

@@ -24,7 +24,13 @@ same-length : tie.Need-same-length
 same-length c = search needs
 
 returns : tie.Need-returns
-returns c = let x = c .before .before .before .before .before .before .before .before .before .before .before .before .before .before .before .before .before .args in same-text 52 (four-items (λ i. printOperand (operandOf i)) (x .a) (x .b) (x .c) (x .d)) (omega arith) (c .before .before .before .before .before .before .before .before .before .before .before .before .before .before .put-operand-item .ensures ▹ c .before .before .before .before .before .before .before .before .before .before .put-operand-item2 .ensures ▹ c .before .before .before .before .before .before .put-operand-item3 .ensures ▹ c .before .before .put-operand-item4 .ensures)
+returns c =
+    let at-put-operand-item3 = c .before .before .before .before .before .before in
+    let at-put-operand-item2 = at-put-operand-item3 .before .before .before .before in
+    let at-put-operand-item = at-put-operand-item2 .before .before .before .before in
+    let x = at-put-operand-item .before .before .before .args in
+    same-text 52 (four-items (λ i. printOperand (operandOf i)) (x .a) (x .b) (x .c) (x .d)) (omega arith)
+    (at-put-operand-item .put-operand-item .ensures ▹ at-put-operand-item2 .put-operand-item2 .ensures ▹ at-put-operand-item3 .put-operand-item3 .ensures ▹ c .before .before .put-operand-item4 .ensures)
 
 pub put-operands-spec : {M : Type 1} → statement M
 put-operands-spec =

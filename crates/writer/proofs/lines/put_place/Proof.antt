@@ -27,7 +27,13 @@ same-length : tie.Need-same-length
 same-length c = search needs
 
 returns : tie.Need-returns
-returns c = same-text 39 refl (search needs) (c .before .before .before .before .before .before .before .before .before .before .before .before .before .before .before .before .before .before .before .put-text .ensures ▹ c .before .before .before .before .before .before .before .before .before .before .before .before .before .before .before .put-number .ensures ▹ c .before .before .before .before .before .before .before .before .before .before .before .put-number2 .ensures ▹ c .before .before .before .before .before .before .before .put-operand .ensures ▹ c .before .before .put-text2 .ensures)
+returns c =
+    let at-put-operand = c .before .before .before .before .before .before .before in
+    let at-put-number2 = at-put-operand .before .before .before .before in
+    let at-put-number = at-put-number2 .before .before .before .before in
+    let at-put-text = at-put-number .before .before .before .before in
+    same-text 39 refl (search needs)
+    (at-put-text .put-text .ensures ▹ at-put-number .put-number .ensures ▹ at-put-number2 .put-number2 .ensures ▹ at-put-operand .put-operand .ensures ▹ c .before .before .put-text2 .ensures)
 
 pub put-place-spec : {M : Type 1} → statement M
 put-place-spec =

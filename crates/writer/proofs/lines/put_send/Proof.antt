@@ -28,7 +28,12 @@ same-length : tie.Need-same-length
 same-length c = search needs
 
 returns : tie.Need-returns
-returns c = same-text 32 refl (omega arith) (c .before .before .before .before .before .before .before .before .before .before .before .before .before .before .before .put-text .ensures ▹ c .before .before .before .before .before .before .before .before .before .before .before .put-number .ensures ▹ c .before .before .before .before .before .before .before .put-operand .ensures ▹ c .before .before .put-text2 .ensures)
+returns c =
+    let at-put-operand = c .before .before .before .before .before .before .before in
+    let at-put-number = at-put-operand .before .before .before .before in
+    let at-put-text = at-put-number .before .before .before .before in
+    same-text 32 refl (omega arith)
+    (at-put-text .put-text .ensures ▹ at-put-number .put-number .ensures ▹ at-put-operand .put-operand .ensures ▹ c .before .before .put-text2 .ensures)
 
 pub put-send-spec : {M : Type 1} → statement M
 put-send-spec =

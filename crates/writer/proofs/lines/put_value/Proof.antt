@@ -21,7 +21,10 @@ same-length : tie.Need-same-length
 same-length c = search needs
 
 returns : tie.Need-returns
-returns c = same-text 26 refl (search needs) (c .before .before .before .before .before .before .before .before .before .before .before .put-text .ensures ▹ c .before .before .before .before .before .before .before .put-operand .ensures ▹ c .before .before .put-text2 .ensures)
+returns c =
+    let at-put-operand = c .before .before .before .before .before .before .before in
+    let at-put-text = at-put-operand .before .before .before .before in
+    same-text 26 refl (search needs) (at-put-text .put-text .ensures ▹ at-put-operand .put-operand .ensures ▹ c .before .before .put-text2 .ensures)
 
 pub put-value-spec : {M : Type 1} → statement M
 put-value-spec =
