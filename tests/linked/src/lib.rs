@@ -3,6 +3,7 @@
 pub mod agree;
 pub mod bench;
 pub mod chart;
+pub mod corpus;
 pub mod finder;
 pub mod full;
 pub mod graph;

@@ -1,12 +1,13 @@
 //! The program `linked`: `read SEED COUNT` and `run SEED COUNT` hold the compiled box against the second interpreter, on words; `host SEED
-//! COUNT` does so through the calls of a C host, on bytes, and `write SEED COUNT` for tables that are written back to their texts; `bench
-//! [FILE]` measures both, and shows the times of the file's lines, a load's name, a tab and its ns, beside them.
+//! COUNT` does so through the calls of a C host, on bytes, and `write SEED COUNT` for tables that are written back to their texts; `corpus
+//! FILE` does so for the texts of a file and holds both to the file's own answers, and `corpus make SEED` makes such a file; `bench [FILE]`
+//! measures both, and shows the times of the file's lines, a load's name, a tab and its ns, beside them.
 
 use std::env;
 use std::fs;
 use std::process;
 
-use linked::{agree, bench, host, runs, writes};
+use linked::{agree, bench, corpus, host, runs, writes};
 use second::console::{complain, out};
 
 const CALLS: usize = 4001;
@@ -22,6 +23,14 @@ fn main() {
         ["bench", file] => match fs::read_to_string(file) {
             Ok(lua) => measured(&lua),
             Err(fault) => failed(&format!("{}: {}", file, fault)),
+        },
+        ["corpus", file] => match fs::read_to_string(file) {
+            Ok(texts) => told(corpus::held(&texts).map(|counts| (counts.rows(), counts.missing()))),
+            Err(fault) => failed(&format!("{}: {}", file, fault)),
+        },
+        ["corpus", "make", seed] => match seed.parse() {
+            Ok(seed) => out(corpus::made(seed).as_bytes()),
+            Err(_) => usage(),
         },
         [what, seed, count] => match (*what, seed.parse(), count.parse()) {
             ("read", Ok(seed), Ok(count)) => {
@@ -44,7 +53,9 @@ fn main() {
 }
 
 fn usage() -> i32 {
-    complain("linked read SEED COUNT | run SEED COUNT | host SEED COUNT | write SEED COUNT | bench [FILE]\n");
+    complain(
+        "linked read SEED COUNT | run SEED COUNT | host SEED COUNT | write SEED COUNT | corpus FILE | corpus make SEED | bench [FILE]\n",
+    );
     2
 }
 
