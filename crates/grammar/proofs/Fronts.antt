@@ -23,7 +23,7 @@ use Rattle.rules.proofs.ListLaws.{impossible, by-bool, and-true, all-true, ever
 use Rattle.rules.proofs.Printing.{says-of, Short, fit-front, fit-prints, decode-prints, join-lines}
 use Rattle.rules.proofs.OneForm.{Way, ways, every-way, opening, head, Begins, print-begins, one-beginning, InOrder, none-gives, only-gives, decode-none, print-fits, print-decodes}
 use Rattle.grammar.specs.declared.forms.Line.{Line}
-use Rattle.grammar.specs.Decoded.{frontBy, front, letForm, onlyForm, FormAt, LineAt}
+use Rattle.grammar.specs.Decoded.{frontBy, front, letForm, onlyForm, FormAt, EitherFormAt, LineAt}
 
 -- ---- The forms tried in turn
 
@@ -299,6 +299,12 @@ line-by-form i {s} {at} {r} i<n h f = record {
     go true = refl
     go false = refl
 
+-- from one of two that follow one another
+pub line-by-either : (i : ℕ) {s : List ℕ} {at n : ℕ} {r : Line} → i + 1 < length forms → n ≡ onlyForm (drop at s) → i + 1 ≤ n → n < i + 3 → EitherFormAt i n s at r → LineAt s at r
+line-by-either i {n = n} i<n e low high f = by-bool (eqb n (i + 1))
+    (λ t. let k = eqb-true n (i + 1) t in line-by-form i (omega arith) (omega (arith, k)) (f .first k))
+    (λ t. let k = eqb-false n (i + 1) t in let m : n ≡ i + 2 = omega arith in line-by-form (i + 1) i<n (omega arith) (f .second m))
+
 line-unfit : (s : List ℕ) (at : ℕ) (r : Line) → r .ok ≡ false → front (drop at s) ≡ unfit → LineAt s at r
 line-unfit s at r k h = record { form = opens thread; fits = rw k h; tells = λ e. absurd (false≢true (sym k ∙ e)) }
 
@@ -316,6 +322,18 @@ not-up-to-each zero n j h j<k e = not-suc-le-zero j<k
 not-up-to-each (suc k) n j h j<k e = by-bool (eqb j k)
     (λ t. h .1 (e ∙ ap suc (eqb-true j k t)))
     (λ t. let u = eqb-false j k t in not-up-to-each k n j (h .0) (omega arith) e)
+
+-- a number that is none of them is past them, or zero
+pub past-all : (k n : ℕ) → NotUpTo k n → 1 ≤ n → k + 1 ≤ n
+past-all zero n h p = p
+past-all (suc k) n h p = let q = past-all k n (h .0) p in let r = h .1 in omega arith
+
+pub one-past : (n k : ℕ) → (n ≡ k → ⊥) → k ≤ n → k + 1 ≤ n
+one-past n k h p = omega arith
+
+pub not-up-to : (k n : ℕ) → ((j : ℕ) → j < k → n ≡ suc j → ⊥) → NotUpTo k n
+not-up-to zero n h = tt
+not-up-to (suc k) n h = (not-up-to k n (λ j j<k. h j (omega arith)), h k (omega arith))
 
 pub line-by-none : (s : List ℕ) (at : ℕ) (r : Line) (n : ℕ) → r .ok ≡ false → n ≡ onlyForm (drop at s) → NotUpTo (length forms) n → LineAt s at r
 line-by-none s at r n k e h =

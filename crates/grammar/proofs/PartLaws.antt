@@ -1,9 +1,10 @@
 -- Numbers, operands and capabilities by the bytes at their places.
 use Prim.Native.Nat.{ℕ, zero, suc, _+_, _*_, _/_, _%_, _≤_, _<_}
+use Prim.Native.Char.{code}
 use native.Mathlib.Decide.{decLt}
 use native.Mathlib.Omega.{arith}
 use mathlib.Core.Path.{_≡_, refl, sym, ap, _∙_}
-use mathlib.Core.Bool.{Bool, true, false, not, _&&_, _||_, cond, false≢true, and-false}
+use mathlib.Core.Bool.{Bool, true, false, not, _&&_, _||_, cond, false≢true, and-true, and-false}
 use mathlib.Core.List.{List, [], _∷_}
 use lib.Dec.{eqb, ltb, leb}
 use lib.ListN.{length, drop, getD, drop-of-length-le, List·getD-eq-default}
@@ -206,6 +207,27 @@ module _ (s : List ℕ) (at slot end : ℕ) (ok : Bool) (h : number (drop (at + 
           rw (p, q)
       go false true false k e = refl
       go false false x k e = refl
+
+-- where a digit and a closing bracket stand at their places, the slot is that digit
+closes : (s : List ℕ) (at b : ℕ) → b ≡ getD s at 0 → eqb b (code ")") ≡ true → begins (bytes ")") (drop at s) ≡ true
+unfolding begins
+closes s at b e t = go (decLt at (length s))
+  where
+    go : Dec (at < length s) → begins (bytes ")") (drop at s) ≡ true
+    go (yes h) = rw (drop-next s at (at + 1) h refl, ← e, t)
+    go (no n) = absurd (omega (arith, eqb-true b (code ")") t, List·getD-eq-default s 0 {n = at} (omega arith)))
+
+bracket-no-digit : (b : ℕ) → eqb b (code ")") ≡ true → ltb (digitOf b) 10 ≡ false
+bracket-no-digit b t = digit-low b (omega (arith, eqb-true b (code ")") t))
+
+pub operand-short : (s : List ℕ) (at a b u : ℕ) → a ≡ getD s (at + 6) 0 → b ≡ getD s (at + 7) 0 → ltb (digitOf a) 10 ≡ true → eqb b (code ")") ≡ true → u ≡ digitOf a % 10
+    → (r t : Bool) (taken : ℕ) → r ≡ begins (bytes "(read ") (drop at s) → t ≡ begins (bytes "(take ") (drop at s) → taken ≡ cond t 1 0
+    → operand (drop at s) ≡ cond (r || t) (took (operandOf (u * 2 + taken)) (drop (at + 8) s)) unfit
+operand-short s at a b u ha hb ta tb eu r t taken hr ht e =
+    let next : at + 6 + 1 ≡ at + 7 = omega arith in
+    let past : at + 7 + 1 ≡ at + 8 = omega arith in
+    let slot : number (drop (at + 6) s) ≡ took u (drop (at + 7) s) = rw next at (number-one s (at + 6) a ha ta b (rw next hb) (bracket-no-digit b tb) u eu) in
+    rw (closes s (at + 7) b hb tb, and-true, past) at (operand-begins s at u (at + 7) true slot r t taken hr ht e)
 
 -- ---- Capabilities
 

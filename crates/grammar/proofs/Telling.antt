@@ -17,9 +17,10 @@ use Rattle.rules.specs.Tables.{operandItem, lineWords, row, operandOf, capOf}
 use Rattle.rules.proofs.ListLaws.{by-bool, or-false as or-false-both}
 use Rattle.rules.proofs.TableWords.{slot-of-word}
 use Rattle.grammar.specs.Items.{past, Listed}
-use Rattle.grammar.specs.Decoded.{overLine, lineRow, Tells, OperandRest, PlaceRest}
+use Rattle.grammar.specs.Decoded.{overLine, lineRow, Tells, PlaceRest}
 use Rattle.grammar.specs.declared.forms.Line.{Line}
 use Rattle.grammar.specs.declared.parts.Items.{Items}
+use Rattle.grammar.proofs.Told.{OperandRest}
 use Rattle.grammar.proofs.OperandWords.{operand-word, operand-first, cap-rank}
 
 -- ---- Lines of a fixed number of words

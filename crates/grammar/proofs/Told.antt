@@ -3,15 +3,18 @@ use Prim.Native.Nat.{ℕ, _+_}
 use mathlib.Core.Path.{_≡_, refl, sym}
 use mathlib.Core.Bool.{Bool, true, false, _&&_, cond, and-true, and-assoc}
 use mathlib.Core.List.{List, [], _∷_, _++_, map}
-use lib.Dec.{eqb}
+use lib.Dec.{eqb, ltb}
 use lib.ListN.{length, drop}
 use lib.Seq.{drop-drop}
-use Rattle.rules.specs.Templates.{Taken, took, unfit, _>>=_, literal, number, operand, capability, many, Part, character, oneNumber, oneOperand, oneCap, manyNumbers, manyOperands, Holds, fit}
-use Rattle.rules.specs.Tables.{operandOf, capOf}
+use Rattle.rules.specs.Templates.{Taken, took, unfit, _>>=_, literal, number, operand, capability, many, Part, character, oneNumber, oneOperand, oneCap, manyNumbers, manyOperands, template, Holds, fit}
+use Rattle.rules.specs.Mosts as Most
+use Rattle.rules.specs.Script.{Operand}
+use Rattle.rules.specs.Reading.{slotOf, takesFirst}
+use Rattle.rules.specs.Tables.{operandWord, operandOf, capOf}
 use Rattle.rules.proofs.ListLaws.{by-bool, impossible}
 use Rattle.grammar.specs.Words.{begins}
 use Rattle.grammar.specs.Items.{NumbersAt, OperandsAt}
-use Rattle.grammar.specs.Decoded.{operandRest, OperandRest, placeRest, PlaceRest}
+use Rattle.grammar.specs.Decoded.{lineRow, placeRest, PlaceRest}
 use Rattle.grammar.specs.declared.forms.Line.{Line}
 use Rattle.grammar.specs.declared.parts.Part.{Part as Read}
 use Rattle.grammar.specs.declared.parts.Items.{Items}
@@ -19,6 +22,18 @@ use Rattle.grammar.specs.declared.parts.Items.{Items}
 -- the template fits at a place where `ok` is true, with parts p, and ends at e
 pub record Told (t : List Part) (s : List ℕ) (at : ℕ) (ok : Bool) (p : Holds t) (e : ℕ) : Type 0 where
   pub fits : fit t (drop at s) ≡ cond ok (took p (drop e s)) unfit
+
+-- "W)" with its LF, the rest of a give and of a let that has an operand alone; `before` says whether what stands before it fits
+abbrev pub operandRest : List Part
+operandRest = template "W)\n"
+
+pub record OperandRest (form : ℕ) (before : Bool) (s : List ℕ) (at : ℕ) (r : Line) : Type 0 where
+  pub operand : Operand
+  pub fits : cond before (fit operandRest (drop at s)) unfit ≡ cond (r .ok) (took (operand, tt) (drop (r .end) s)) unfit
+  pub words : lineRow r ≡ form ∷ operandWord operand ∷ 0 ∷ 0 ∷ 0 ∷ 0 ∷ 0 ∷ 0 ∷ []
+  pub over : r .over ≡ ltb Most.number (slotOf operand)
+  pub need : r .need ≡ slotOf operand + 1
+  pub own : r .own ≡ takesFirst operand
 
 -- characters hold no part
 abbrev pub through : (w : List ℕ) (t : List Part) → Holds t → Holds (map character w ++ t)

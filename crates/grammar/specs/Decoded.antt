@@ -46,19 +46,12 @@ pub record FormAt (i : ℕ) (s : List ℕ) (at : ℕ) (r : Line) : Type 0 where
   pub fits : fit (ruleAt i .template) (drop at s) ≡ cond (r .ok) (took parts (drop (r .end) s)) unfit
   pub tells : Tells r (ruleAt i .make parts)
 
--- "W)" and "S F W))" with their LF: the rest of a give, of a let that has an operand alone, of a swap and of a call; `before` says whether
--- what stands before it fits
-abbrev pub operandRest : List Part
-operandRest = template "W)\n"
+-- one of two forms that follow one another, by its number from 1
+pub record EitherFormAt (i form : ℕ) (s : List ℕ) (at : ℕ) (r : Line) : Type 0 where
+  pub first : form ≡ i + 1 → FormAt i s at r
+  pub second : form ≡ i + 2 → FormAt (i + 1) s at r
 
-pub record OperandRest (form : ℕ) (before : Bool) (s : List ℕ) (at : ℕ) (r : Line) : Type 0 where
-  pub operand : Operand
-  pub fits : cond before (fit operandRest (drop at s)) unfit ≡ cond (r .ok) (took (operand, tt) (drop (r .end) s)) unfit
-  pub words : lineRow r ≡ form ∷ operandWord operand ∷ 0 ∷ 0 ∷ 0 ∷ 0 ∷ 0 ∷ 0 ∷ []
-  pub over : r .over ≡ ltb Most.number (slotOf operand)
-  pub need : r .need ≡ slotOf operand + 1
-  pub own : r .own ≡ takesFirst operand
-
+-- "S F W))" with its LF: the rest of a swap and of a call; `before` says whether what stands before it fits
 abbrev pub placeRest : List Part
 placeRest = template "S F W))\n"
 

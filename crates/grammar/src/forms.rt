@@ -1,5 +1,6 @@
 // One line by its form: the form is found by a few bytes, and then tried alone.
 use super::parts::cap_at;
+use super::parts::long_operand_at;
 use super::parts::most;
 use super::parts::number_at;
 use super::parts::numbers_at;
@@ -14,7 +15,7 @@ ghost use mathlib.Core.Path.{_≡_};
 ghost use mathlib.Core.Bool.{false};
 ghost use Prim.Native.Nat.{_+_, _≤_};
 ghost use lib.ListN.{length, drop};
-ghost use Rattle.grammar.specs.Decoded.{FormAt, OperandRest, PlaceRest, letForm, onlyForm, LineAt};
+ghost use Rattle.grammar.specs.Decoded.{FormAt, EitherFormAt, PlaceRest, letForm, onlyForm, LineAt};
 
 // A decoded line: whether it fits its form; the form's number and the parts' words, as in the table; whether the line by itself exceeds a
 // most; one more than the highest slot that it names; whether it takes slot 0; and the place after its LF.
@@ -99,44 +100,26 @@ fn method_at(s: &[u8], at: usize) -> Line
     short_line(both(opened, closed), 3, 0, 0, 0, at + 9)
 }
 
-// W)LF, the rest of a give and of a let that has an operand alone
-fn operand_rest(s: &[u8], at: usize, before: bool, form: u16) -> Line
-    requires { ⌜ (8 ≤ length (now s)) × (length (now s) ≤ 65536) × (at ≤ 65600) ⌝ }
-    ensures { λ r. ⌜ OperandRest form before (now (s .entry)) at r ⌝ }
+// (give W) by its number 4, (let W) by 5
+fn give_or_value_at(s: &[u8], at: usize, form: u16) -> Line
+    requires { ⌜ (8 ≤ length (now s)) × (length (now s) ≤ 65536) × (at ≤ length (now s)) ⌝ }
+    ensures { λ r. ⌜ EitherFormAt 3 form (now (s .entry)) at r ⌝ }
 {
-    let w = operand_at(s, at);
+    let mut opened = begins_at(s, at, b"(let ");
+    let mut rest = at + 5;
+    if form == 4 {
+        opened = begins_at(s, at, b"(give ");
+        rest = at + 6;
+    }
+    let w = operand_at(s, rest);
     let closed = begins_at(s, w.end, b")\n");
+    let ok = both(opened, both(w.ok, closed));
     let slot = w.word / 2;
-    let mut l = short_line(
-        both(before, both(w.ok, closed)),
-        form,
-        w.word,
-        0,
-        0,
-        w.end + 2,
-    );
+    let mut l = short_line(ok, form, w.word, 0, 0, w.end + 2);
     l.over = over(slot);
     l.need = slot + 1;
     l.own = w.word == 1;
     l
-}
-
-// (give W)
-fn give_at(s: &[u8], at: usize) -> Line
-    requires { ⌜ (8 ≤ length (now s)) × (length (now s) ≤ 65536) × (at ≤ length (now s)) ⌝ }
-    ensures { λ r. ⌜ FormAt 3 (now (s .entry)) at r ⌝ }
-{
-    let opened = begins_at(s, at, b"(give ");
-    operand_rest(s, at + 6, opened, 4)
-}
-
-// (let W)
-fn value_at(s: &[u8], at: usize) -> Line
-    requires { ⌜ (8 ≤ length (now s)) × (length (now s) ≤ 65536) × (at ≤ length (now s)) ⌝ }
-    ensures { λ r. ⌜ FormAt 4 (now (s .entry)) at r ⌝ }
-{
-    let opened = begins_at(s, at, b"(let ");
-    operand_rest(s, at + 5, opened, 5)
 }
 
 // (let (field S F))
@@ -186,24 +169,17 @@ fn place_rest(s: &[u8], at: usize, before: bool, form: u16) -> Line
     l
 }
 
-// (let (swap S F W))
-fn swap_at(s: &[u8], at: usize) -> Line
+// (let (swap S F W)) by its number 7, (let (call S M W)) by 8
+fn swap_or_call_at(s: &[u8], at: usize, form: u16) -> Line
     requires { ⌜ (8 ≤ length (now s)) × (length (now s) ≤ 65536) × (at ≤ length (now s)) ⌝ }
-    ensures { λ r. ⌜ FormAt 6 (now (s .entry)) at r ⌝ }
+    ensures { λ r. ⌜ EitherFormAt 6 form (now (s .entry)) at r ⌝ }
 {
     let opened = begins_at(s, at, b"(let (");
-    let named = begins_at(s, at + 6, b"swap ");
-    place_rest(s, at + 11, both(opened, named), 7)
-}
-
-// (let (call S M W))
-fn call_at(s: &[u8], at: usize) -> Line
-    requires { ⌜ (8 ≤ length (now s)) × (length (now s) ≤ 65536) × (at ≤ length (now s)) ⌝ }
-    ensures { λ r. ⌜ FormAt 7 (now (s .entry)) at r ⌝ }
-{
-    let opened = begins_at(s, at, b"(let (");
-    let named = begins_at(s, at + 6, b"call ");
-    place_rest(s, at + 11, both(opened, named), 8)
+    let mut named = begins_at(s, at + 6, b"call ");
+    if form == 7 {
+        named = begins_at(s, at + 6, b"swap ");
+    }
+    place_rest(s, at + 11, both(opened, named), form)
 }
 
 // (let (new K N W ..))
@@ -244,7 +220,7 @@ fn cast_at(s: &[u8], at: usize) -> Line
     let named = begins_at(s, at + 6, b"cast ");
     let cap = cap_at(s, at + 11);
     let parted = begins_at(s, cap.end, b" ");
-    let w = operand_at(s, cap.end + 1);
+    let w = long_operand_at(s, cap.end + 1); // (called twice, it is not written out in operand_at)
     let closed = begins_at(s, w.end, b"))\n");
     let ok = both(
         opened,
@@ -363,11 +339,9 @@ pub fn line_at(s: &[u8], at: usize) -> Line
         1 => kind_at(s, at),
         2 => thread_at(s, at),
         3 => method_at(s, at),
-        4 => give_at(s, at),
-        5 => value_at(s, at),
+        4 | 5 => give_or_value_at(s, at, form),
         6 => field_at(s, at),
-        7 => swap_at(s, at),
-        8 => call_at(s, at),
+        7 | 8 => swap_or_call_at(s, at, form),
         9 => new_at(s, at),
         10 => cast_at(s, at),
         11 => spawn_at(s, at),

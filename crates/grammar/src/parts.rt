@@ -97,14 +97,14 @@ pub fn number_at(s: &[u8], at: usize) -> Part
     }
 }
 
-// "Operand W: (read S) or (take S)": twice its slot, and one more where it takes.
-pub fn operand_at(s: &[u8], at: usize) -> Part
+// "Operand W: (read S) or (take S)": twice its slot, and one more where it takes. Of a slot with any number of digits.
+pub fn long_operand_at(s: &[u8], at: usize) -> Part
     requires { ⌜ (8 ≤ length (now s)) × (at ≤ 131000) ⌝ }
     ensures { λ r. ⌜ operand (drop at (now (s .entry))) ≡ cond (r .ok) (took (operandOf (r .word)) (drop (r .end) (now (s .entry)))) unfit ⌝ }
     ensures { λ r. ⌜ (r .word ≤ 1999) × (at ≤ r .end) × (r .end ≤ at + 10) ⌝ }
 {
     let reads = begins_at(s, at, b"(read ");
-    let takes = begins_at(s, at, b"(take ");
+    let takes = begins_at(s, at, b"(take "); // and any slot
     let slot = number_at(s, at + 6);
     let closed = begins_at(s, slot.end, b")");
     let taken: u16 = if takes { 1 } else { 0 };
@@ -112,6 +112,27 @@ pub fn operand_at(s: &[u8], at: usize) -> Part
         ok: both(either(reads, takes), both(slot.ok, closed)),
         word: slot.word * 2 + taken,
         end: slot.end + 1,
+    }
+}
+
+// The same, at once where the slot has one digit: a digit and a closing bracket stand at their places. (It is small, so that the compiler
+// writes it out in every form.)
+pub fn operand_at(s: &[u8], at: usize) -> Part
+    requires { ⌜ (8 ≤ length (now s)) × (at ≤ 131000) ⌝ }
+    ensures { λ r. ⌜ operand (drop at (now (s .entry))) ≡ cond (r .ok) (took (operandOf (r .word)) (drop (r .end) (now (s .entry)))) unfit ⌝ }
+    ensures { λ r. ⌜ (r .word ≤ 1999) × (at ≤ r .end) × (r .end ≤ at + 10) ⌝ }
+{
+    let digit = byte(s, at + 6);
+    if !both(is_digit(digit), byte(s, at + 7) == b')') {
+        return long_operand_at(s, at);
+    }
+    let reads = begins_at(s, at, b"(read ");
+    let takes = begins_at(s, at, b"(take "); // and one digit
+    let taken: u16 = if takes { 1 } else { 0 };
+    Part {
+        ok: either(reads, takes),
+        word: value(digit) * 2 + taken,
+        end: at + 8,
     }
 }
 

@@ -1,6 +1,7 @@
 -- Refusal 8 by the table's words: a line's number tells which of its words name something; the walk over the lines is the fold of document 01.
 use Prim.Native.Nat.{ℕ, zero, suc, _+_, _-_, _≤_, _<_, suc-le-suc}
 use native.Mathlib.Numerals.{add-one}
+use native.Mathlib.Decide.{decLt}
 use native.Mathlib.Omega.{arith}
 use mathlib.Core.Path.{_≡_, refl, sym, ap, _∙_, subst}
 use mathlib.Core.Bool.{Bool, true, false, not, _&&_, _||_, cond, or-false as or-none}
@@ -20,7 +21,7 @@ use Rattle.rules.proofs.ListLaws.{by-bool, or-false, every-get, every-at}
 use Rattle.table.specs.Program.{noForm, sortNumber, LineWord}
 use Rattle.table.proofs.ProgramLines.{blocks-of-lines, kind-stands, kind-there}
 use Rattle.grammar.specs.Decoded.{overLine}
-use Rattle.reader.specs.Linking.{Table, formAt, LineDangles, BlocksAfter, FirstDangling}
+use Rattle.reader.specs.Linking.{Table, formAt, Opened, LineDangles, FirstDangling}
 
 -- ---- Tests
 
@@ -189,26 +190,6 @@ module _ (P : Program) (b : ℕ) where
         rw (ef, ew, ex, ey, ez, eqb-sym (kindAt P i .fields) (operandCount (row F)))
         (sym (rw (lt-ltb i (length (P .kinds)) h) at new-line))
 
--- a thread or a method opens a block
-opened-told : (F : Form) (b : ℕ) → cond (ltb (getD (row F) 0 0) 2) b (cond (ltb (getD (row F) 0 0) 4) (b + 1) b) ≡ opened F b
-unfolding row lineWords pad opened
-opened-told (kind K) b = refl
-opened-told (opens thread) b = add-one b
-opened-told (opens method) b = add-one b
-opened-told (line (give w)) b = refl
-opened-told (line (bind (value w))) b = refl
-opened-told (line (bind (field s f))) b = refl
-opened-told (line (bind (swap s f w))) b = refl
-opened-told (line (bind (call s i w))) b = refl
-opened-told (line (bind (new k i ws))) b = refl
-opened-told (line (bind (cast k w))) b = refl
-opened-told (line (bind (spawn i))) b = refl
-opened-told (line (bind (send s w))) b = refl
-opened-told (line (bind (recv s))) b = refl
-
-pub opened-by-number : (F : Form) (b n : ℕ) → n ≡ getD (row F) 0 0 → cond (ltb n 2) b (cond (ltb n 4) (b + 1) b) ≡ opened F b
-opened-by-number F b n e = rw e (opened-told F b)
-
 -- ---- A table's lines
 
 module _ {t : List ℕ} {P : Program} (table : Table t P) where
@@ -244,15 +225,68 @@ pub kind-line-dangles : (P : Program) (b n : ℕ) → n < length (P .kinds) → 
 unfolding dangles
 kind-line-dangles P b n h = ap (dangles P b) (sym (kind-stands P n h))
 
+-- ---- Blocks opened before a line
+
+-- the line after the kinds opens the first block
+line-after-kinds : (Ks : List Kind) (Fs : List Form) → getD (kindLines Ks Fs) (length Ks) noForm ≡ getD Fs 0 noForm
+unfolding kindLines
+line-after-kinds [] Fs = refl
+line-after-kinds (K ∷ Ks) Fs = line-after-kinds Ks Fs
+
+opens-first : (Bs : List Block) (b : ℕ) → 1 ≤ opened (getD (blockLines Bs) 0 noForm) b
+unfolding blockLines opened
+opens-first [] b = omega arith
+opens-first (B ∷ Bs) b = omega arith
+
+first-opener : (P : Program) (b : ℕ) → 1 ≤ opened (formAt P (length (P .kinds))) b
+unfolding linesOf
+first-opener P b = rw (line-after-kinds (P .kinds) (blockLines (P .blocks))) (opens-first (P .blocks) b)
+
+opened-more : (F : Form) (b : ℕ) → b ≤ opened F b
+unfolding opened
+opened-more (kind K) b = omega arith
+opened-more (opens o) b = omega arith
+opened-more (line x) b = omega arith
+
+opened-by-kind : (P : Program) (n b : ℕ) → n < length (P .kinds) → opened (formAt P n) b ≡ b
+unfolding opened
+opened-by-kind P n b h = ap (λ F. opened F b) (kind-stands P n h)
+
+-- one line more
+one-more : (P : Program) (n b : ℕ) → Opened P n b → Opened P (suc n) (opened (formAt P n) b)
+one-more P n b o = record {
+  none = λ h. opened-by-kind P n b h ∙ o .none (omega arith);
+  some = λ h. by-bool (eqb n (length (P .kinds)))
+      (λ t. rw (eqb-true n (length (P .kinds)) t) (first-opener P b))
+      (λ t. let k = eqb-false n (length (P .kinds)) t in let m = o .some (omega arith) in let q = opened-more (formAt P n) b in omega arith);
+}
+
+-- so a method opens the first block where its line is the one after the kinds
+pub first-method : (P : Program) (n b form : ℕ) → form ≡ getD (row (formAt P n)) 0 0 → form ≡ 3 → Opened P n b → eqb n (length (P .kinds)) ≡ eqb b 0
+unfolding row lineWords pad
+first-method P n b form e is o = by-bool (eqb n (length (P .kinds)))
+    (λ t. let k = eqb-true n (length (P .kinds)) t in rw (t, o .none (omega arith)))
+    (λ t. let k = eqb-false n (length (P .kinds)) t in rw t (sym (ne-eqb b 0 (λ z. go k z (decLt n (length (P .kinds)))))))
+  where
+    go : (n ≡ length (P .kinds) → ⊥) → b ≡ 0 → Dec (n < length (P .kinds)) → ⊥
+    go k z (yes h) = let one : form ≡ 1 = e ∙ ap (λ F. getD (row F) 0 0) (kind-stands P n h) in omega arith
+    go k z (no h) = let m = o .some (omega arith) in omega arith
+
 -- ---- The walk
 
--- before line n, b blocks are opened and no line dangled
-pub record LinkedTo (t : List ℕ) (kinds blocks lines b n : ℕ) : Type 0 where
-  pub is : (P : Program) → Table t P → kinds ≡ length (P .kinds) → blocks ≡ length (P .blocks) → lines ≡ length (linesOf P)
-      → link P 0 0 (linesOf P) ≡ link P b n (drop n (linesOf P))
+-- before line n no line dangled
+pub record Reached (P : Program) (n : ℕ) : Type 0 where
+  blocks : ℕ
+  opened-so-far : Opened P n blocks
+  links : link P 0 0 (linesOf P) ≡ link P blocks n (drop n (linesOf P))
 
-pub at-first-line : (t : List ℕ) (kinds blocks lines : ℕ) → LinkedTo t kinds blocks lines 0 0
-at-first-line t kinds blocks lines = record { is = λ P table k l m. refl }
+pub record LinkedTo (t : List ℕ) (kinds blocks lines n : ℕ) : Type 0 where
+  pub is : (P : Program) → Table t P → kinds ≡ length (P .kinds) → blocks ≡ length (P .blocks) → lines ≡ length (linesOf P) → Reached P n
+
+pub at-first-line : (t : List ℕ) (kinds blocks lines : ℕ) → LinkedTo t kinds blocks lines 0
+at-first-line t kinds blocks lines = record {
+  is = λ P table k l m. record { blocks = 0; opened-so-far = record { none = λ h. refl; some = λ h. absurd (omega arith) }; links = refl };
+}
 
 one-line : (P : Program) (b n : ℕ) → n < length (linesOf P)
     → link P b n (drop n (linesOf P)) ≡ cond (dangles P b (formAt P n)) (turnedAway No.dangling n) (link P (opened (formAt P n) b) (suc n) (drop (suc n) (linesOf P)))
@@ -263,19 +297,30 @@ no-line : (P : Program) (b n : ℕ) → length (linesOf P) ≤ n → link P b n 
 unfolding link
 no-line P b n h = ap (link P b n) (drop-of-length-le (linesOf P) h)
 
-module _ {t : List ℕ} {kinds blocks lines b n : ℕ} (so-far : LinkedTo t kinds blocks lines b n) where
-  pub line-found : {r : Bool} → LineDangles t kinds blocks b n r → r ≡ true → n < lines → FirstDangling t kinds blocks lines n
+module _ {t : List ℕ} {kinds blocks lines n : ℕ} (so-far : LinkedTo t kinds blocks lines n) where
+  pub line-found : {r : Bool} → LineDangles t kinds blocks n r → r ≡ true → n < lines → FirstDangling t kinds blocks lines n
   line-found tells e h = record {
     is = λ P table k l m.
-        so-far .is P table k l m ∙ one-line P b n (rw m at h) ∙ rw (sym (tells .is P table k l (rw m at h)) ∙ e, lt-ltb n lines h);
+        let s = so-far .is P table k l m in
+        let there : n < length (linesOf P) = rw m at h in
+        s .links ∙ one-line P (s .blocks) n there ∙ rw (sym (tells .is P (s .blocks) table k l there (s .opened-so-far)) ∙ e, lt-ltb n lines h);
   }
 
-  pub line-passed : {r : Bool} {b′ : ℕ} → LineDangles t kinds blocks b n r → r ≡ false → BlocksAfter t b n b′ → n < lines → LinkedTo t kinds blocks lines b′ (n + 1)
-  line-passed tells e after h = record {
+  pub line-passed : {r : Bool} → LineDangles t kinds blocks n r → r ≡ false → n < lines → LinkedTo t kinds blocks lines (n + 1)
+  line-passed tells e h = record {
     is = λ P table k l m.
-        so-far .is P table k l m ∙ one-line P b n (rw m at h)
-        ∙ rw (sym (tells .is P table k l (rw m at h)) ∙ e, add-one n, after .is P table (rw m at h));
+        let s = so-far .is P table k l m in
+        let there : n < length (linesOf P) = rw m at h in
+        record {
+          blocks = opened (formAt P n) (s .blocks);
+          opened-so-far = rw (add-one n) (one-more P n (s .blocks) (s .opened-so-far));
+          links = s .links ∙ one-line P (s .blocks) n there ∙ rw (sym (tells .is P (s .blocks) table k l there (s .opened-so-far)) ∙ e, add-one n);
+        };
   }
 
   pub no-line-left : lines ≤ n → FirstDangling t kinds blocks lines n
-  no-line-left h = record { is = λ P table k l m. so-far .is P table k l m ∙ no-line P b n (rw m at h) ∙ rw (le-ltb n lines h) }
+  no-line-left h = record {
+    is = λ P table k l m.
+        let s = so-far .is P table k l m in
+        s .links ∙ no-line P (s .blocks) n (rw m at h) ∙ rw (le-ltb n lines h);
+  }

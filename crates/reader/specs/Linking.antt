@@ -1,5 +1,5 @@
 -- Refusal 8 on the table of a program: which line dangles.
-use Prim.Native.Nat.{ℕ, _<_}
+use Prim.Native.Nat.{ℕ, _≤_, _<_}
 use mathlib.Core.Path.{_≡_}
 use mathlib.Core.Bool.{Bool, false, not, cond}
 use mathlib.Core.List.{List}
@@ -8,7 +8,7 @@ use lib.ListN.{length, getD}
 use Rattle.rules.specs.Lists.{any, Every}
 use Rattle.rules.specs.Numbers as No
 use Rattle.rules.specs.Script.{Sort, method, Form, Program, linesOf, kindAt}
-use Rattle.rules.specs.Reading.{isSort, dangles, opened, turnedAway, accepted, link}
+use Rattle.rules.specs.Reading.{isSort, dangles, turnedAway, accepted, link}
 use Rattle.rules.specs.Tables.{row}
 use Rattle.grammar.specs.Decoded.{overLine}
 use Rattle.table.specs.Program.{Filled, noForm, sortNumber}
@@ -40,12 +40,14 @@ pub record NewDangles (t : List ℕ) (kinds n : ℕ) (r : Bool) : Type 0 where
   pub is : (P : Program) (b : ℕ) → Table t P → kinds ≡ length (P .kinds) → n < length (linesOf P) → getD (row (formAt P n)) 0 0 ≡ 9
       → r ≡ dangles P b (formAt P n)
 
-pub record LineDangles (t : List ℕ) (kinds blocks b n : ℕ) (r : Bool) : Type 0 where
-  pub is : (P : Program) → Table t P → kinds ≡ length (P .kinds) → blocks ≡ length (P .blocks) → n < length (linesOf P)
-      → r ≡ dangles P b (formAt P n)
+-- b blocks are opened before line n: none before the line after the kinds, which opens the first
+pub record Opened (P : Program) (n b : ℕ) : Type 0 where
+  pub none : n ≤ length (P .kinds) → b ≡ 0
+  pub some : length (P .kinds) < n → 1 ≤ b
 
-pub record BlocksAfter (t : List ℕ) (b n r : ℕ) : Type 0 where
-  pub is : (P : Program) → Table t P → n < length (linesOf P) → r ≡ opened (formAt P n) b
+pub record LineDangles (t : List ℕ) (kinds blocks n : ℕ) (r : Bool) : Type 0 where
+  pub is : (P : Program) (b : ℕ) → Table t P → kinds ≡ length (P .kinds) → blocks ≡ length (P .blocks) → n < length (linesOf P) → Opened P n b
+      → r ≡ dangles P b (formAt P n)
 
 pub record FirstDangling (t : List ℕ) (kinds blocks lines r : ℕ) : Type 0 where
   pub is : (P : Program) → Table t P → kinds ≡ length (P .kinds) → blocks ≡ length (P .blocks) → lines ≡ length (linesOf P)

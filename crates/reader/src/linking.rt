@@ -1,10 +1,10 @@
 // "then 8 in line order": what the lines name is there, and of its sort.
 ghost use mathlib.Core.Path.{_≡_};
 ghost use mathlib.Core.Bool.{cond};
-ghost use Prim.Native.Nat.{_+_, _≤_, _<_};
+ghost use Prim.Native.Nat.{_≤_, _<_};
 ghost use lib.Dec.{eqb};
 ghost use lib.ListN.{length};
-ghost use Rattle.reader.specs.Linking.{IsSort, MethodDangles, KindDangles, NewDangles, LineDangles, BlocksAfter, FirstDangling};
+ghost use Rattle.reader.specs.Linking.{IsSort, MethodDangles, KindDangles, NewDangles, LineDangles, FirstDangling};
 
 // Whether block b is there, and opened by this form.
 fn is_sort(t: &[u16], blocks: usize, b: usize, form: u16) -> bool
@@ -68,16 +68,16 @@ fn new_dangles(t: &[u16], kinds: usize, n: usize) -> bool
     table::kind_fields(t, kind) != operands
 }
 
-// Whether line n dangles, after b blocks.
-fn line_dangles(t: &[u16], kinds: usize, blocks: usize, b: usize, n: usize) -> bool
+// Whether line n dangles. The lines before the first opener are the kinds.
+fn line_dangles(t: &[u16], kinds: usize, blocks: usize, n: usize) -> bool
     requires { ⌜ (8192 ≤ length (now t)) × (kinds ≤ 32) × (blocks ≤ 64) × (n < 672) ⌝ }
-    ensures { λ r. ⌜ LineDangles (now (t .entry)) kinds blocks b n r ⌝ }
+    ensures { λ r. ⌜ LineDangles (now (t .entry)) kinds blocks n r ⌝ }
 {
     let form = table::line_word(t, n, 0);
     match form {
         1 => kind_dangles(t, blocks, n),
         2 => false,
-        3 => b == 0,
+        3 => n == kinds,
         4 => false,
         5 => false,
         6 => false,
@@ -92,19 +92,6 @@ fn line_dangles(t: &[u16], kinds: usize, blocks: usize, b: usize, n: usize) -> b
     }
 }
 
-// One more block after a line that opens one.
-fn blocks_after(t: &[u16], b: usize, n: usize) -> usize
-    requires { ⌜ (8192 ≤ length (now t)) × (n < 672) × (b ≤ 672) ⌝ }
-    ensures { λ r. ⌜ BlocksAfter (now (t .entry)) b n r ⌝ }
-    ensures { λ r. ⌜ r ≤ b + 1 ⌝ }
-{
-    let form = table::line_word(t, n, 0);
-    match form {
-        2 | 3 => b + 1,
-        _ => b,
-    }
-}
-
 // The first line that dangles, or the number of lines.
 pub fn first_dangling(t: &[u16], kinds: usize, blocks: usize, lines: usize) -> usize
     requires { ⌜ (8192 ≤ length (now t)) × (kinds ≤ 32) × (blocks ≤ 64) × (lines ≤ 672) ⌝ }
@@ -112,12 +99,10 @@ pub fn first_dangling(t: &[u16], kinds: usize, blocks: usize, lines: usize) -> u
     ensures { λ r. ⌜ r ≤ lines ⌝ }
 {
     let mut n: usize = 0;
-    let mut b: usize = 0;
     while n < lines {
-        if line_dangles(t, kinds, blocks, b, n) {
+        if line_dangles(t, kinds, blocks, n) {
             return n;
         }
-        b = blocks_after(t, b, n);
         n += 1;
     }
     n

@@ -54,11 +54,16 @@ impl Whole {
 
     /// The same by the script.
     fn line(&self) -> String {
-        let megabytes = MOST_TEXT as f64 / self.ours / 1e6;
-        let micros = self.ours * 1e6;
+        let told = |time: f64| {
+            let megabytes = MOST_TEXT as f64 / time / 1e6;
+            format!("{:.1} µs, {:.0} MB/s", time * 1e6, megabytes)
+        };
         format!(
-            "{} a script of {} bytes: {:.1} µs, {:.0} MB/s\n",
-            self.name, MOST_TEXT, micros, megabytes
+            "{} a script of {} bytes: {}; the second interpreter {}\n",
+            self.name,
+            MOST_TEXT,
+            told(self.ours),
+            told(self.second)
         )
     }
 }

@@ -41,11 +41,11 @@ begins-at-requires-3 : tie.Need-begins-at-requires-3
 unfolding plain all
 begins-at-requires-3 c κs = search needs
 
-add-operand-at : tie.Need-add-operand-at
-add-operand-at c = search needs
+add-long-operand-at : tie.Need-add-long-operand-at
+add-long-operand-at c = search needs
 
-operand-at-requires : tie.Need-operand-at-requires
-operand-at-requires c κs = search needs
+long-operand-at-requires : tie.Need-long-operand-at-requires
+long-operand-at-requires c κs = search needs
 
 slice-aggregate-begins-at-4 : tie.Need-slice-aggregate-begins-at-4
 slice-aggregate-begins-at-4 c = search needs
@@ -88,13 +88,13 @@ returns c =
     let operand = closed .before .before in
     let cap = operand .before .before .before .before in
     let short = c .before .before .short-line in
-    let x = operand .operand-at .result .word in
+    let x = operand .long-operand-at .result .word in
     record {
       parts = (capOf (cap .cap-at .result .word), (operandOf x, tt));
       fits = fits-as (cap .before .before .before .before .before .before .args .at)
           (two-words (bytes "(let (") (bytes "cast ") (cap .before .before .before .begins-at .ensures) (cap .before .begins-at2 .ensures)
           (a-cap (cap .cap-at .result) (cap .cap-at .ensures .0) (word (bytes " ") (operand .before .before .begins-at3 .ensures)
-          (an-operand (operand .operand-at .result) (operand .operand-at .ensures .0) (last (bytes "))\n") (closed .begins-at4 .ensures))))))
+          (an-operand (operand .long-operand-at .result) (operand .long-operand-at .ensures .0) (last (bytes "))\n") (closed .begins-at4 .ensures))))))
           (short .ensures .0 .0 ∙ rw (oks .both5 .ensures, oks .before .both4 .ensures, oks .before .before .both3 .ensures, oks .before .before .before .both2 .ensures, oks .before .before .before .before .both .ensures)) (short .ensures .1 .3);
       tells = cast-tells x refl (cap .cap-at .result .word) (cap .cap-at .ensures .1 .0) (short-row (short .result) (short .ensures .0)) (c .before .over .ensures) refl;
     }
@@ -112,8 +112,8 @@ cast-at-spec =
     cap-at-requires
     slice-aggregate-begins-at-3
     begins-at-requires-3
-    add-operand-at
-    operand-at-requires
+    add-long-operand-at
+    long-operand-at-requires
     slice-aggregate-begins-at-4
     begins-at-requires-4
     both-requires

@@ -1,7 +1,8 @@
 -- The form that a few bytes tell is the only one that can fit, so what that form gives is the line; where the text is too short, none fits.
 use mathlib.Core.Path.{sym, _∙_}
+use mathlib.Core.Logic.{⊎-elim}
 use native.Mathlib.Omega.{arith}
-use Rattle.grammar.proofs.Fronts.{line-by-form, line-in-short, line-by-none}
+use Rattle.grammar.proofs.Fronts.{line-by-form, line-by-either, line-in-short, past-all, one-past, not-up-to, line-by-none}
 use borrow.Author.Needs.{needs}
 use Rattle.grammar.proofs.forms.line_at.Statement.{statement}
 use Rattle.grammar.proofs.forms.line_at.Tie as tie
@@ -24,20 +25,8 @@ thread-at-requires c κs = search needs
 method-at-requires : tie.Need-method-at-requires
 method-at-requires c κs = search needs
 
-give-at-requires : tie.Need-give-at-requires
-give-at-requires c κs = search needs
-
-value-at-requires : tie.Need-value-at-requires
-value-at-requires c κs = search needs
-
 field-at-requires : tie.Need-field-at-requires
 field-at-requires c κs = search needs
-
-swap-at-requires : tie.Need-swap-at-requires
-swap-at-requires c κs = search needs
-
-call-at-requires : tie.Need-call-at-requires
-call-at-requires c κs = search needs
 
 new-at-requires : tie.Need-new-at-requires
 new-at-requires c κs = search needs
@@ -54,6 +43,12 @@ send-at-requires c κs = search needs
 recv-at-requires : tie.Need-recv-at-requires
 recv-at-requires c κs = search needs
 
+give-or-value-at-requires : tie.Need-give-or-value-at-requires
+give-or-value-at-requires c κs = search needs
+
+swap-or-call-at-requires : tie.Need-swap-or-call-at-requires
+swap-or-call-at-requires c κs = search needs
+
 short-line-requires-2 : tie.Need-short-line-requires-2
 short-line-requires-2 c κs = search needs
 
@@ -67,37 +62,43 @@ returns-4 : tie.Need-returns-4
 returns-4 c = line-by-form 2 (omega arith) (sym (c .before .before .form-at .ensures) ∙ c .before .match .keys3) (c .method-at .ensures)
 
 returns-5 : tie.Need-returns-5
-returns-5 c = line-by-form 3 (omega arith) (sym (c .before .before .form-at .ensures) ∙ c .before .match .keys4) (c .give-at .ensures)
+returns-5 c = line-by-form 5 (omega arith) (sym (c .before .before .form-at .ensures) ∙ c .before .match .keys4) (c .field-at .ensures)
 
 returns-6 : tie.Need-returns-6
-returns-6 c = line-by-form 4 (omega arith) (sym (c .before .before .form-at .ensures) ∙ c .before .match .keys5) (c .value-at .ensures)
+returns-6 c = line-by-form 8 (omega arith) (sym (c .before .before .form-at .ensures) ∙ c .before .match .keys5) (c .new-at .ensures)
 
 returns-7 : tie.Need-returns-7
-returns-7 c = line-by-form 5 (omega arith) (sym (c .before .before .form-at .ensures) ∙ c .before .match .keys6) (c .field-at .ensures)
+returns-7 c = line-by-form 9 (omega arith) (sym (c .before .before .form-at .ensures) ∙ c .before .match .keys6) (c .cast-at .ensures)
 
 returns-8 : tie.Need-returns-8
-returns-8 c = line-by-form 6 (omega arith) (sym (c .before .before .form-at .ensures) ∙ c .before .match .keys7) (c .swap-at .ensures)
+returns-8 c = line-by-form 10 (omega arith) (sym (c .before .before .form-at .ensures) ∙ c .before .match .keys7) (c .spawn-at .ensures)
 
 returns-9 : tie.Need-returns-9
-returns-9 c = line-by-form 7 (omega arith) (sym (c .before .before .form-at .ensures) ∙ c .before .match .keys8) (c .call-at .ensures)
+returns-9 c = line-by-form 11 (omega arith) (sym (c .before .before .form-at .ensures) ∙ c .before .match .keys8) (c .send-at .ensures)
 
 returns-10 : tie.Need-returns-10
-returns-10 c = line-by-form 8 (omega arith) (sym (c .before .before .form-at .ensures) ∙ c .before .match .keys9) (c .new-at .ensures)
+returns-10 c = line-by-form 12 (omega arith) (sym (c .before .before .form-at .ensures) ∙ c .before .match .keys9) (c .recv-at .ensures)
 
 returns-11 : tie.Need-returns-11
-returns-11 c = line-by-form 9 (omega arith) (sym (c .before .before .form-at .ensures) ∙ c .before .match .keys10) (c .cast-at .ensures)
+returns-11 c =
+    let told = c .before .before .before in
+    let low = past-all 3 _ (told .match .rest .0 .0 .0 .0 .0 .0) (c .before .before .if2 .left) in
+    line-by-either 3 (omega arith) (told .before .form-at .ensures) low (c .before .if3 .taken) (c .give-or-value-at .ensures)
 
 returns-12 : tie.Need-returns-12
-returns-12 c = line-by-form 10 (omega arith) (sym (c .before .before .form-at .ensures) ∙ c .before .match .keys11) (c .spawn-at .ensures)
+returns-12 c =
+    let told = c .before .before .before .before in
+    line-by-either 6 (omega arith) (told .before .form-at .ensures) (one-past _ 6 (told .match .rest .0 .0 .0 .0 .0 .1) (c .before .before .if3 .left)) (c .before .if4 .taken) (c .swap-or-call-at .ensures)
 
 returns-13 : tie.Need-returns-13
-returns-13 c = line-by-form 11 (omega arith) (sym (c .before .before .form-at .ensures) ∙ c .before .match .keys12) (c .send-at .ensures)
-
-returns-14 : tie.Need-returns-14
-returns-14 c = line-by-form 12 (omega arith) (sym (c .before .before .form-at .ensures) ∙ c .before .match .keys13) (c .recv-at .ensures)
-
-returns-15 : tie.Need-returns-15
-returns-15 c = line-by-none _ _ _ _ (c .short-line2 .ensures .0 .0) (c .before .before .form-at .ensures) (c .before .match .rest)
+returns-13 c =
+    let told = c .before .before in
+    let others = told .match .rest in
+    line-by-none _ _ _ _ (c .short-line2 .ensures .0 .0) (told .before .form-at .ensures)
+    (⊎-elim
+    (λ w. let low = w .taken in not-up-to 13 _ (λ j h e. omega arith))
+    (λ w. let high = w .2 .left in (((((not-up-to 8 _ (λ j h e. omega arith), others .0 .0 .0 .0 .1), others .0 .0 .0 .1), others .0 .0 .1), others .0 .1), others .1))
+    (c .before .if2 .came))
 
 pub line-at-spec : {M : Type 1} → statement M
 line-at-spec =
@@ -109,16 +110,14 @@ line-at-spec =
     kind-at-requires
     thread-at-requires
     method-at-requires
-    give-at-requires
-    value-at-requires
     field-at-requires
-    swap-at-requires
-    call-at-requires
     new-at-requires
     cast-at-requires
     spawn-at-requires
     send-at-requires
     recv-at-requires
+    give-or-value-at-requires
+    swap-or-call-at-requires
     short-line-requires-2
     returns-2
     returns-3
@@ -131,6 +130,4 @@ line-at-spec =
     returns-10
     returns-11
     returns-12
-    returns-13
-    returns-14
-    returns-15)
+    returns-13)
