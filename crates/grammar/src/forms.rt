@@ -220,7 +220,7 @@ fn cast_at(s: &[u8], at: usize) -> Line
     let named = begins_at(s, at + 6, b"cast ");
     let cap = cap_at(s, at + 11);
     let parted = begins_at(s, cap.end, b" ");
-    let w = long_operand_at(s, cap.end + 1); // (called twice, it is not written out in operand_at)
+    let w = long_operand_at(s, cap.end + 1); // called here too: so the compiler keeps it out of operand_at
     let closed = begins_at(s, w.end, b"))\n");
     let ok = both(
         opened,
