@@ -8,7 +8,7 @@ use second::random::Random;
 use crate::agree::{self, same_words, Counts};
 use crate::{full, library};
 
-/// How many texts that are read a corpus has, and how many of each refusal that a text alone can meet; the longest of them but for a few.
+/// So many texts of a corpus are read, and so many meet each refusal that a text alone can meet; but for the longest, none has more bytes.
 const READ: usize = 100;
 const REFUSED: usize = 30;
 const SHORT: usize = 500;
@@ -50,7 +50,7 @@ fn told(answer: &Result<(), Refusal>, words: &[u16]) -> String {
     }
 }
 
-/// An answer as it was told, and the words that the first 8,192 of a table with these words then are.
+/// An answer as it was told, and the words that a table with these words then has.
 fn understood(line: &str, table: &[u16]) -> Option<(Result<(), Refusal>, Vec<u16>)> {
     let (word, rest) = line.split_once(' ')?;
     if word == "refused" {
