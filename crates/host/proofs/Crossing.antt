@@ -1,11 +1,11 @@
 -- What the lower crates answer and leave, as the numbers and bytes that cross.
 use Prim.Native.Nat.{ℕ, _*_, _≤_, _<_}
-use mathlib.Core.Path.{_≡_, refl, sym, ap, _∙_, subst}
+use mathlib.Core.Path.{_≡_, refl, ap, _∙_, subst}
 use mathlib.Core.Bool.{Bool, true, false}
-use mathlib.Core.List.{List, [], _++_, append-nil}
+use mathlib.Core.List.{List}
 use native.Mathlib.Omega.{arith}
 use lib.Dec.{ltb}
-use lib.ListN.{length, take, drop, drop-of-length-le}
+use lib.ListN.{length, take, drop}
 use lib.Seq.{take-at}
 use borrow.Author.Tests.{lt-ltb}
 use Rattle.rules.specs.Mosts as Most
@@ -17,7 +17,7 @@ use Rattle.rules.specs.Reading.{Reading, turnedAway, accepted}
 use Rattle.rules.specs.State.{State}
 use Rattle.rules.specs.Run.{Run, End, Stop, none, stopped, finished, stuck, openEnd, ended, run, endOf, answerOf, answer}
 use Rattle.rules.specs.Tables.{programWords, stateWords}
-use Rattle.rules.specs.Calls.{shortTable, programAfter, runAnswer, stateAfter, unreported, reached, ReportsOn, ReachReport}
+use Rattle.rules.specs.Calls.{shortTable, programAfter, runAnswer, stateAfter, Report, unreported, reached, reportOn, reachReport, listAfter}
 use Rattle.rules.specs.Writer.{refused, WriteCall}
 use Rattle.rules.proofs.ListLaws.{impossible, length-pad}
 use Rattle.rules.proofs.Demand3.{stripped-matches}
@@ -29,10 +29,10 @@ use Rattle.reader.specs.Answers.{numberOf, lineOf}
 use Rattle.writer.specs.declared.Answer.{Answer}
 use Rattle.writer.specs.Answers as Writer
 use Rattle.run.specs.Answers.{endNumber, Tells}
-use Rattle.reach.specs.declared.Report.{Report}
+use Rattle.reach.specs.declared.Report.the-variants as T
 use Rattle.reach.specs.Walking.{reportOf}
 use Rattle.host.specs.Bytes.{bytesOf, bytesAfter, wordsOf}
-use Rattle.host.specs.Calls.{tableAfter, ranWords, Guarded, Demand3, ReportsBytes, writeNumber, writeLength, WritesBytes}
+use Rattle.host.specs.Calls.{tableAfter, ranWords, Guarded, Demand3, reportNumber, reportLine, reportCount, listBytes, writeNumber, writeLength, WritesBytes}
 use Rattle.host.proofs.Stored.{bytes-length, stored}
 use Rattle.host.proofs.Loaded.{short-words, long-words}
 use Rattle.host.proofs.First.{AtMost9}
@@ -145,8 +145,15 @@ run-done (accepted P) turns p₀ s₀ program state p-long s-long made tells p-w
 
 -- ---- Reporting
 
+-- numbers and list of this report
+pub record Reports (R : Report) (list : List ℕ) (number count line : ℕ) (list₁ : List ℕ) : Type 0 where
+  pub number-is : number ≡ reportNumber R
+  pub count-is : count ≡ reportCount R
+  pub line-is : line ≡ reportLine R
+  pub list-is : list₁ ≡ listBytes R list
+
 pub record HasReported (C : Reading) (turns : List ℕ) (t : ℕ) (program state list : List ℕ) (number count line : ℕ) (p s list₁ : List ℕ) : Type 0 where
-  pub report : ReportsBytes C turns t list number count line list₁
+  pub report : Reports (reachReport mosts turns t C) list number count line list₁
   pub program-is : p ≡ tableAfter programWords C program
   pub state-is : s ≡ tableAfter (ranWords turns) C state
 
@@ -154,92 +161,61 @@ pub reach-of-same : {C C′ : Reading} {turns program state list p s list₁ : L
     → HasReported C′ turns t program state list number count line p s list₁ → HasReported C turns t program state list number count line p s list₁
 reach-of-same e x = rw e x
 
--- the list keeps its bytes
-kept-list : {C : Reading} {k n : ℕ} {turns list : List ℕ} {t : ℕ} → ReachReport mosts turns t C [] (unreported k n) [] → ReportsBytes C turns t list k 0 n list
-kept-list {k} {n} r =
-    record { report = unreported k n; words = []; reports = r; number-is = refl; count-is = refl; line-is = refl; leaves = refl }
+-- the answer that was told of box's own list is that of this report: nothing is listed, or what is listed is stored
+told-refused : (R : Report) {k n : ℕ} (list : List ℕ) → T.Refused k n ≡ reportOf R → Reports R list k 0 n list
+told-refused (unreported i j) list e = record { number-is = cc; count-is = refl; line-is = cc; list-is = refl }
+told-refused (reached objects) list e = impossible cc
+
+told-reached : (R : Report) {c : ℕ} (l₀ l₁ list list₁ : List ℕ) → length l₀ ≡ Most.reachList → T.Reached c ≡ reportOf R → l₁ ≡ listAfter R l₀
+    → list₁ ≡ bytesAfter (length l₁) l₁ list → Reports R list 0 c 0 list₁
+told-reached (unreported i j) l₀ l₁ list list₁ long e l-written l-kept = impossible cc
+told-reached (reached objects) l₀ l₁ list list₁ long e l-written l-kept =
+    record {
+      number-is = refl;
+      count-is = cc;
+      line-is = refl;
+      list-is = stored Most.reachList (pad Most.reachList 0 objects) l₀ list (length-pad Most.reachList 0 objects) long l-written l-kept;
+    }
 
 pub reach-early : {C : Reading} {k : ℕ} (turns : List ℕ) (t : ℕ) (program state list : List ℕ) → C ≡ turnedAway k 0
     → HasReported C turns t program state list k 0 0 program state list
 reach-early turns t program state list e =
-    rw e (record { report = kept-list (record { answers = refl; leaves = refl }); program-is = refl; state-is = refl })
+    rw e (record { report = record { number-is = refl; count-is = refl; line-is = refl; list-is = refl }; program-is = refl; state-is = refl })
 
-module _ (P : Program) (S : State) (t : ℕ) (l₀ l₁ : List ℕ) where
-  -- 17 alone leaves a run unreported
-  only-17 : (k n : ℕ) (started : Bool) → ReportsOn P S t started l₀ (unreported k n) l₁ → k ≡ No.noThread
-  only-17 k n true r = impossible (let e = r .answers in cc)
-  only-17 k n false r = let e = r .answers in cc
-
-  -- whatever the list held
-  unreported-on : (k n : ℕ) (started : Bool) → ReportsOn P S t started l₀ (unreported k n) l₁ → ReportsOn P S t started [] (unreported k n) []
-  unreported-on k n true r = impossible (let e = r .answers in cc)
-  unreported-on k n false r = record { answers = r .answers; leaves = refl }
-
-  record ReportedOn (started : Bool) (c : ℕ) : Type 0 where
-    words : List ℕ
-    long : length words ≡ Most.reachList
-    reports : ReportsOn P S t started [] (reached c) words
-    written : l₁ ≡ words ++ drop Most.reachList l₀
-
-  reported-on : (c : ℕ) (started : Bool) → ReportsOn P S t started l₀ (reached c) l₁ → ReportedOn started c
-  reported-on c true r =
-      let words : List ℕ = pad Most.reachList 0 (r .objects) in
-      let few : 0 ≤ Most.reachList = omega arith in
-      let none : drop {A = ℕ} Most.reachList [] ≡ [] = drop-of-length-le {A = ℕ} [] few in
-      record {
-        words = words;
-        long = length-pad Most.reachList 0 (r .objects);
-        reports = record {
-          objects = r .objects;
-          lists = r .lists;
-          answers = r .answers;
-          leaves = sym (ap (λ (l : List ℕ). words ++ l) none ∙ append-nil words);
-        };
-        written = r .leaves;
-      }
-  reported-on c false r = impossible (let e = r .answers in cc)
-
-module _ (turns : List ℕ) (t : ℕ) (program state list l₀ l₁ : List ℕ) where
-  -- the report that the code's answer is
-  pub as-told : (C : Reading) {r r′ : Report} → r ≡ r′ → ReachReport mosts turns t C l₀ (reportOf r) l₁ → ReachReport mosts turns t C l₀ (reportOf r′) l₁
-  as-told C e x = subst (λ (r : Report). ReachReport mosts turns t C l₀ (reportOf r) l₁) e x
-
-  pub reach-refused : (C : Reading) {k n : ℕ} → k < No.noThread → ReachReport mosts turns t C l₀ (unreported k n) l₁
+module _ (turns : List ℕ) (t : ℕ) (program state list : List ℕ) where
+  pub reach-refused : (C : Reading) {k n : ℕ} → k < No.noThread → T.Refused k n ≡ reportOf (reachReport mosts turns t C)
       → HasReported C turns t program state list k 0 n program state list
-  reach-refused (turnedAway i j) low r =
-      record { report = kept-list (record { answers = r .answers; leaves = refl }); program-is = refl; state-is = refl }
-  reach-refused (accepted P) {k} {n} low r =
+  reach-refused (turnedAway i j) low told = record { report = told-refused (unreported i j) list told; program-is = refl; state-is = refl }
+  reach-refused (accepted P) low told =
       let S = run mosts P turns .state in
-      absurd (omega (arith, only-17 P S t l₀ l₁ k n (ltb t (length (S .threads))) r))
+      absurd (only-17 P S (ltb t (length (S .threads))) low told)
+    where
+      -- 17 alone leaves a run unreported
+      only-17 : (P : Program) (S : State) (started : Bool) {k n : ℕ} → k < No.noThread → T.Refused k n ≡ reportOf (reportOn P S t started) → ⊥
+      only-17 P S true low e = impossible cc
+      only-17 P S false {k} low e = let same : k ≡ No.noThread = cc in omega arith
 
   module _ (p₀ s₀ : List ℕ) {ps ss p s : List ℕ} (p-long : length p₀ ≡ Most.words) (s-long : length s₀ ≡ Most.words) where
-    pub reach-no-thread : (C : Reading) {k n : ℕ} → AtMost9 C → No.noThread ≤ k → ReachReport mosts turns t C l₀ (unreported k n) l₁ → ps ≡ programAfter C p₀
+    pub reach-no-thread : (C : Reading) {k n : ℕ} → AtMost9 C → No.noThread ≤ k → T.Refused k n ≡ reportOf (reachReport mosts turns t C) → ps ≡ programAfter C p₀
         → ss ≡ stateAfter mosts turns C s₀ → p ≡ bytesAfter (length ps) ps program → s ≡ bytesAfter (length ss) ss state
         → HasReported C turns t program state list k 0 n p s list
-    reach-no-thread (turnedAway i j) {k} low high r p-written s-written p-kept s-kept =
-        let same : k ≡ i = (let e = r .answers in cc) in
+    reach-no-thread (turnedAway i j) {k} low high told p-written s-written p-kept s-kept =
+        let same : k ≡ i = cc in
         absurd (omega arith)
-    reach-no-thread (accepted P) {k} {n} low high r p-written s-written p-kept s-kept =
-        let S = run mosts P turns .state in
-        record { report = kept-list {C = accepted P} (unreported-on P S t l₀ l₁ k n (ltb t (length (S .threads))) r); program-is = program-held P turns p₀ s₀ program state p-long s-long p-written s-written p-kept s-kept; state-is = state-held P turns p₀ s₀ program state p-long s-long p-written s-written p-kept s-kept }
-
-    pub reach-done : (C : Reading) {c : ℕ} {list₁ : List ℕ} → length l₀ ≡ Most.reachList → ReachReport mosts turns t C l₀ (reached c) l₁ → ps ≡ programAfter C p₀
-        → ss ≡ stateAfter mosts turns C s₀ → p ≡ bytesAfter (length ps) ps program → s ≡ bytesAfter (length ss) ss state
-        → list₁ ≡ bytesAfter (length l₁) l₁ list → HasReported C turns t program state list 0 c 0 p s list₁
-    reach-done (turnedAway i j) l-long r p-written s-written p-kept s-kept l-kept = impossible (let e = r .answers in cc)
-    reach-done (accepted P) {c} l-long r p-written s-written p-kept s-kept l-kept =
-        let S = run mosts P turns .state in
-        let listed = reported-on P S t l₀ l₁ c (ltb t (length (S .threads))) r in
+    reach-no-thread (accepted P) low high told p-written s-written p-kept s-kept =
         record {
-          report = record {
-            report = reached c;
-            words = listed .words;
-            reports = listed .reports;
-            number-is = refl;
-            count-is = refl;
-            line-is = refl;
-            leaves = stored Most.reachList (listed .words) l₀ list (listed .long) l-long (listed .written) l-kept;
-          };
+          report = told-refused (reachReport mosts turns t (accepted P)) list told;
+          program-is = program-held P turns p₀ s₀ program state p-long s-long p-written s-written p-kept s-kept;
+          state-is = state-held P turns p₀ s₀ program state p-long s-long p-written s-written p-kept s-kept;
+        }
+
+    pub reach-done : (C : Reading) {c : ℕ} (l₀ l₁ : List ℕ) {list₁ : List ℕ} → length l₀ ≡ Most.reachList → T.Reached c ≡ reportOf (reachReport mosts turns t C)
+        → l₁ ≡ listAfter (reachReport mosts turns t C) l₀ → ps ≡ programAfter C p₀ → ss ≡ stateAfter mosts turns C s₀ → p ≡ bytesAfter (length ps) ps program
+        → s ≡ bytesAfter (length ss) ss state → list₁ ≡ bytesAfter (length l₁) l₁ list → HasReported C turns t program state list 0 c 0 p s list₁
+    reach-done (turnedAway i j) l₀ l₁ l-long told l-written p-written s-written p-kept s-kept l-kept = impossible cc
+    reach-done (accepted P) l₀ l₁ {list₁} l-long told l-written p-written s-written p-kept s-kept l-kept =
+        record {
+          report = told-reached (reachReport mosts turns t (accepted P)) l₀ l₁ list list₁ l-long told l-written l-kept;
           program-is = program-held P turns p₀ s₀ program state p-long s-long p-written s-written p-kept s-kept;
           state-is = state-held P turns p₀ s₀ program state p-long s-long p-written s-written p-kept s-kept;
         }

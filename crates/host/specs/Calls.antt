@@ -2,18 +2,19 @@
 use Prim.Native.Nat.{ℕ, _*_}
 use mathlib.Core.Path.{_≡_}
 use mathlib.Core.Bool.{Bool, _||_, cond}
-use mathlib.Core.List.{List, []}
+use mathlib.Core.List.{List}
 use lib.Dec.{ltb}
 use lib.ListN.{length, take}
 use Rattle.rules.specs.Mosts as Most
 use Rattle.rules.specs.Mosts.{mosts}
 use Rattle.rules.specs.Numbers as No
+use Rattle.rules.specs.Lists.{pad}
 use Rattle.rules.specs.Script.{Program}
 use Rattle.rules.specs.Reading.{Reading, turnedAway, accepted, reading}
 use Rattle.rules.specs.Run.{run, answer}
 use Rattle.rules.specs.Stripped.{Matches}
 use Rattle.rules.specs.Tables.{stateWords}
-use Rattle.rules.specs.Calls.{longText, longTurns, Report, unreported, reached, ReachReport}
+use Rattle.rules.specs.Calls.{longText, longTurns, Report, unreported, reached, reachReport}
 use Rattle.rules.specs.Writer.{Answer, refused, wrote, WriteCall}
 use Rattle.run.specs.Answers.{Tells}
 use Rattle.host.specs.Bytes.{bytesOf, bytesAfter, wordsOf}
@@ -61,33 +62,26 @@ unfoldable pub reachBytes : (text turns program state list : List ℕ) → Readi
 reachBytes text turns program state list =
     reading mosts (longText text || longTurns turns) (shortBytes Most.words program || (shortBytes Most.words state || shortBytes Most.reachList list)) text
 
+abbrev pub reportBytes : (text turns program state : List ℕ) → (thread : ℕ) → (list : List ℕ) → Report
+reportBytes text turns program state thread list = reachReport mosts turns thread (reachBytes text turns program state list)
+
 -- the report as numbers: that of the refusal, 0 for none; its line; the count of objects, 0 where there is none
-abbrev pub numberOf : Report → ℕ
-numberOf (unreported k n) = k
-numberOf (reached c) = 0
+abbrev pub reportNumber : Report → ℕ
+reportNumber (unreported k n) = k
+reportNumber (reached objects) = 0
 
-abbrev pub lineOf : Report → ℕ
-lineOf (unreported k n) = n
-lineOf (reached c) = 0
+abbrev pub reportLine : Report → ℕ
+reportLine (unreported k n) = n
+reportLine (reached objects) = 0
 
-abbrev pub countOf : Report → ℕ
-countOf (unreported k n) = 0
-countOf (reached c) = c
+abbrev pub reportCount : Report → ℕ
+reportCount (unreported k n) = 0
+reportCount (reached objects) = length objects
 
--- "the list keeps its words"
-abbrev pub listAfter : Report → (words list : List ℕ) → List ℕ
-listAfter (unreported k n) words list = list
-listAfter (reached c) words list = bytesAfter Most.reachList words list
-
--- document 01's report with nothing past its 256 words, laid over the list; the order of the objects is free
-pub record ReportsBytes (C : Reading) (turns : List ℕ) (thread : ℕ) (list : List ℕ) (number count line : ℕ) (after : List ℕ) : Type 0 where
-  pub report : Report
-  pub words : List ℕ
-  pub reports : ReachReport mosts turns thread C [] report words
-  pub number-is : number ≡ numberOf report
-  pub count-is : count ≡ countOf report
-  pub line-is : line ≡ lineOf report
-  pub leaves : after ≡ listAfter report words list
+-- "lists .., then zeros"; "the list keeps its words"
+abbrev pub listBytes : Report → List ℕ → List ℕ
+listBytes (unreported k n) list = list
+listBytes (reached objects) list = bytesAfter Most.reachList (pad Most.reachList 0 objects) list
 
 -- ---- document 02, L2: "write a script back out"
 

@@ -12,7 +12,7 @@ ghost use Rattle.rules.specs.Calls.{runAnswer};
 ghost use Rattle.reader.specs.Answers.{numberOf, lineOf};
 ghost use Rattle.run.specs.Answers.{Tells};
 ghost use Rattle.host.specs.Bytes.{bytesAfter, wordsOf};
-ghost use Rattle.host.specs.Calls.{earlyNumber, tableAfter, readBytes, runBytes, ranWords, Demand3, reachBytes, ReportsBytes, WritesBytes};
+ghost use Rattle.host.specs.Calls.{earlyNumber, tableAfter, readBytes, runBytes, ranWords, Demand3, reachBytes, reportBytes, reportNumber, reportCount, reportLine, listBytes, WritesBytes};
 
 const TABLE: usize = 16384; // bytes of a table
 
@@ -143,7 +143,7 @@ pub extern "C" fn box_run(
     end
 }
 
-// Runs, then lists the objects that a thread reaches: 0 and their count, or the refusal's number and its line. A refusal by 1 to 9 changes
+// Runs, then lists the objects that a thread reaches, in rising order: 0 and their count, or the refusal's number and its line. A refusal by 1 to 9 changes
 // no byte of the tables and the list; 17 leaves the run in the tables and the list as it was.
 #[no_mangle]
 pub extern "C" fn box_reach(
@@ -156,7 +156,10 @@ pub extern "C" fn box_reach(
     count: &mut usize,
     line: &mut usize,
 ) -> u16
-    ensures { λ r. ⌜ ReportsBytes (reachBytes (now (text .entry)) (now (turns .entry)) (now (program .entry)) (now (state .entry)) (now (list .entry))) (now (turns .entry)) thread (now (list .entry)) r (now (count .exit)) (now (line .exit)) (now (list .exit)) ⌝ }
+    ensures { λ r. ⌜ r ≡ reportNumber (reportBytes (now (text .entry)) (now (turns .entry)) (now (program .entry)) (now (state .entry)) thread (now (list .entry))) ⌝ }
+    ensures { λ _. ⌜ now (count .exit) ≡ reportCount (reportBytes (now (text .entry)) (now (turns .entry)) (now (program .entry)) (now (state .entry)) thread (now (list .entry))) ⌝ }
+    ensures { λ _. ⌜ now (line .exit) ≡ reportLine (reportBytes (now (text .entry)) (now (turns .entry)) (now (program .entry)) (now (state .entry)) thread (now (list .entry))) ⌝ }
+    ensures { λ _. ⌜ now (list .exit) ≡ listBytes (reportBytes (now (text .entry)) (now (turns .entry)) (now (program .entry)) (now (state .entry)) thread (now (list .entry))) (now (list .entry)) ⌝ }
     ensures { λ _. ⌜ now (program .exit) ≡ tableAfter programWords (reachBytes (now (text .entry)) (now (turns .entry)) (now (program .entry)) (now (state .entry)) (now (list .entry))) (now (program .entry)) ⌝ }
     ensures { λ _. ⌜ now (state .exit) ≡ tableAfter (ranWords (now (turns .entry))) (reachBytes (now (text .entry)) (now (turns .entry)) (now (program .entry)) (now (state .entry)) (now (list .entry))) (now (state .entry)) ⌝ }
 {

@@ -1,17 +1,18 @@
--- The report: the numbers listed are those met, and what is met is what is reached. Before it: 1, 9, and what the run answers.
+-- The report: the numbers marked are what is reached, and in rising order they are the one list of it. Before it: 1, 9, and what the run answers.
 use Prim.Native.Nat.{ℕ, _%_, _≤_, _<_}
 use native.Mathlib.Nat.{mod-eq-of-lt}
 use native.Mathlib.Omega.{arith}
 use mathlib.Core.Path.{_≡_, refl, sym, ap, _∙_, subst}
-use mathlib.Core.Bool.{Bool, false, cond}
+use mathlib.Core.Bool.{Bool, true, false}
 use mathlib.Core.List.{List, [], _++_}
-use lib.Dec.{ltb}
+use mathlib.Core.Logic.{_↔_}
 use lib.ListN.{length, getD, drop, replicate, length-append}
-use borrow.Author.Tests.{lt-ltb, le-ltb, ltb-true, ltb-false}
+use borrow.Author.Tests.{lt-ltb, le-ltb}
 use Rattle.rules.specs.declared.Value.{Value}
 use Rattle.rules.specs.Mosts as Most
 use Rattle.rules.specs.Mosts.{mosts}
 use Rattle.rules.specs.Numbers as No
+use Rattle.rules.specs.Lists.{pad}
 use Rattle.rules.specs.Script.{Program}
 use Rattle.rules.specs.Reading.{Reading, turnedAway, accepted, reading}
 use Rattle.rules.specs.Valid.{Valid}
@@ -19,12 +20,12 @@ use Rattle.rules.specs.State.{Object, State}
 use Rattle.rules.specs.Fits.{Fits}
 use Rattle.rules.specs.Run.{run}
 use Rattle.rules.specs.Tables.{programWords, stateWords}
-use Rattle.rules.specs.Reach.{count, times, ReachedFrom, roots, Lists}
-use Rattle.rules.specs.Calls.{longText, longTurns, shortTable, runCall, runAnswer, reachCall, programAfter, stateAfter, unreported, reached, Reports, ReportsOn, ReachReport}
+use Rattle.rules.specs.Reach.{count, times, ReachedFrom, roots, reachList}
+use Rattle.rules.specs.Calls.{longText, longTurns, shortTable, runCall, runAnswer, reachCall, programAfter, stateAfter, reportOn, reachReport}
 use Rattle.rules.proofs.ListLaws.{by-bool}
 use Rattle.rules.proofs.Accepted.{accepted-valid, reading-accepted}
 use Rattle.rules.proofs.Keeps.{fits-run}
-use Rattle.rules.proofs.Walks.{walked-lists, roots-made, reached-range}
+use Rattle.rules.proofs.Walks.{walked-reached, rising-lists, roots-made, reached-range, reach-lists}
 use Rattle.rules.proofs.TableWords.{program-words-length, state-words-length}
 use Rattle.table.specs.State.{Held, Sees, Any}
 use Rattle.turn.proofs.Located.{words-loaded}
@@ -34,35 +35,34 @@ use Rattle.run.specs.Answers.{answerOf}
 use Rattle.run.proofs.AnswerTells.{IsAccepted, Made, made-is, refusal-is}
 use Rattle.reach.specs.declared.Report.{Report}
 use Rattle.reach.specs.declared.Report.the-variants as T
-use Rattle.reach.specs.Walking.{reportOf, Marked, WalkedAll, WalksRoots, ListsMarked, ReportsState}
-use Rattle.reach.proofs.Marks.{none-marked}
+use Rattle.reach.specs.Walking.{Reports, WalkedAll, WalksRoots, markedBelow, ReportsState}
+use Rattle.reach.proofs.Marks.{mark-met, no-mark-not-met, none-marked}
 
 -- ---- The report on a state
 
--- only how often a value or a number stands in its list matters
-lists-same : {os : List Object} {vs us : List Value} {out ns : List ℕ} → ((x : ℕ) → count x vs ≡ count x us) → ((x : ℕ) → times x out ≡ times x ns)
-    → Lists os vs out → Lists os us ns
-lists-same {os} {vs} {us} {out} {ns} same-values same-numbers l =
-    record {
-      reached = λ x. ((λ h. there x (l .reached x .0 (omega (arith, same-numbers x)))), (λ r. omega (arith, same-numbers x, l .reached x .1 (back x r))));
-      once = λ x. omega (arith, same-numbers x, l .once x);
-    }
-  where
-    there : (x : ℕ) → ReachedFrom os vs x → ReachedFrom os us x
-    there x r = record { first = r .first; held = omega (arith, same-values (r .first), r .held); reaches = r .reaches }
+-- only how often a value stands among those where it starts matters
+reached-same : {os : List Object} {vs us : List Value} → ((x : ℕ) → count x vs ≡ count x us) → (x : ℕ) → ReachedFrom os vs x → ReachedFrom os us x
+reached-same same x r = record { first = r .first; held = omega (arith, same (r .first), r .held); reaches = r .reaches }
 
-    back : (x : ℕ) → ReachedFrom os us x → ReachedFrom os vs x
-    back x r = record { first = r .first; held = omega (arith, same-values (r .first), r .held); reaches = r .reaches }
-
--- what is met lies below 256, so it is listed
-same-times : {marks : List Bool} {out : List ℕ} (ns : List ℕ) → Marked marks out → ((x : ℕ) → 1 ≤ times x out → x < 256)
-    → ((x : ℕ) → times x ns ≡ cond (ltb x 256) (cond (getD marks x false) 1 0) 0) → (x : ℕ) → times x out ≡ times x ns
-same-times {marks} {out} ns marked low listed x =
-    by-bool (ltb x 256) (λ t. marked .is x ∙ sym (listed x ∙ ap (λ b. cond b (cond (getD marks x false) 1 0) 0) t))
-    (λ t. high (ltb-false x 256 t) ∙ sym (listed x ∙ ap (λ b. cond b (cond (getD marks x false) 1 0) 0) t))
+-- what is marked in the end is what is reached, all of it below 256: in rising order it is the one list of that
+marked-list : {P : Program} {n : ℕ} {S : State} (t : ℕ) {marks : List Bool} → Fits mosts P n S → WalkedAll S (roots P S t) [] marks
+    → markedBelow 256 marks ≡ reachList (S .objects) (roots P S t)
+marked-list {P} {n} {S} t {marks} fits w =
+    reach-lists fits t .only (markedBelow 256 marks) (rising-lists 256 (λ x. getD marks x false) (λ x. (there x, back x)) low)
   where
-    high : 256 ≤ x → times x out ≡ 0
-    high h = by-bool (ltb 0 (times x out)) (λ t. absurd (omega (arith, h, low x (ltb-true 0 (times x out) t)))) (λ t. omega (arith, ltb-false 0 (times x out) t))
+    ends : (x : ℕ) → (1 ≤ times x (w .walked-to .out)) ↔ ReachedFrom (S .objects) (w .values) x
+    ends = walked-reached (S .objects) (w .walked-to .walked)
+
+    there : (x : ℕ) → getD marks x false ≡ true → ReachedFrom (S .objects) (roots P S t) x
+    there x h = reached-same (w .same) x (ends x .0 (omega (arith, mark-met x (w .walked-to .marked) h)))
+
+    back : (x : ℕ) → ReachedFrom (S .objects) (roots P S t) x → getD marks x false ≡ true
+    back x r =
+        let met = ends x .1 (reached-same (λ y. sym (w .same y)) x r) in
+        by-bool (getD marks x false) (λ h. h) (λ h. absurd (omega (arith, no-mark-not-met x (w .walked-to .marked) h)))
+
+    low : (x : ℕ) → ReachedFrom (S .objects) (roots P S t) x → x < 256
+    low x r = omega (arith, fits .few-objects, reached-range fits (roots P S t) (roots-made fits t) x r)
 
 module _ {p s list : List ℕ} {t d : ℕ} (counted : Sees s Any (λ S. length (S .threads)) d) where
   pub not-reported : d ≤ t → ReportsState p s t list (T.Refused No.noThread 0) list
@@ -70,31 +70,24 @@ module _ {p s list : List ℕ} {t d : ℕ} (counted : Sees s Any (λ S. length (
       record {
         reports = λ P n S rest loaded held valid fits.
             let few : length (S .threads) ≤ t = omega (arith, counted .sees S rest held tt) in
-            subst (λ (b : Bool). ReportsOn P S t b list (unreported No.noThread 0) list) (sym (le-ltb t (length (S .threads)) few)) (record { answers = refl; leaves = refl });
+            subst (λ (b : Bool). Reports (reportOn P S t b) list (T.Refused No.noThread 0) list) (sym (le-ltb t (length (S .threads)) few)) (record { answers = refl; leaves = refl });
       }
 
-  pub reported : {marks : List Bool} {r : ℕ} {list₁ : List ℕ} → t < d → WalksRoots p s (replicate 256 false) (t % 16) marks → ListsMarked marks list r list₁
-      → ReportsState p s t list (T.Reached r) list₁
-  reported {marks} {r} {list₁} there walks listed =
+  pub reported : {marks : List Bool} {r : ℕ} {list₁ : List ℕ} → t < d → WalksRoots p s (replicate 256 false) (t % 16) marks → r ≡ length (markedBelow 256 marks)
+      → list₁ ≡ pad Most.reachList 0 (markedBelow 256 marks) ++ drop Most.reachList list → ReportsState p s t list (T.Reached r) list₁
+  reported {marks} {r} {list₁} there walks number words =
       record {
         reports = λ P n S rest loaded held valid fits.
             let started : t < length (S .threads) = omega (arith, counted .sees S rest held tt) in
             let place : t % 16 ≡ t = mod-eq-of-lt (omega (arith, fits .few-threads)) in
             let walked : WalkedAll S (roots P S t) [] marks = rw place at (walks .walks P n S rest [] loaded held valid fits (none-marked 256)) in
-            subst (λ (b : Bool). ReportsOn P S t b list (reached r) list₁) (sym (lt-ltb t (length (S .threads)) started)) (on fits walked);
+            let is = marked-list t fits walked in
+            subst (λ (b : Bool). Reports (reportOn P S t b) list (T.Reached r) list₁) (sym (lt-ltb t (length (S .threads)) started))
+            (record {
+              answers = ap T.Reached (number ∙ ap length is);
+              leaves = words ∙ ap (λ (l : List ℕ). pad Most.reachList 0 l ++ drop Most.reachList list) is;
+            });
       }
-    where
-      on : {P : Program} {n : ℕ} {S : State} → Fits mosts P n S → WalkedAll S (roots P S t) [] marks → Reports P S t list (reached r) list₁
-      on {P} {S = S} fits w =
-          let all : Lists (S .objects) (roots P S t) (w .walked-to .out) = lists-same (w .same) (λ x. refl) (walked-lists (S .objects) (w .walked-to .walked)) in
-          let low : (x : ℕ) → 1 ≤ times x (w .walked-to .out) → x < 256 =
-          λ x h. omega (arith, fits .few-objects, reached-range fits (roots P S t) (roots-made fits t) x (all .reached x .0 h)) in
-          record {
-            objects = listed .numbers;
-            lists = lists-same (λ x. refl) (same-times (listed .numbers) (w .walked-to .marked) low (listed .marked)) all;
-            answers = ap reached (listed .count);
-            leaves = listed .words;
-          }
 
 -- ---- 1 and 9, then what the run is
 
@@ -123,7 +116,7 @@ module _ (text turns program state list : List ℕ) where
 -- ---- What the report ensures, of the reading C
 
 pub record Told (C : Reading) (turns : List ℕ) (t : ℕ) (program state list : List ℕ) (r : Report) (p s list₁ : List ℕ) : Type 0 where
-  pub report : ReachReport mosts turns t C list (reportOf r) list₁
+  pub report : Reports (reachReport mosts turns t C) list r list₁
   pub program-is : p ≡ programAfter C program
   pub state-is : s ≡ stateAfter mosts turns C state
 
@@ -178,7 +171,7 @@ module _ (text turns program state : List ℕ) {s : List ℕ} {a b : Answer} (an
       let loaded = words-loaded P valid (drop Most.words program) (program-there program-is) in
       let held : Held s (run mosts P turns .state) (drop Most.words state) = record { words = state-there } in
       record {
-        report = subst (λ (C : Reading). ReachReport mosts turns t C list (reportOf r) list₁) (sym (run-is .is))
+        report = subst (λ (C : Reading). Reports (reachReport mosts turns t C) list r list₁) (sym (run-is .is))
             (reports .reports P Most.turns (run mosts P turns .state) (drop Most.words state) loaded held valid (fits-run P turns valid few));
         program-is = program-is;
         state-is = state-is;

@@ -2,30 +2,34 @@
 use Prim.Native.Nat.{ℕ, zero, suc, _+_}
 use mathlib.Core.Path.{_≡_}
 use mathlib.Core.Bool.{Bool, false, cond}
-use mathlib.Core.List.{List, _++_}
+use mathlib.Core.List.{List}
 use lib.Dec.{eqb, ltb}
-use lib.ListN.{length, getD, drop}
+use lib.ListN.{length, getD}
 use Rattle.rules.specs.declared.Value.{Value}
 use Rattle.rules.specs.declared.Value.the-variants.{Absent}
-use Rattle.rules.specs.Mosts as Most
 use Rattle.rules.specs.Mosts.{mosts}
-use Rattle.rules.specs.Lists.{pad}
+use Rattle.rules.specs.Lists.{rising}
 use Rattle.rules.specs.Script.{Program}
 use Rattle.rules.specs.Valid.{Valid}
 use Rattle.rules.specs.State.{Object, State, threadAt, channelAt}
 use Rattle.rules.specs.Fits.{InRange, Fits}
 use Rattle.rules.specs.Reach.{count, times, slotsOf, inFlight, roots, Walked}
 use Rattle.rules.specs.Calls as Calls
-use Rattle.rules.specs.Calls.{unreported, reached, ReportsOn}
+use Rattle.rules.specs.Calls.{unreported, reached, reportOn, listAfter}
 use Rattle.table.specs.State.{Held}
 use Rattle.turn.specs.Performed.{Loaded}
 use Rattle.reach.specs.declared.Report.{Report}
 use Rattle.reach.specs.declared.Report.the-variants.{Refused, Reached}
 
--- document 01's report, as the code's enum
-abbrev pub reportOf : Report → Calls.Report
-reportOf (Refused k n) = unreported k n
-reportOf (Reached n) = reached n
+-- the report as the code's enum: "with their number"
+abbrev pub reportOf : Calls.Report → Report
+reportOf (unreported k n) = Refused k n
+reportOf (reached objects) = Reached (length objects)
+
+-- the answer is this report's, and so is the list
+pub record Reports (R : Calls.Report) (list : List ℕ) (r : Report) (list₁ : List ℕ) : Type 0 where
+  pub answers : r ≡ reportOf R
+  pub leaves : list₁ ≡ listAfter R list
 
 -- ---- Marks
 
@@ -79,14 +83,11 @@ pub record WalksRoots (p s : List ℕ) (marks : List Bool) (t : ℕ) (marks₁ :
 
 -- ---- The list
 
--- the numbers marked, in the first words of the list; then zeros
-pub record ListsMarked (marks : List Bool) (list : List ℕ) (r : ℕ) (list₁ : List ℕ) : Type 0 where
-  pub numbers : List ℕ
-  pub marked : (x : ℕ) → times x numbers ≡ cond (ltb x Most.reachList) (cond (getD marks x false) 1 0) 0
-  pub count : r ≡ length numbers
-  pub words : list₁ ≡ pad Most.reachList 0 numbers ++ drop Most.reachList list
+-- the numbers below k that are marked, in rising order
+abbrev pub markedBelow : ℕ → List Bool → List ℕ
+markedBelow k marks = rising k (λ x. getD marks x false)
 
 -- the report on the program and the state that a run left
 pub record ReportsState (p s : List ℕ) (t : ℕ) (list : List ℕ) (r : Report) (list₁ : List ℕ) : Type 0 where
   pub reports : (P : Program) (n : ℕ) (S : State) (rest : List ℕ) → Loaded p P → Held s S rest → Valid mosts P → Fits mosts P n S
-      → ReportsOn P S t (ltb t (length (S .threads))) list (reportOf r) list₁
+      → Reports (reportOn P S t (ltb t (length (S .threads)))) list r list₁

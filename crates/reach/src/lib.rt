@@ -1,4 +1,4 @@
-// The reach report: a run, and then every object that a thread reaches.
+// The reach report: a run, and then every object that a thread reaches, in rising order.
 mod sending;
 mod walking;
 
@@ -7,7 +7,7 @@ use walking::list_marked;
 use walking::walk_roots;
 ghost use mathlib.Core.Path.{_≡_};
 ghost use Rattle.rules.specs.Mosts.{mosts};
-ghost use Rattle.rules.specs.Calls.{reachCall, ReachReport, programAfter, stateAfter};
+ghost use Rattle.rules.specs.Calls.{reachCall, reachReport, listAfter, programAfter, stateAfter};
 ghost use Prim.Native.Nat.{_≤_};
 ghost use lib.ListN.{length};
 ghost use Rattle.reach.specs.Walking.{reportOf, ReportsState};
@@ -18,7 +18,7 @@ pub enum Report {
     Reached(usize),
 }
 
-// Runs the turns, then lists the objects that thread t reaches. A refusal by 1 to 9 changes no word; 17 leaves the list as it was.
+// Runs the turns, then lists the objects that thread t reaches, in rising order. A refusal by 1 to 9 changes no word; 17 leaves the list as it was.
 pub fn reach(
     text: &[u8],
     turns: &[u8],
@@ -27,7 +27,8 @@ pub fn reach(
     t: usize,
     list: &mut [u16],
 ) -> Report
-    ensures { λ r. ⌜ ReachReport mosts (now (turns .entry)) t (reachCall mosts (now (text .entry)) (now (turns .entry)) (now (program .entry)) (now (state .entry)) (now (list .entry))) (now (list .entry)) (reportOf r) (now (list .exit)) ⌝ }
+    ensures { λ r. ⌜ r ≡ reportOf (reachReport mosts (now (turns .entry)) t (reachCall mosts (now (text .entry)) (now (turns .entry)) (now (program .entry)) (now (state .entry)) (now (list .entry)))) ⌝ }
+    ensures { λ _. ⌜ now (list .exit) ≡ listAfter (reachReport mosts (now (turns .entry)) t (reachCall mosts (now (text .entry)) (now (turns .entry)) (now (program .entry)) (now (state .entry)) (now (list .entry)))) (now (list .entry)) ⌝ }
     ensures { λ _. ⌜ now (program .exit) ≡ programAfter (reachCall mosts (now (text .entry)) (now (turns .entry)) (now (program .entry)) (now (state .entry)) (now (list .entry))) (now (program .entry)) ⌝ }
     ensures { λ _. ⌜ now (state .exit) ≡ stateAfter mosts (now (turns .entry)) (reachCall mosts (now (text .entry)) (now (turns .entry)) (now (program .entry)) (now (state .entry)) (now (list .entry))) (now (state .entry)) ⌝ }
 {

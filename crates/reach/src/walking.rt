@@ -7,7 +7,7 @@ ghost use Prim.Native.Nat.{_+_, _≤_, _<_};
 ghost use lib.ListN.{length, drop, set};
 ghost use Rattle.rules.specs.Lists.{pad};
 ghost use Rattle.table.specs.State.{InTable, Any, frameAt};
-ghost use Rattle.reach.specs.Walking.{unmarked, Walks, Of, WalksThread, WalksRoots, ListsMarked};
+ghost use Rattle.reach.specs.Walking.{unmarked, Walks, Of, WalksThread, WalksRoots, markedBelow};
 
 // Walks a value: an object that is not marked yet is marked, and its fields are walked. The objects not yet marked fall.
 fn walk(s: &[u16], marks: &mut [bool], v: Value)
@@ -94,10 +94,11 @@ fn put_if(list: &mut [u16], n: usize, number: u16, marked: bool) -> usize
     n
 }
 
-// Lists the numbers that are marked, then zeros; answers how many there are.
+// Lists the numbers that are marked, in rising order, then zeros; answers how many there are.
 pub fn list_marked(marks: &[bool], list: &mut [u16]) -> usize
     requires { ⌜ (256 ≤ length (now marks)) × (256 ≤ length (now list)) ⌝ }
-    ensures { λ r. ⌜ ListsMarked (now (marks .entry)) (now (list .entry)) r (now (list .exit)) ⌝ }
+    ensures { λ r. ⌜ r ≡ length (markedBelow 256 (now (marks .entry))) ⌝ }
+    ensures { λ _. ⌜ now (list .exit) ≡ pad 256 0 (markedBelow 256 (now (marks .entry))) ++ drop 256 (now (list .entry)) ⌝ }
 {
     clear(list);
     let mut n: usize = 0;

@@ -10,12 +10,12 @@ use Rattle.rules.specs.Run.{Answer, blockOf, lineNow, after, advance, ru
 use Rattle.rules.specs.Stripped.{strip, stripExpr, stripBlock}
 use Rattle.rules.specs.Calls.{runAnswer}
 use Rattle.rules.specs.Input.{ranOn, printed}
-use Rattle.rules.specs.Lists.{any, all}
+use Rattle.rules.specs.Lists.{any, all, rising}
 use Rattle.rules.specs.Script.{kindsOf, letsOf, resultOf, blocksOf, programOf, kindAt, blockAt, lineOf, lineAt}
 use Rattle.rules.specs.Templates.{_>>=_ as _⟫=_, orElse, literal, placeOf, digitsAt, isNumber, decimalValue, number, decimal, operandBy, operand as operand′, capBy, capability, many, printMany, fit, firstFit, decode}
 use Rattle.rules.specs.State.{objectAt, threadAt, channelAt, slotAt, start}
 use Rattle.rules.specs.Turn.{_>>=_, _>>_, check, waitUnless, permit, isImm, isIso, isLocal, sameCap, mayHold, isForeign, isAbsent, isIsoObject, present, asObject, asChannel, operand, operands, allObjects, object, putThread, putObjects, putChannel, filled, withSlots, gives, valueLine, fieldLine, areApart, permitSwap, setField, swapLine, callLine, newLine, castLine, started, spawnLine, putLine, sentLine, sendLine, recvLine, returned, giveLine, letLine, perform, turnOf, turn}
-use Rattle.rules.specs.Reach.{slotsOf, messageOf, messageOn, sendTarget, putBy, inFlight, roots, walk, visit, visits, reachList}
+use Rattle.rules.specs.Reach.{slotsOf, messageOf, messageOn, sendTarget, putBy, inFlight, roots, walk, visit, visits, metFrom, reachList}
 use Rattle.rules.specs.Listing.{bracket, aLine, endWord, answerLine, valueText, objectLine, messageText, channelLine, senderText, threadParts, threadLine, numbered, stateLines, listing}
 
 -- ---- One name that unfolds all definitions of a part
@@ -37,7 +37,7 @@ prints-runs = tt
 
 -- opens what lists the objects that a thread reaches
 unfoldable pub reaches-objects : Unit {0}
-unfolding slotsOf messageOf messageOn sendTarget putBy inFlight roots walk visit visits reachList
+unfolding slotsOf messageOf messageOn sendTarget putBy inFlight roots walk visit visits metFrom rising reachList
 reaches-objects = tt
 
 -- ---- Cases

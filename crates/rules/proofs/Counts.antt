@@ -5,8 +5,7 @@ use mathlib.Core.Path.{_≡_, refl, sym, _∙_}
 use mathlib.Core.Bool.{Bool, true, false, cond, true≢false}
 use mathlib.Core.List.{List, [], _∷_, _++_}
 use mathlib.Core.Logic.{_⊎_, inl, inr}
-use lib.Dec.{T, ltb, ltb→lt, nltb→le, eqb, eqb→eq, eqb-refl, eqb·zero-suc, eqb·suc-zero, eqb·suc-suc}
-use lib.ListN.{length}
+use lib.Dec.{T, eqb, eqb→eq, eqb-refl, eqb·zero-suc, eqb·suc-zero, eqb·suc-suc}
 use Rattle.rules.specs.declared.Value.{Value}
 use Rattle.rules.specs.declared.Value.the-variants.{Absent, Obj, Chan}
 use Rattle.rules.specs.Lists.{among, Every}
@@ -91,39 +90,5 @@ times-not-among n (x ∷ xs) h =
     by-bool (eqb x n) (λ e. absurd (true≢false (rw (eqb-sym n x, e) at h)))
     (λ e. rw e (omega (arith, times-not-among n xs (rw (eqb-sym n x, e) at h))))
 
--- ---- numbers countBelow n, none twice, are at most n
-
--- how many entries are countBelow n
-countBelow : ℕ → List ℕ → ℕ
-countBelow zero xs = 0
-countBelow (suc n) xs = times n xs + countBelow n xs
-
-below-once : (n : ℕ) (xs : List ℕ) → ((x : ℕ) → times x xs ≤ 1) → countBelow n xs ≤ n
-unfolding countBelow
-below-once zero xs h = omega arith
-below-once (suc n) xs h = omega (arith, h n, below-once n xs h)
-
-below-more : (n x : ℕ) (xs : List ℕ) → countBelow n xs ≤ countBelow n (x ∷ xs)
-unfolding countBelow times
-below-more zero x xs = omega arith
-below-more (suc n) x xs = omega (arith, below-more n x xs)
-
-below-one-more : (n x : ℕ) (xs : List ℕ) → x < n → countBelow n xs < countBelow n (x ∷ xs)
-unfolding countBelow times
-below-one-more zero x xs h = absurd (omega arith)
-below-one-more (suc n) x xs h = by-bool (ltb x n) (λ e. omega (arith, below-one-more n x xs (ltb→lt x n (rw e tt)))) (λ e. last (nltb→le x n (rw e tt)))
-  where
-    last : n ≤ x → countBelow (suc n) xs < countBelow (suc n) (x ∷ xs)
-    last k =
-        let e : x ≡ n = omega arith in
-        let self : countOne n (Obj x) ≡ 1 = rw e (object-self n) in
-        omega (arith, below-more n x xs)
-
-below-all : (n : ℕ) (xs : List ℕ) → ((x : ℕ) → 1 ≤ times x xs → x < n) → length xs ≤ countBelow n xs
-unfolding times
-below-all n [] h = omega arith
-below-all n (x ∷ xs) h =
-    omega (arith, below-one-more n x xs (h x (omega (arith, object-self x))), below-all n xs (λ y k. h y (omega arith)))
-
-pub few-entries : (n : ℕ) (xs : List ℕ) → ((x : ℕ) → 1 ≤ times x xs → x < n) → ((x : ℕ) → times x xs ≤ 1) → length xs ≤ n
-few-entries n xs h once = omega (arith, below-all n xs h, below-once n xs once)
+pub among-times : (n : ℕ) (xs : List ℕ) → 1 ≤ times n xs → among n xs ≡ true
+among-times n xs h = by-bool (among n xs) (λ e. e) (λ e. absurd (omega (arith, times-not-among n xs e)))

@@ -18,8 +18,9 @@ mod Runs
 -- one turn of the stripped script follows the guarded one; demand 3
 pub mod Simulation
 pub mod Demand3
--- reach as a relation and its walk; the words of both tables
+-- reach as a relation, its walk and its list; the words of both tables
 pub mod Counts
+pub mod Rising
 pub mod Walks
 -- a message is its sender's until it is received
 pub mod InFlight

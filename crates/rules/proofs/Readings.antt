@@ -70,7 +70,7 @@ every-case : AllHold cases
 unfolding cases computed
 every-case = refl
 
--- ---- Reach reports (document 02, L1)
+-- ---- Reach reports (document 02, L1 and L4)
 
 -- what a thread reaches after these turns
 record Reach : Type 0 where
@@ -91,14 +91,14 @@ echo =
 reports : List Reach
 reports =
     -- the message in the channel, and what it reaches, is its sender's; it is not yet the receiver's
-    record { text = echo; turns = 0 ∷ 0 ∷ 0 ∷ 0 ∷ []; thread = 0; reached = 1 ∷ 0 ∷ [] }
+    record { text = echo; turns = 0 ∷ 0 ∷ 0 ∷ 0 ∷ []; thread = 0; reached = 0 ∷ 1 ∷ [] }
     ∷ record { text = echo; turns = 0 ∷ 0 ∷ 0 ∷ 0 ∷ 0 ∷ []; thread = 1; reached = [] }
     -- received: the sender, which still waits, no longer reaches it
     ∷ record { text = echo; turns = 0 ∷ 0 ∷ 0 ∷ 0 ∷ 1 ∷ []; thread = 0; reached = [] }
-    ∷ record { text = echo; turns = 0 ∷ 0 ∷ 0 ∷ 0 ∷ 1 ∷ []; thread = 1; reached = 1 ∷ 0 ∷ [] }
+    ∷ record { text = echo; turns = 0 ∷ 0 ∷ 0 ∷ 0 ∷ 1 ∷ []; thread = 1; reached = 0 ∷ 1 ∷ [] }
     -- the very same object is in the channel again, under another number: it is the other sender's
     ∷ record { text = echo; turns = 0 ∷ 0 ∷ 0 ∷ 0 ∷ 1 ∷ 1 ∷ []; thread = 0; reached = [] }
-    ∷ record { text = echo; turns = 0 ∷ 0 ∷ 0 ∷ 0 ∷ 1 ∷ 1 ∷ []; thread = 1; reached = 1 ∷ 0 ∷ [] }
+    ∷ record { text = echo; turns = 0 ∷ 0 ∷ 0 ∷ 0 ∷ 1 ∷ 1 ∷ []; thread = 1; reached = 0 ∷ 1 ∷ [] }
     ∷ []
 
 every-report : map (λ (c : Reach). reachedIn (c .turns) (c .thread) (script mosts (bytes (c .text)))) reports ≡ map (λ (c : Reach). c .reached) reports

@@ -16,12 +16,14 @@ use Rattle.rules.specs.Tables.{programWords, stateWords}
 use Rattle.rules.specs.Stripped.{Matches}
 use Rattle.rules.specs.Valid.{Valid}
 use Rattle.rules.specs.Fits.{Fits}
+use Rattle.rules.specs.Reach.{roots, OneList, reachList}
 use Rattle.rules.specs.InFlight.{SendersKeep}
 use Rattle.rules.specs.Writer.{ComesBack}
 use Rattle.rules.proofs.Printing.{scan-prints}
 use Rattle.rules.proofs.Accepted.{accepted-valid, accepted-lines}
 use Rattle.rules.proofs.Keeps.{keeps-run, moves-few, fits-run}
 use Rattle.rules.proofs.Demand3.{stripped-matches}
+use Rattle.rules.proofs.Walks.{reach-few, reach-lists}
 use Rattle.rules.proofs.InFlight.{senders-keep}
 use Rattle.rules.proofs.TableWords.{In16Bits, program-words-small, state-words-small}
 use Rattle.rules.proofs.Writer.{comes-back}
@@ -57,6 +59,13 @@ module _ (text : List ℕ) (P : Program) (is-accepted : script mosts text ≡ ac
     -- Document 02, L1: "a parcel is the sender's until it is taken", and so is what it reaches in the reports.
     pub messages-are-their-senders : SendersKeep mosts P ts
     messages-are-their-senders = senders-keep mosts P ts valid (omega arith)
+
+    -- Document 02, L4: what a report lists is every object reached, "in rising order", and no other list is; it fits in the words lent.
+    pub reports-rise : (t : ℕ) → let S = run mosts P ts .state in OneList (S .objects) (roots P S t) (reachList (S .objects) (roots P S t))
+    reports-rise t = reach-lists state-fits t
+
+    pub reports-fit : (t : ℕ) → let S = run mosts P ts .state in length (reachList (S .objects) (roots P S t)) ≤ Most.reachList
+    reports-fit t = let S = run mosts P ts .state in omega (arith, reach-few (S .objects) (roots P S t), state-fits .few-objects)
 
 -- Document 02, L2: "Every text that the reader accepts comes back byte for byte from its table."
 pub every-text-comes-back : ComesBack mosts

@@ -1,25 +1,27 @@
--- The walk meets exactly what is reached, each object once: what is reached is met or lies behind a value to come, and the visits suffice.
+-- The walk meets exactly what is reached: what is reached is met or lies behind a value to come, and the visits suffice. So the objects met, in
+-- rising order, are the one list of what is reached.
 use Prim.Native.Nat.{ℕ, zero, suc, _+_, _≤_, _<_, zero-le}
 use native.Mathlib.Omega.{arith}
 use mathlib.Core.Path.{_≡_, refl, ap}
 use mathlib.Core.Bool.{Bool, true, false}
 use mathlib.Core.List.{List, [], _∷_, _++_, map}
-use mathlib.Core.Logic.{_⊎_, inl, inr}
-use lib.Dec.{eqb, eqb→eq}
-use lib.ListN.{length, length-append}
+use mathlib.Core.Logic.{_⊎_, inl, inr, _↔_}
+use lib.Dec.{eqb}
+use lib.ListN.{length, length-append, length-map}
 use Rattle.rules.specs.declared.Value.{Value}
 use Rattle.rules.specs.declared.Value.the-variants.{Absent, Obj, Chan}
 use Rattle.rules.specs.declared.Mosts.{Mosts}
-use Rattle.rules.specs.Lists.{among, Every}
+use Rattle.rules.specs.Lists.{among, rising, Every}
 use Rattle.rules.specs.Script.{Program, value, field, swap, call, new, cast, spawn, send, recv, Line, bind, give, lineAt}
 use Rattle.rules.specs.State.{Object, noObject, Frame, Sender, ready, waiting, State, objectAt, threadAt, channelAt}
 use Rattle.rules.specs.Stripped.{stripExpr, strip, eraseObject, erase}
 use Rattle.rules.specs.Fits.{InRange, ObjectFits, Fits}
-use Rattle.rules.specs.Reach.{countOne, count, times, Reaches, here, more, ReachedFrom, slotsOf, messageOf, messageOn, sendTarget, putBy, inFlight, roots, Lists, Walked, done, skip, meet, walk, visit, visits, reachList}
+use Rattle.rules.specs.Reach.{countOne, count, times, Reaches, here, more, ReachedFrom, slotsOf, messageOf, messageOn, sendTarget, putBy, inFlight, roots, Lists, OneList, Walked, done, skip, meet, walk, visit, visits, metFrom, reachList}
 use Rattle.rules.proofs.ListLaws.{by-bool, every-map, every-get, every-append, every-snoc}
 use Rattle.rules.proofs.Keeps.{object-in-range, each-frame, thread-fits, channel-fits}
 use Rattle.rules.proofs.Simulation.{object-erased, stripLine, lineAt-stripped}
-use Rattle.rules.proofs.Counts.{sum-cases, object-self, object-equal, object-met, count-append, times-snoc, count-range, times-among, times-not-among, few-entries}
+use Rattle.rules.proofs.Counts.{sum-cases, object-self, object-equal, object-met, count-append, times-snoc, count-range, times-among, times-not-among, among-times}
+use Rattle.rules.proofs.Rising.{rising-has, rising-holds, length-rising, rising-rises, rising-one}
 
 reaches-trans : (os : List Object) (a b x : ℕ) → Reaches os a b → Reaches os b x → Reaches os a x
 reaches-trans os a b x p (here e) = rw (← e) p
@@ -73,22 +75,10 @@ module _ (os : List Object) where
       go y (inl a) = q y a
       go y (inr a) = pass n y (q n (omega (arith, object-self n))) a
 
-  met-once : {met out : List ℕ} {vs : List Value} → Walked os met vs out → ((x : ℕ) → times x met ≤ 1) → (x : ℕ) → times x out ≤ 1
-  met-once done o = o
-  met-once (skip k w) o = met-once w o
-  met-once (meet {met = met} {n = n} k w) o =
-      met-once w
-      (λ x.
-      rw (times-snoc x met n)
-      (by-bool (eqb n x) (λ e. rw (e, ← eqb→eq n x (rw e tt), k) (omega arith)) (λ e. rw e (omega (arith, o x)))))
-
-  pub walked-lists : {vs : List Value} {out : List ℕ} → Walked os [] vs out → Lists os vs out
+  pub walked-reached : {vs : List Value} {out : List ℕ} → Walked os [] vs out → (x : ℕ) → (1 ≤ times x out) ↔ ReachedFrom os vs x
   unfolding times
-  walked-lists {vs} {out} w =
-      record {
-        reached = λ x. (met-only (ReachedFrom os vs) on w (λ y l. record { first = y; held = omega arith; reaches = here refl }) x, λ r. through (r .first) x (r .held) (r .reaches));
-        once = met-once w (λ x. omega arith);
-      }
+  walked-reached {vs} {out} w x =
+      (met-only (ReachedFrom os vs) on w (λ y l. record { first = y; held = omega arith; reaches = here refl }) x, λ r. through (r .first) x (r .held) (r .reaches))
     where
       on : (y x : ℕ) → ReachedFrom os vs y → 1 ≤ count x (objectAt os y .fields) → ReachedFrom os vs x
       on y x r h = record { first = r .first; held = r .held; reaches = more (r .reaches) h }
@@ -161,10 +151,28 @@ module _ (os : List Object) where
         (walk-walked k (met ++ (n ∷ [])) (objectAt os n .fields ++ vs)
         (omega (arith, unmet-meet met n 0 n os (times-not-among n met e) (omega arith), length-append (objectAt os n .fields) vs)))
 
--- the walk lists what is reached
-pub reach-lists : (os : List Object) (vs : List Value) → Lists os vs (reachList os vs)
+met-reached : (os : List Object) (vs : List Value) (x : ℕ) → (1 ≤ times x (metFrom os vs)) ↔ ReachedFrom os vs x
+unfolding metFrom
+met-reached os vs = walked-reached os (walk-walked os (visits os (length vs)) [] vs (omega (arith, visits-are os 0 (length vs))))
+
+-- ---- the one list of what is reached
+
+lists-one : {os : List Object} {vs : List Value} {xs ys : List ℕ} → Lists os vs xs → Lists os vs ys → xs ≡ ys
+lists-one {xs} {ys} a b =
+    rising-one 0 xs ys (a .rises) (b .rises) (λ x. ((λ h. b .reached x .1 (a .reached x .0 h)), (λ h. a .reached x .1 (b .reached x .0 h))))
+
+-- the numbers below n of which f holds, if f holds of what is reached and all of that is below n
+pub rising-lists : {os : List Object} {vs : List Value} (n : ℕ) (f : ℕ → Bool) → ((x : ℕ) → (f x ≡ true) ↔ ReachedFrom os vs x)
+    → ((x : ℕ) → ReachedFrom os vs x → x < n) → Lists os vs (rising n f)
+rising-lists n f is low =
+    record {
+      reached = λ x. ((λ h. is x .0 (rising-holds f n x h .1)), (λ r. rising-has f n x (low x r) (is x .1 r)));
+      rises = rising-rises n f;
+    }
+
+pub reach-few : (os : List Object) (vs : List Value) → length (reachList os vs) ≤ length os
 unfolding reachList
-reach-lists os vs = walked-lists os (walk-walked os (visits os (length vs)) [] vs (omega (arith, visits-are os 0 (length vs))))
+reach-few os vs = length-rising (λ x. among x (metFrom os vs)) (length os)
 
 -- ---- only made objects are reached
 
@@ -214,9 +222,13 @@ module _ {m : Mosts} {P : Program} {n : ℕ} {S : State} (fits : Fits m P n S) w
       through y (here e) = rw (← e) (count-range _ (length (S .threads)) (r .first) vs h (r .held))
       through y (more {y = z} p k) = count-range _ (length (S .threads)) y (objectAt (S .objects) z .fields) (fields-made z) k
 
-  -- whatever the order
-  pub lists-few : (t : ℕ) (out : List ℕ) → Lists (S .objects) (roots P S t) out → length out ≤ length (S .objects)
-  lists-few t out l = few-entries (length (S .objects)) out (λ x h. reached-range (roots P S t) (roots-made t) x (l .reached x .0 h)) (l .once)
+  pub reach-lists : (t : ℕ) → OneList (S .objects) (roots P S t) (reachList (S .objects) (roots P S t))
+  unfolding reachList
+  reach-lists t =
+      let lists = rising-lists (length (S .objects)) (λ x. among x (metFrom (S .objects) (roots P S t)))
+      (λ x. ((λ h. met-reached (S .objects) (roots P S t) x .0 (times-among x _ h)), (λ r. among-times x _ (met-reached (S .objects) (roots P S t) x .1 r))))
+      (reached-range (roots P S t) (roots-made t)) in
+      record { lists = lists; only = λ other l. lists-one l lists }
 
 -- ---- capabilities play no part
 
@@ -240,6 +252,10 @@ module _ (os : List Object) where
     visit-erased zero b met n vs = refl
     visit-erased (suc k) true met n vs = walk-erased k met vs
     visit-erased (suc k) false met n vs = rw (object-erased os n) (walk-erased k (met ++ (n ∷ [])) (objectAt os n .fields ++ vs))
+
+met-erased : (os : List Object) (vs : List Value) → metFrom (map eraseObject os) vs ≡ metFrom os vs
+unfolding metFrom
+met-erased os vs = rw (visits-erased os (length vs)) (walk-erased os _ [] vs)
 
 -- a send stays what it is
 send-stripped : (x : Line) (vs : List Value) → sendTarget (stripLine x) vs ≡ sendTarget x vs
@@ -275,4 +291,5 @@ roots-erased P S t = ap (λ v. slotsOf (threadAt S t .frames) ++ (v ∷ [])) (pu
 -- a thread reaches the same objects, in the same order, in the erased state of the stripped script
 pub reach-erased : (P : Program) (S : State) (t : ℕ) → reachList (erase S .objects) (roots (strip P) (erase S) t) ≡ reachList (S .objects) (roots P S t)
 unfolding reachList erase
-reach-erased P S t = rw (roots-erased P S t, visits-erased (S .objects) (length (roots P S t))) (walk-erased (S .objects) _ [] (roots P S t))
+reach-erased P S t =
+    rw (roots-erased P S t, length-map (S .objects) eraseObject) (ap (λ (xs : List ℕ). rising (length (S .objects)) (λ x. among x xs)) (met-erased (S .objects) (roots P S t)))

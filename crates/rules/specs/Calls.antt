@@ -1,6 +1,5 @@
 -- What the box offers, as functions of what is lent: the answer, and every lent word afterwards.
 use Prim.Native.Nat.{ℕ}
-use mathlib.Core.Path.{_≡_}
 use mathlib.Core.Bool.{Bool, true, false, _||_}
 use mathlib.Core.List.{List, _++_}
 use lib.Dec.{ltb}
@@ -13,7 +12,7 @@ use Rattle.rules.specs.Reading.{Reading, turnedAway, accepted, reading}
 use Rattle.rules.specs.Script.{Program}
 use Rattle.rules.specs.State.{State}
 use Rattle.rules.specs.Run.{run, Answer, refused, answer}
-use Rattle.rules.specs.Reach.{roots, Lists}
+use Rattle.rules.specs.Reach.{roots, reachList}
 use Rattle.rules.specs.Tables.{programWords, stateWords}
 
 -- "1 overlong: text or turns too long", "9 short table: a lent table or list under its length"
@@ -57,25 +56,18 @@ reachCall m text turns program state list =
 
 pub data Report : Type 0 where
   unreported : (number line : ℕ) → Report
-  reached : (count : ℕ) → Report
+  reached : (objects : List ℕ) → Report
 
--- on the state S of a run of P and a thread that was started: the order of `objects` is free
-pub record Reports (P : Program) (S : State) (t : ℕ) (list : List ℕ) (report : Report) (after : List ℕ) : Type 0 where
-  pub objects : List ℕ
-  pub lists : Lists (S .objects) (roots P S t) objects
-  pub answers : report ≡ reached (length objects)
-  pub leaves : after ≡ pad Most.reachList 0 objects ++ drop Most.reachList list
+-- on the state S of a run of P: "17 no thread: report on a thread never started", "17 comes last"
+abbrev pub reportOn : Program → State → ℕ → (started : Bool) → Report
+reportOn P S t true = reached (reachList (S .objects) (roots P S t))
+reportOn P S t false = unreported No.noThread 0
 
--- the list keeps its words
-pub record Unreported (number line : ℕ) (list : List ℕ) (report : Report) (after : List ℕ) : Type 0 where
-  pub answers : report ≡ unreported number line
-  pub leaves : after ≡ list
+abbrev pub reachReport : Mosts → (turns : List ℕ) → (thread : ℕ) → Reading → Report
+reachReport m turns t (turnedAway k n) = unreported k n
+reachReport m turns t (accepted P) = let S = run m P turns .state in reportOn P S t (ltb t (length (S .threads)))
 
--- "17 no thread: report on a thread never started", "17 comes last"
-abbrev pub ReportsOn : Program → State → ℕ → Bool → List ℕ → Report → List ℕ → Type 0
-ReportsOn P S t true list report after = Reports P S t list report after
-ReportsOn P S t false list report after = Unreported No.noThread 0 list report after
-
-abbrev pub ReachReport : Mosts → (turns : List ℕ) → (thread : ℕ) → Reading → List ℕ → Report → List ℕ → Type 0
-ReachReport m turns t (turnedAway k n) list report after = Unreported k n list report after
-ReachReport m turns t (accepted P) list report after = let S = run m P turns .state in ReportsOn P S t (ltb t (length (S .threads))) list report after
+-- "lists .., then zeros"; where nothing is reported "the list keeps its words"
+abbrev pub listAfter : Report → List ℕ → List ℕ
+listAfter (unreported k n) list = list
+listAfter (reached objects) list = pad Most.reachList 0 objects ++ drop Most.reachList list

@@ -1,6 +1,6 @@
 -- Small functions on lists that the definitions share.
-use Prim.Native.Nat.{ℕ}
-use mathlib.Core.Bool.{Bool, true, false, _&&_, _||_}
+use Prim.Native.Nat.{ℕ, zero, suc}
+use mathlib.Core.Bool.{Bool, true, false, _&&_, _||_, cond}
 use mathlib.Core.List.{List, [], _∷_, _++_}
 use lib.Dec.{eqb}
 use lib.ListN.{take, replicate}
@@ -16,6 +16,11 @@ any f (x ∷ xs) = f x || any f xs
 unfoldable pub all : {A : Type 0} → (A → Bool) → List A → Bool
 all f [] = true
 all f (x ∷ xs) = f x && all f xs
+
+-- the numbers below n of which f holds, in rising order
+unfoldable pub rising : ℕ → (ℕ → Bool) → List ℕ
+rising zero f = []
+rising (suc n) f = rising n f ++ cond (f n) (n ∷ []) []
 
 -- exactly n: made up by d, or cut
 unfoldable pub pad : {A : Type 0} → ℕ → A → List A → List A

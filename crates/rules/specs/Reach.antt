@@ -9,7 +9,7 @@ use lib.Dec.{eqb}
 use lib.ListN.{length}
 use Rattle.rules.specs.declared.Value.{Value}
 use Rattle.rules.specs.declared.Value.the-variants.{Absent, Obj, Chan}
-use Rattle.rules.specs.Lists.{among}
+use Rattle.rules.specs.Lists.{among, rising}
 use Rattle.rules.specs.Script.{Program, value, field, swap, call, new, cast, spawn, send, recv, Line, bind, give, lineAt}
 use Rattle.rules.specs.State.{Object, Frame, Sender, ready, waiting, Channel, State, objectAt, threadAt, channelAt, slotAt}
 
@@ -82,10 +82,20 @@ unfoldable pub times : ℕ → List ℕ → ℕ
 times n [] = 0
 times n (x ∷ xs) = cond (eqb x n) 1 0 + times n xs
 
--- "lists every object reached .., each once, in any order": the order is free
+-- each number is greater than those before it, and all are n or more
+abbrev pub RisingFrom : ℕ → List ℕ → Type 0
+RisingFrom n [] = Unit {0}
+RisingFrom n (x ∷ xs) = (n ≤ x) × RisingFrom (suc x) xs
+
+-- "lists every object reached .., each once"; by document 02's L4 "Object numbers now come in rising order"
 pub record Lists (os : List Object) (vs : List Value) (out : List ℕ) : Type 0 where
   pub reached : (x : ℕ) → (1 ≤ times x out) ↔ ReachedFrom os vs x
-  pub once : (x : ℕ) → times x out ≤ 1
+  pub rises : RisingFrom 0 out
+
+-- L4: "The order is then free no more": it is such a list, and no other list is
+pub record OneList (os : List Object) (vs : List Value) (out : List ℕ) : Type 0 where
+  pub lists : Lists os vs out
+  pub only : (other : List ℕ) → Lists os vs other → other ≡ out
 
 -- A walk that meets each object once: from the numbers met, over the values to come, to all numbers met.
 pub data Walked (os : List Object) : List ℕ → List Value → List ℕ → Type 0 where
@@ -95,7 +105,7 @@ pub data Walked (os : List Object) : List ℕ → List Value → List ℕ → Ty
   meet : {met out : List ℕ} {n : ℕ} {vs : List Value}
       → times n met ≡ 0 → Walked os (met ++ (n ∷ [])) (objectAt os n .fields ++ vs) out → Walked os met (Obj n ∷ vs) out
 
--- One such list: depth first, fields in order, each object as it is first met. `k` bounds the visits.
+-- One such walk: depth first, fields in order, each object as it is first met. `k` bounds the visits.
 unfoldable mutual
   pub walk : (k : ℕ) → List Object → (met : List ℕ) → List Value → List ℕ
   walk zero os met vs = met
@@ -114,5 +124,9 @@ unfoldable pub visits : List Object → ℕ → ℕ
 visits [] v = v + v + 1
 visits (o ∷ os) v = length (o .fields) + length (o .fields) + visits os v
 
+unfoldable pub metFrom : List Object → List Value → List ℕ
+metFrom os vs = walk (visits os (length vs)) os [] vs
+
+-- What the report lists: the objects met, in rising order.
 unfoldable pub reachList : List Object → List Value → List ℕ
-reachList os vs = walk (visits os (length vs)) os [] vs
+reachList os vs = rising (length os) (λ x. among x (metFrom os vs))

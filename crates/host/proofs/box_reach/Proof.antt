@@ -3,6 +3,7 @@
 use denote.Ref.{now}
 use Prim.Native.Nat.{ℕ}
 use native.Mathlib.Omega.{arith}
+use mathlib.Core.Path.{sym, _∙_}
 use mathlib.Core.List.{List}
 use lib.ListN.{replicate, length-replicate}
 use Rattle.rules.specs.Mosts.{mosts}
@@ -25,7 +26,7 @@ returns c =
     let state = now (a .state) in
     let list = now (a .list) in
     let x = C.reach-early turns (a .thread) program state list (reach-refused text turns program state list (c .before .early .ensures) (c .if1 .taken)) in
-    (x .report, (x .program-is, x .state-is))
+    (x .report .number-is, (x .report .count-is, (x .report .line-is, (x .report .list-is, (x .program-is, x .state-is)))))
 
 slice-aggregate-reach : tie.Need-slice-aggregate-reach
 slice-aggregate-reach c = search needs
@@ -58,9 +59,9 @@ returns-2 c =
     let same = reach-same text turns program state list (at-if1 .before .early .ensures) own own objects long long (length-replicate {A = ℕ} 256 0) (at-if1 .if1 .left) in
     let C₀ = reachCall mosts text turns own own objects in
     let reach = at-reach .reach .ensures in
-    let told = C.as-told turns (a .thread) program state list objects _ C₀ (c .before .before .report .given .1) (reach .0) in
-    let x = C.reach-of-same same (C.reach-refused turns (a .thread) program state list objects _ C₀ (c .if2 .taken) told) in
-    (x .report, (x .program-is, x .state-is))
+    let told = sym (c .before .before .report .given .1) ∙ reach .0 in
+    let x = C.reach-of-same same (C.reach-refused turns (a .thread) program state list C₀ (c .if2 .taken) told) in
+    (x .report .number-is, (x .report .count-is, (x .report .line-is, (x .report .list-is, (x .program-is, x .state-is)))))
 
 slice-aggregate-store : tie.Need-slice-aggregate-store
 slice-aggregate-store c = search needs
@@ -163,10 +164,10 @@ returns-3 c =
     let same = reach-same text turns program state list (at-if1 .before .early .ensures) own own objects long long (length-replicate {A = ℕ} 256 0) (at-if1 .if1 .left) in
     let C₀ = reachCall mosts text turns own own objects in
     let reach = at-reach .reach .ensures in
-    let told = C.as-told turns (a .thread) program state list objects _ C₀ (at-if2 .before .before .report .given .1) (reach .0) in
-    let x = C.reach-of-same same (C.reach-no-thread turns (a .thread) program state list objects _ own own long long C₀ (reach-at-most-9 text turns own own objects) (at-if2 .if2 .left) told
-    (reach .1 .0) (reach .1 .1) (at-store .store .ensures) (c .before .before .store2 .ensures)) in
-    (x .report, (x .program-is, x .state-is))
+    let told = sym (at-if2 .before .before .report .given .1) ∙ reach .0 in
+    let x = C.reach-of-same same (C.reach-no-thread turns (a .thread) program state list own own long long C₀ (reach-at-most-9 text turns own own objects) (at-if2 .if2 .left) told
+    (reach .1 .1 .0) (reach .1 .1 .1) (at-store .store .ensures) (c .before .before .store2 .ensures)) in
+    (x .report .number-is, (x .report .count-is, (x .report .line-is, (x .report .list-is, (x .program-is, x .state-is)))))
 
 same-length-3 : tie.Need-same-length-3
 same-length-3 c = search needs
@@ -196,10 +197,10 @@ returns-4 c =
     let same = reach-same text turns program state list (at-if1 .before .early .ensures) own own objects long long (length-replicate {A = ℕ} 256 0) (at-if1 .if1 .left) in
     let C₀ = reachCall mosts text turns own own objects in
     let reach = at-reach .reach .ensures in
-    let told = C.as-told turns (a .thread) program state list objects _ C₀ (at-report2 .report2 .given .1) (reach .0) in
-    let x = C.reach-of-same same (C.reach-done turns (a .thread) program state list objects _ own own long long C₀ (length-replicate {A = ℕ} 256 0) told (reach .1 .0) (reach .1 .1)
+    let told = sym (at-report2 .report2 .given .1) ∙ reach .0 in
+    let x = C.reach-of-same same (C.reach-done turns (a .thread) program state list own own long long C₀ objects _ (length-replicate {A = ℕ} 256 0) told (reach .1 .0) (reach .1 .1 .0) (reach .1 .1 .1)
     (at-store3 .store3 .ensures) (at-store4 .store4 .ensures) (c .before .before .store5 .ensures)) in
-    (x .report, (x .program-is, x .state-is))
+    (x .report .number-is, (x .report .count-is, (x .report .line-is, (x .report .list-is, (x .program-is, x .state-is)))))
 
 pub box-reach-spec : {M : Type 1} → statement M
 box-reach-spec =

@@ -10,21 +10,21 @@ returns c =
     let a = c .before .before .before .before .before .before .args in
     let x = turned-away (now (a .turns)) (a .t) (now (a .program)) (now (a .state)) (now (a .list))
     (text-long (now (a .text)) (now (a .turns)) (now (a .program)) (now (a .state)) (now (a .list)) (c .if1 .taken)) in
-    (x .report, (x .program-is, x .state-is))
+    (x .report .answers, (x .report .leaves, (x .program-is, x .state-is)))
 
 returns-2 : tie.Need-returns-2
 returns-2 c =
     let a = c .before .before .before .before .before .before .before .args in
     let x = turned-away (now (a .turns)) (a .t) (now (a .program)) (now (a .state)) (now (a .list))
     (turns-long (now (a .text)) (now (a .turns)) (now (a .program)) (now (a .state)) (now (a .list)) (c .before .if1 .left) (c .if2 .taken)) in
-    (x .report, (x .program-is, x .state-is))
+    (x .report .answers, (x .report .leaves, (x .program-is, x .state-is)))
 
 returns-3 : tie.Need-returns-3
 returns-3 c =
     let a = c .before .before .before .before .before .before .before .before .args in
     let x = turned-away (now (a .turns)) (a .t) (now (a .program)) (now (a .state)) (now (a .list))
     (list-short (now (a .text)) (now (a .turns)) (now (a .program)) (now (a .state)) (now (a .list)) (c .before .before .if1 .left) (c .before .if2 .left) (c .if3 .taken)) in
-    (x .report, (x .program-is, x .state-is))
+    (x .report .answers, (x .report .leaves, (x .program-is, x .state-is)))
 
 run-requires : tie.Need-run-requires
 run-requires c κs = search needs
@@ -94,7 +94,7 @@ returns-4 c =
     let run = at-run .run in
     let x = of-same (as-run (now (a .text)) (now (a .turns)) (now (a .program)) (now (a .state)) (now (a .list)) (at-if3 .if3 .left))
     (turned-away-by-run _ (now (a .turns)) (a .t) (now (a .program)) (now (a .state)) (now (a .list)) (run .ensures .0) (run .ensures .1 .0) (run .ensures .1 .1 .0) (c .before .answer .given .1)) in
-    (x .report, (x .program-is, x .state-is))
+    (x .report .answers, (x .report .leaves, (x .program-is, x .state-is)))
 
 same-length-3 : tie.Need-same-length-3
 same-length-3 c = search needs
@@ -115,7 +115,7 @@ returns-5 c =
     let x = of-same (as-run (now (a .text)) (now (a .turns)) (now (a .program)) (now (a .state)) (now (a .list)) (at-if3 .if3 .left))
     (told (now (a .text)) (now (a .turns)) (now (a .program)) (now (a .state)) (run .ensures .0) (run .ensures .1 .1 .0) (at-enum-told .enum-told .given .1) tt (at-if3 .before .if2 .left)
     (run .ensures .1 .0) (c .before .before .report-state .ensures)) in
-    (x .report, (x .program-is, x .state-is))
+    (x .report .answers, (x .report .leaves, (x .program-is, x .state-is)))
 
 same-length-6 : tie.Need-same-length-6
 same-length-6 c = search needs
@@ -136,7 +136,7 @@ returns-6 c =
     let x = of-same (as-run (now (a .text)) (now (a .turns)) (now (a .program)) (now (a .state)) (now (a .list)) (at-if3 .if3 .left))
     (told (now (a .text)) (now (a .turns)) (now (a .program)) (now (a .state)) (run .ensures .0) (run .ensures .1 .1 .0) (at-enum-told2 .enum-told2 .given .1) tt (at-if3 .before .if2 .left)
     (run .ensures .1 .0) (c .before .before .report-state2 .ensures)) in
-    (x .report, (x .program-is, x .state-is))
+    (x .report .answers, (x .report .leaves, (x .program-is, x .state-is)))
 
 same-length-9 : tie.Need-same-length-9
 same-length-9 c = search needs
@@ -157,7 +157,7 @@ returns-7 c =
     let x = of-same (as-run (now (a .text)) (now (a .turns)) (now (a .program)) (now (a .state)) (now (a .list)) (at-if3 .if3 .left))
     (told (now (a .text)) (now (a .turns)) (now (a .program)) (now (a .state)) (run .ensures .0) (run .ensures .1 .1 .0) (at-enum-told3 .enum-told3 .given .1) tt (at-if3 .before .if2 .left)
     (run .ensures .1 .0) (c .before .before .report-state3 .ensures)) in
-    (x .report, (x .program-is, x .state-is))
+    (x .report .answers, (x .report .leaves, (x .program-is, x .state-is)))
 
 same-length-12 : tie.Need-same-length-12
 same-length-12 c = search needs
@@ -178,7 +178,7 @@ returns-8 c =
     let x = of-same (as-run (now (a .text)) (now (a .turns)) (now (a .program)) (now (a .state)) (now (a .list)) (at-if3 .if3 .left))
     (told (now (a .text)) (now (a .turns)) (now (a .program)) (now (a .state)) (run .ensures .0) (run .ensures .1 .1 .0) (at-enum-told4 .enum-told4 .given .1) tt (at-if3 .before .if2 .left)
     (run .ensures .1 .0) (c .before .before .report-state4 .ensures)) in
-    (x .report, (x .program-is, x .state-is))
+    (x .report .answers, (x .report .leaves, (x .program-is, x .state-is)))
 
 pub reach-spec : {M : Type 1} → statement M
 reach-spec =

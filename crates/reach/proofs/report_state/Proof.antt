@@ -32,7 +32,8 @@ returns-2 : tie.Need-returns-2
 returns-2 c =
     let at-walk-roots = c .before .before .before .before .before .before in
     let at-thread-count = at-walk-roots .before .before .before in
-    reported (at-thread-count .thread-count .ensures .1) (at-walk-roots .before .before .if1 .left) (at-walk-roots .walk-roots .ensures) (c .before .before .list-marked .ensures)
+    reported (at-thread-count .thread-count .ensures .1) (at-walk-roots .before .before .if1 .left) (at-walk-roots .walk-roots .ensures) (c .before .before .list-marked .ensures .0)
+    (c .before .before .list-marked .ensures .1)
 
 pub report-state-spec : {M : Type 1} → statement M
 report-state-spec =
