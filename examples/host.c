@@ -79,7 +79,7 @@ static uint16_t reach(size_t thread, size_t *count)
     return box_reach(text, text_len, turns, turns_len, program, sizeof program, state, sizeof state, thread, list, sizeof list, count, &line);
 }
 
-/* A report for each thread that was started; the first that was not answers 17. */
+/* A report for each thread that was started, its objects by rising number; the first that was not started answers 17. */
 static void reports(void)
 {
     size_t count;

@@ -114,7 +114,7 @@ uint16_t box_run(const uint8_t *text, size_t text_len,
  *
  *   text, turns, program, state   as for box_run
  *   thread    the number of the thread to report on
- *   list      gets the numbers of the objects, a word each, each object once, in any order; then zeros. At least BOX_LIST_BYTES
+ *   list      gets the numbers of the objects, a word each, in rising order; then zeros. At least BOX_LIST_BYTES
  *   count     gets how many objects there are
  *   line      gets the refusal's line, as box_read says it; for BOX_NO_THREAD 0
  *

@@ -350,37 +350,52 @@ static void short_lists(void)
 #define ANSWERING KIND "(thread)\n(let (spawn 1))\n(let (new iso 0))\n(let (send 1 (take 2)))\n(give (read 1))\n" \
     "(thread)\n(let (recv 0))\n(let (send 0 (take 1)))\n(give (read 0))\n"
 
-/* One report: how many objects, each once, and which, a bit for each; then zeros. */
-static void reaches(const char *name, struct lent lent, size_t thread, size_t objects, unsigned which)
+/* One report: how many objects, and which, in their order; then zeros. */
+static void reaches(const char *name, struct lent lent, size_t thread, size_t objects, const unsigned *which)
 {
     size_t count, line;
     uint16_t number = reach(lent, thread, &count, &line);
-    unsigned listed = 0;
-    for (size_t n = 0; n < objects; n++)
-        listed |= 1u << word(lent.list, n);
-    check(number == 0 && line == 0 && count == objects && listed == which && zeros(lent.list, objects, 256),
-          "%s: %u, %zu objects, bits %x", name, number, count, listed);
+    check(number == 0 && line == 0 && count == objects && words_are(lent.list, 0, objects, which) && zeros(lent.list, objects, 256),
+          "%s: %u, %zu objects, the first %u", name, number, count, word(lent.list, 0));
 }
+
+#define OBJECTS(...) sizeof (unsigned[]){__VA_ARGS__} / sizeof (unsigned), (const unsigned[]){__VA_ARGS__}
+#define NOTHING 0, NULL
 
 /* A message is its sender's until it is received. Word 2,057 is 1 + the number of the message that thread 0 waits for. */
 static void messages(void)
 {
     struct lent lent = lend_run(REACHING, "\0\0\0\0\0", 5);
-    reaches("a message in flight is its sender's", lent, 0, 3, 1 << 0 | 1 << 1 | 1 << 2);
-    reaches("a message in flight is not its receiver's", lent, 1, 0, 0);
+    reaches("a message in flight is its sender's", lent, 0, OBJECTS(0, 1, 2));
+    reaches("a message in flight is not its receiver's", lent, 1, NOTHING);
     give_all_back(lent);
 
     lent = lend_run(REACHING, "\0\0\0\0\0\1", 6);
-    reaches("a message received is not its sender's", lent, 0, 2, 1 << 0 | 1 << 1);
+    reaches("a message received is not its sender's", lent, 0, OBJECTS(0, 1));
     check(word(lent.state, 2057) == 2, "the sender has not moved on");
-    reaches("a message received is its receiver's", lent, 1, 1, 1 << 2);
+    reaches("a message received is its receiver's", lent, 1, OBJECTS(2));
     give_all_back(lent);
 
     lent = lend_run(ANSWERING, "\0\0\0\1\1", 5);
-    reaches("an answer is not the first sender's", lent, 0, 0, 0);
+    reaches("an answer is not the first sender's", lent, 0, NOTHING);
     check(word(lent.state, 2057) == 2, "the first sender has not moved on");
     check(word(lent.state, 6954) == 1 && word(lent.state, 6955) == 2, "the answer is the same object under the next number");
-    reaches("an answer is its sender's", lent, 1, 1, 1 << 0);
+    reaches("an answer is its sender's", lent, 1, OBJECTS(0));
+    give_all_back(lent);
+}
+
+/* Slot 2 holds object 1, which holds object 0; object 5 holds objects 4, 2 and 3, and object 6 holds object 5: numbers rise all the same. */
+#define HOLDING KIND "(kind (fields 1) (does))\n(kind (fields 3) (does))\n(thread)\n(let (new imm 0))\n(let (new imm 1 (take 1)))\n" \
+    "(let (new imm 0))\n(let (new imm 0))\n(let (new imm 0))\n(let (new imm 2 (take 5) (take 3) (take 4)))\n(let (new imm 1 (take 6)))\n(give (read 2))\n"
+
+static void rising(void)
+{
+    struct lent lent = lend_run(HOLDING, "\0\0\0\0\0\0\0", 7);
+    reaches("an object that holds lesser ones", lent, 0, OBJECTS(0, 1, 2, 3, 4, 5, 6));
+    give_all_back(lent);
+
+    lent = lend_run(HOLDING, "\0\0", 2);
+    reaches("an object that holds the one before it", lent, 0, OBJECTS(0, 1));
     give_all_back(lent);
 }
 
@@ -389,10 +404,10 @@ static void reports(void)
     struct lent lent = lend_all(REACHING, strlen(REACHING), "\0\0\0\0\0\1\0\0\0", 9, TABLE, TABLE, LIST + 3);
     size_t count, line;
     uint16_t number;
-    reaches("thread 0 reaches 0 and 1, and 3 in flight", lent, 0, 3, 1 << 0 | 1 << 1 | 1 << 3);
+    reaches("thread 0 reaches 0 and 1, and 3 in flight", lent, 0, OBJECTS(0, 1, 3));
     check(kept(lent.list, LIST), "bytes past the list stay");
     check(word(lent.program, 0) == 2 && word(lent.state, 0) == 4 && word(lent.state, 1) == 2, "a report leaves the run's tables");
-    reaches("thread 1 reaches 2", lent, 1, 1, 1 << 2);
+    reaches("thread 1 reaches 2", lent, 1, OBJECTS(2));
     give_all_back(lent);
 
     static const size_t never[] = {2, 15, 16, 255, 256, 65536, SIZE_MAX};
@@ -613,6 +628,7 @@ int main(void)
     refusals();
     short_lists();
     messages();
+    rising();
     reports();
     writing();
     not_scripts();

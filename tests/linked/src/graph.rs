@@ -58,6 +58,29 @@ impl Graph<'_> {
         reach(&state, thread).map_or(false, |inner| inner.len() < self.objects.len())
     }
 
+    /// A walk of the slots, and of fields as they are met, meets an object after one of a greater number.
+    pub fn is_met_out_of_order(&self, thread: usize) -> bool {
+        let mut met = Vec::new();
+        for frame in &self.state.threads[thread].frames {
+            frame
+                .slots
+                .iter()
+                .for_each(|value| self.meet(*value, &mut met));
+        }
+        met.windows(2).any(|pair| pair[0] > pair[1])
+    }
+
+    fn meet(&self, value: Value, met: &mut Vec<u16>) {
+        match value {
+            Value::Obj(number) if !met.contains(&number) => {
+                met.push(number);
+                self.held(number)
+                    .for_each(|other| self.meet(Value::Obj(other), met));
+            }
+            _ => (),
+        }
+    }
+
     /// Without the message that the thread put, and that its channel still holds, there are fewer.
     pub fn needs_message(&self, thread: usize) -> bool {
         let mut state = self.state.clone();

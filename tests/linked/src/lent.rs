@@ -70,15 +70,6 @@ impl Part {
         self.length / 2
     }
 
-    /// The first words, low byte first.
-    pub fn front(&self, count: usize) -> Vec<u16> {
-        let bytes = &self.bytes()[..2 * count];
-        bytes
-            .chunks(2)
-            .map(|pair| u16::from(pair[0]) + 256 * u16::from(pair[1]))
-            .collect()
-    }
-
     /// The same with other words at its front, as far as it goes; every other byte as it was.
     pub fn with(&self, words: &[u16]) -> Part {
         let bytes: Vec<u8> = words.iter().flat_map(|word| word.to_le_bytes()).collect();

@@ -1,4 +1,4 @@
-//! Reach reports on every thread of a run: the count, the objects as a set, each once, then zeros; the tables as the run leaves them.
+//! Reach reports on every thread of a run: the count, the objects by rising number, then zeros; the tables as the run leaves them.
 
 use second::machine::End;
 use second::numbers::*;
@@ -24,6 +24,7 @@ pub struct Counts {
     pub rings: u64,
     pub shared: u64,
     pub outer: u64,
+    pub out_of_order: u64,
     pub in_flight: u64,
     pub messages: u64,
     pub answers: u64,
@@ -63,6 +64,7 @@ impl Counts {
             ("objects in a ring", self.rings),
             ("an object held twice", self.shared),
             ("by an outer frame alone", self.outer),
+            ("met in another order", self.out_of_order),
             ("by a message in flight alone", self.in_flight),
             ("another's message left out", self.messages),
             ("an answer left out", self.answers),
@@ -86,6 +88,7 @@ impl Counts {
         self.rings += u64::from(graph.has_ring());
         self.shared += u64::from(graph.shares());
         self.outer += u64::from(graph.needs_outer_frames(thread));
+        self.out_of_order += u64::from(graph.is_met_out_of_order(thread));
         self.in_flight += u64::from(graph.needs_message(thread));
         self.messages += u64::from(graph.leaves_message(thread));
         self.answers += u64::from(graph.leaves_answer(thread));
@@ -114,17 +117,11 @@ fn one(
     match theirs {
         Err(_) => list.same("the list", &lent.list),
         Ok(objects) => {
-            let mut words = sorted(objects.clone());
+            let mut words = objects.clone();
             words.resize(LIST_WORDS, 0);
-            let listed = list.with(&sorted(list.front(objects.len())));
-            listed.same("the list, sorted,", &lent.list.with(&words))
+            list.same("the list", &lent.list.with(&words))
         }
     }
-}
-
-fn sorted(mut words: Vec<u16>) -> Vec<u16> {
-    words.sort_unstable();
-    words
 }
 
 /// Reports on all threads; every one makes the run anew.

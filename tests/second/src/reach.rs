@@ -1,5 +1,7 @@
 //! The reach report: every object reached from a thread's slots, in all frames, and from the message
-//! that it put and that is not yet taken, and on through fields, each once.
+//! that it put and that is not yet taken, and on through fields, each once, by rising number.
+
+use std::collections::BTreeSet;
 
 use crate::machine::{run, Run};
 use crate::numbers::*;
@@ -38,7 +40,8 @@ pub fn reach_report(
     Ok(Report { run, reached })
 }
 
-/// The objects reached, or 17 for a thread never started. A finished thread reaches nothing.
+/// The objects reached, by rising number, or 17 for a thread never started. A finished thread
+/// reaches nothing.
 pub fn reach(state: &State, thread: usize) -> Result<Vec<u16>, Refusal> {
     let thread = state
         .threads
@@ -46,8 +49,7 @@ pub fn reach(state: &State, thread: usize) -> Result<Vec<u16>, Refusal> {
         .ok_or(refused_at_zero(NO_THREAD))?;
     let mut walk = Walk {
         state,
-        met: vec![false; state.objects.len()],
-        list: Vec::new(),
+        met: BTreeSet::new(),
     };
     for frame in &thread.frames {
         for value in &frame.slots {
@@ -55,7 +57,7 @@ pub fn reach(state: &State, thread: usize) -> Result<Vec<u16>, Refusal> {
         }
     }
     walk.visit(in_flight(state, thread));
-    Ok(walk.list)
+    Ok(walk.met.into_iter().collect())
 }
 
 /// "The report for a waiting sender also starts from the message that it put, as long as the channel
@@ -83,8 +85,7 @@ fn write_list(list: &mut [u16], objects: &[u16]) {
 
 struct Walk<'a> {
     state: &'a State,
-    met: Vec<bool>,
-    list: Vec<u16>,
+    met: BTreeSet<u16>,
 }
 
 impl<'a> Walk<'a> {
@@ -94,10 +95,9 @@ impl<'a> Walk<'a> {
             Value::Obj(number) => number,
             Value::Absent | Value::Chan(_) => return,
         };
-        if std::mem::replace(&mut self.met[usize::from(number)], true) {
+        if !self.met.insert(number) {
             return;
         }
-        self.list.push(number);
         let state = self.state;
         for field in &state.object(number).fields {
             self.visit(*field);

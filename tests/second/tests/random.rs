@@ -115,8 +115,8 @@ fn a_run_is_its_turns_one_by_one() {
     }
 }
 
-/// Threads reach no object twice, every thread of a finished run reaches nothing, and the number
-/// after the last thread is that of a thread never started.
+/// Threads reach objects by rising number, every thread of a finished run reaches nothing, and the
+/// number after the last thread is that of a thread never started.
 #[test]
 fn reach_of_random_runs() {
     let mut reached_any = 0;
@@ -124,13 +124,10 @@ fn reach_of_random_runs() {
         if let Ok((program, turns)) = accepted(&generate::input(SEED, n)) {
             let run = run(&program, &turns);
             for thread in 0..run.state.threads.len() {
-                let mut objects = reach(&run.state, thread).unwrap();
-                let count = objects.len();
-                objects.sort_unstable();
-                objects.dedup();
-                assert_eq!(objects.len(), count);
-                assert!(run.end != End::Finished || count == 0);
-                reached_any += count;
+                let objects = reach(&run.state, thread).unwrap();
+                assert!(objects.windows(2).all(|pair| pair[0] < pair[1]));
+                assert!(run.end != End::Finished || objects.is_empty());
+                reached_any += objects.len();
             }
             assert!(reach(&run.state, run.state.threads.len()).is_err());
         }

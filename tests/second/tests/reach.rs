@@ -12,15 +12,13 @@ fn report(script: &str, turns: &[u8], thread: usize, list: &mut [u16]) -> Result
     reach_report(script.as_bytes(), turns, 8_192, 8_192, thread, list)
 }
 
-/// The objects reached, by rising number.
+/// The objects reached, as the list has them.
 fn reached(script: &str, turns: &[u8], thread: usize) -> Vec<u16> {
     let mut list = [999; 256];
     let report = report(script, turns, thread, &mut list).unwrap();
     let count = report.reached.unwrap();
     assert!(list[count..].iter().all(|word| *word == 0));
-    let mut objects = list[..count].to_vec();
-    objects.sort_unstable();
-    objects
+    list[..count].to_vec()
 }
 
 /// What threads 0 and 1 reach.
@@ -69,6 +67,53 @@ fn through_fields_each_once() {
     assert_eq!(reached(&sharing(), &[0; 4], 0), vec![0, 1, 2]);
     assert_eq!(reached(&sharing(), &[0; 6], 0), vec![0, 1, 2]);
     assert_eq!(reached(&sharing(), &[0; 7], 0), vec![0, 1, 2, 3]);
+}
+
+/// "Object numbers now come in rising order." Slot 2 holds object 1, which holds object 0; slot 7
+/// holds object 6, which holds object 5, whose fields hold objects 4, 2 and 3: a walk of slots and
+/// fields meets them in another order.
+#[test]
+fn by_rising_number() {
+    let script = text(&[
+        "(kind (fields 0) (does))",
+        "(kind (fields 1) (does))",
+        "(kind (fields 3) (does))",
+        "(thread)",
+        "(let (new imm 0))",
+        "(let (new imm 1 (take 1)))",
+        "(let (new imm 0))",
+        "(let (new imm 0))",
+        "(let (new imm 0))",
+        "(let (new imm 2 (take 5) (take 3) (take 4)))",
+        "(let (new imm 1 (take 6)))",
+        "(let (new imm 0))",
+        "(give (take 2))",
+    ]);
+    assert_eq!(reached(&script, &[0; 2], 0), vec![0, 1]);
+    assert_eq!(reached(&script, &[0; 6], 0), vec![0, 1, 2, 3, 4, 5]);
+    assert_eq!(reached(&script, &[0; 8], 0), vec![0, 1, 2, 3, 4, 5, 6, 7]);
+}
+
+/// Thread 0 makes objects 0, 1 and 2 and sends one of them; the others are in its slots.
+#[test]
+fn a_message_in_flight_has_its_place() {
+    for (slot, left) in [(2, vec![1, 2]), (3, vec![0, 2]), (4, vec![0, 1])] {
+        let script = text(&[
+            "(kind (fields 0) (does))",
+            "(thread)",
+            "(let (spawn 1))",
+            "(let (new iso 0))",
+            "(let (new iso 0))",
+            "(let (new iso 0))",
+            &format!("(let (send 1 (take {})))", slot),
+            "(give (read 1))",
+            "(thread)",
+            "(let (recv 0))",
+            "(give (take 1))",
+        ]);
+        assert_eq!(reached(&script, &[0; 5], 0), vec![0, 1, 2]);
+        assert_eq!(reached(&script, &[0, 0, 0, 0, 0, 1], 0), left);
+    }
 }
 
 /// Thread 0 keeps object 0 and sends object 3, which holds object 2, which holds object 1; thread 1
