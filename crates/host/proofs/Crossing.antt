@@ -11,13 +11,12 @@ use borrow.Author.Tests.{lt-ltb}
 use Rattle.rules.specs.Mosts as Most
 use Rattle.rules.specs.Mosts.{mosts}
 use Rattle.rules.specs.Numbers as No
-use Rattle.rules.specs.Lists.{pad}
 use Rattle.rules.specs.Script.{Program}
 use Rattle.rules.specs.Reading.{Reading, turnedAway, accepted}
 use Rattle.rules.specs.State.{State}
 use Rattle.rules.specs.Run.{Run, End, Stop, none, stopped, finished, stuck, openEnd, ended, run, endOf, answerOf, answer}
 use Rattle.rules.specs.Tables.{programWords, stateWords}
-use Rattle.rules.specs.Calls.{shortTable, programAfter, runAnswer, stateAfter, Report, unreported, reached, reportOn, reachReport, listAfter}
+use Rattle.rules.specs.Calls.{shortTable, programAfter, runAnswer, stateAfter, Report, unreported, reached, reportOn, reachReport, listWords, listAfter}
 use Rattle.rules.specs.Writer.{refused, WriteCall}
 use Rattle.rules.proofs.ListLaws.{impossible, length-pad}
 use Rattle.rules.proofs.Demand3.{stripped-matches}
@@ -161,7 +160,7 @@ pub reach-of-same : {C C′ : Reading} {turns program state list p s list₁ : L
     → HasReported C′ turns t program state list number count line p s list₁ → HasReported C turns t program state list number count line p s list₁
 reach-of-same e x = rw e x
 
--- the answer that was told of box's own list is that of this report: nothing is listed, or what is listed is stored
+-- what the lower crate answers, and leaves in the box's own list, is this report's: nothing is listed, or what is listed is stored
 told-refused : (R : Report) {k n : ℕ} (list : List ℕ) → T.Refused k n ≡ reportOf R → Reports R list k 0 n list
 told-refused (unreported i j) list e = record { number-is = cc; count-is = refl; line-is = cc; list-is = refl }
 told-refused (reached objects) list e = impossible cc
@@ -174,7 +173,7 @@ told-reached (reached objects) l₀ l₁ list list₁ long e l-written l-kept =
       number-is = refl;
       count-is = cc;
       line-is = refl;
-      list-is = stored Most.reachList (pad Most.reachList 0 objects) l₀ list (length-pad Most.reachList 0 objects) long l-written l-kept;
+      list-is = stored Most.reachList (listWords objects) l₀ list (length-pad Most.reachList 0 objects) long l-written l-kept;
     }
 
 pub reach-early : {C : Reading} {k : ℕ} (turns : List ℕ) (t : ℕ) (program state list : List ℕ) → C ≡ turnedAway k 0

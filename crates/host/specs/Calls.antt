@@ -8,13 +8,12 @@ use lib.ListN.{length, take}
 use Rattle.rules.specs.Mosts as Most
 use Rattle.rules.specs.Mosts.{mosts}
 use Rattle.rules.specs.Numbers as No
-use Rattle.rules.specs.Lists.{pad}
 use Rattle.rules.specs.Script.{Program}
 use Rattle.rules.specs.Reading.{Reading, turnedAway, accepted, reading}
 use Rattle.rules.specs.Run.{run, answer}
 use Rattle.rules.specs.Stripped.{Matches}
 use Rattle.rules.specs.Tables.{stateWords}
-use Rattle.rules.specs.Calls.{longText, longTurns, Report, unreported, reached, reachReport}
+use Rattle.rules.specs.Calls.{longText, longTurns, Report, unreported, reached, reachReport, listWords}
 use Rattle.rules.specs.Writer.{Answer, refused, wrote, WriteCall}
 use Rattle.run.specs.Answers.{Tells}
 use Rattle.host.specs.Bytes.{bytesOf, bytesAfter, wordsOf}
@@ -78,10 +77,10 @@ abbrev pub reportCount : Report → ℕ
 reportCount (unreported k n) = 0
 reportCount (reached objects) = length objects
 
--- "lists .., then zeros"; "the list keeps its words"
+-- "the list keeps its words"
 abbrev pub listBytes : Report → List ℕ → List ℕ
 listBytes (unreported k n) list = list
-listBytes (reached objects) list = bytesAfter Most.reachList (pad Most.reachList 0 objects) list
+listBytes (reached objects) list = bytesAfter Most.reachList (listWords objects) list
 
 -- ---- document 02, L2: "write a script back out"
 

@@ -143,8 +143,8 @@ pub extern "C" fn box_run(
     end
 }
 
-// Runs, then lists the objects that a thread reaches, in rising order: 0 and their count, or the refusal's number and its line. A refusal by 1 to 9 changes
-// no byte of the tables and the list; 17 leaves the run in the tables and the list as it was.
+// Runs, then lists the objects that a thread reaches, in rising order: 0 and their count, or the refusal's number and its line. A refusal by 1
+// to 9 changes no byte of the tables and the list; 17 leaves the run in the tables and the list as it was.
 #[no_mangle]
 pub extern "C" fn box_reach(
     text: &[u8],

@@ -12,7 +12,6 @@ use Rattle.rules.specs.declared.Value.{Value}
 use Rattle.rules.specs.Mosts as Most
 use Rattle.rules.specs.Mosts.{mosts}
 use Rattle.rules.specs.Numbers as No
-use Rattle.rules.specs.Lists.{pad}
 use Rattle.rules.specs.Script.{Program}
 use Rattle.rules.specs.Reading.{Reading, turnedAway, accepted, reading}
 use Rattle.rules.specs.Valid.{Valid}
@@ -21,7 +20,7 @@ use Rattle.rules.specs.Fits.{Fits}
 use Rattle.rules.specs.Run.{run}
 use Rattle.rules.specs.Tables.{programWords, stateWords}
 use Rattle.rules.specs.Reach.{count, times, ReachedFrom, roots, reachList}
-use Rattle.rules.specs.Calls.{longText, longTurns, shortTable, runCall, runAnswer, reachCall, programAfter, stateAfter, reportOn, reachReport}
+use Rattle.rules.specs.Calls.{longText, longTurns, shortTable, runCall, runAnswer, reachCall, programAfter, stateAfter, reportOn, reachReport, listWords}
 use Rattle.rules.proofs.ListLaws.{by-bool}
 use Rattle.rules.proofs.Accepted.{accepted-valid, reading-accepted}
 use Rattle.rules.proofs.Keeps.{fits-run}
@@ -74,7 +73,7 @@ module _ {p s list : List ℕ} {t d : ℕ} (counted : Sees s Any (λ S. length (
       }
 
   pub reported : {marks : List Bool} {r : ℕ} {list₁ : List ℕ} → t < d → WalksRoots p s (replicate 256 false) (t % 16) marks → r ≡ length (markedBelow 256 marks)
-      → list₁ ≡ pad Most.reachList 0 (markedBelow 256 marks) ++ drop Most.reachList list → ReportsState p s t list (T.Reached r) list₁
+      → list₁ ≡ listWords (markedBelow 256 marks) ++ drop Most.reachList list → ReportsState p s t list (T.Reached r) list₁
   reported {marks} {r} {list₁} there walks number words =
       record {
         reports = λ P n S rest loaded held valid fits.
@@ -85,7 +84,7 @@ module _ {p s list : List ℕ} {t d : ℕ} (counted : Sees s Any (λ S. length (
             subst (λ (b : Bool). Reports (reportOn P S t b) list (T.Reached r) list₁) (sym (lt-ltb t (length (S .threads)) started))
             (record {
               answers = ap T.Reached (number ∙ ap length is);
-              leaves = words ∙ ap (λ (l : List ℕ). pad Most.reachList 0 l ++ drop Most.reachList list) is;
+              leaves = words ∙ ap (λ (l : List ℕ). listWords l ++ drop Most.reachList list) is;
             });
       }
 

@@ -18,7 +18,8 @@ pub enum Report {
     Reached(usize),
 }
 
-// Runs the turns, then lists the objects that thread t reaches, in rising order. A refusal by 1 to 9 changes no word; 17 leaves the list as it was.
+// Runs the turns, then lists the objects that thread t reaches, in rising order. A refusal by 1 to 9 changes no word; 17 leaves the list as it
+// was.
 pub fn reach(
     text: &[u8],
     turns: &[u8],

@@ -5,7 +5,7 @@ ghost use mathlib.Core.Bool.{cond};
 ghost use mathlib.Core.List.{[], _∷_, _++_};
 ghost use Prim.Native.Nat.{_+_, _≤_, _<_};
 ghost use lib.ListN.{length, drop, set};
-ghost use Rattle.rules.specs.Lists.{pad};
+ghost use Rattle.rules.specs.Calls.{listWords};
 ghost use Rattle.table.specs.State.{InTable, Any, frameAt};
 ghost use Rattle.reach.specs.Walking.{unmarked, Walks, Of, WalksThread, WalksRoots, markedBelow};
 
@@ -73,7 +73,7 @@ pub fn walk_roots(p: &[u16], s: &[u16], marks: &mut [bool], t: usize)
 // The first 256 words are zero.
 fn clear(list: &mut [u16])
     requires { ⌜ 256 ≤ length (now list) ⌝ }
-    ensures { λ _. ⌜ now (list .exit) ≡ pad 256 0 [] ++ drop 256 (now (list .entry)) ⌝ }
+    ensures { λ _. ⌜ now (list .exit) ≡ listWords [] ++ drop 256 (now (list .entry)) ⌝ }
 {
     let mut i: usize = 0;
     while i < 256 {
@@ -98,7 +98,7 @@ fn put_if(list: &mut [u16], n: usize, number: u16, marked: bool) -> usize
 pub fn list_marked(marks: &[bool], list: &mut [u16]) -> usize
     requires { ⌜ (256 ≤ length (now marks)) × (256 ≤ length (now list)) ⌝ }
     ensures { λ r. ⌜ r ≡ length (markedBelow 256 (now (marks .entry))) ⌝ }
-    ensures { λ _. ⌜ now (list .exit) ≡ pad 256 0 (markedBelow 256 (now (marks .entry))) ++ drop 256 (now (list .entry)) ⌝ }
+    ensures { λ _. ⌜ now (list .exit) ≡ listWords (markedBelow 256 (now (marks .entry))) ++ drop 256 (now (list .entry)) ⌝ }
 {
     clear(list);
     let mut n: usize = 0;

@@ -222,6 +222,7 @@ module _ {m : Mosts} {P : Program} {n : ℕ} {S : State} (fits : Fits m P n S) w
       through y (here e) = rw (← e) (count-range _ (length (S .threads)) (r .first) vs h (r .held))
       through y (more {y = z} p k) = count-range _ (length (S .threads)) y (objectAt (S .objects) z .fields) (fields-made z) k
 
+  -- what a report lists is what is reached, in rising order, and no other list is
   pub reach-lists : (t : ℕ) → OneList (S .objects) (roots P S t) (reachList (S .objects) (roots P S t))
   unfolding reachList
   reach-lists t =

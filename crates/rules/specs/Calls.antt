@@ -67,7 +67,11 @@ abbrev pub reachReport : Mosts → (turns : List ℕ) → (thread : ℕ) → Rea
 reachReport m turns t (turnedAway k n) = unreported k n
 reachReport m turns t (accepted P) = let S = run m P turns .state in reportOn P S t (ltb t (length (S .threads)))
 
--- "lists .., then zeros"; where nothing is reported "the list keeps its words"
+-- "lists every object reached .., then zeros"
+abbrev pub listWords : List ℕ → List ℕ
+listWords objects = pad Most.reachList 0 objects
+
+-- where nothing is reported "the list keeps its words"
 abbrev pub listAfter : Report → List ℕ → List ℕ
 listAfter (unreported k n) list = list
-listAfter (reached objects) list = pad Most.reachList 0 objects ++ drop Most.reachList list
+listAfter (reached objects) list = listWords objects ++ drop Most.reachList list

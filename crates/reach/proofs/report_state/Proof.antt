@@ -1,4 +1,5 @@
--- `reach::report_state` meets its contract: the thread is not started; or its slots and the message that it put are walked from no mark, and what is marked is listed.
+-- `reach::report_state` meets its contract: the thread is not started; or its slots and the message that it put are walked from no mark, and what
+-- is marked is listed.
 use Rattle.reach.proofs.Reporting.{not-reported, reported}
 use borrow.Author.Needs.{needs}
 use Rattle.reach.proofs.report_state.Statement.{statement}
