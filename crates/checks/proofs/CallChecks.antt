@@ -13,16 +13,16 @@ use Rattle.rules.specs.declared.Value.the-variants.{Absent, Obj, Chan}
 use Rattle.rules.specs.Script.{Program, linesOf, kindAt}
 use Rattle.rules.specs.State.{State, Frame, objectAt}
 use Rattle.rules.specs.Tables.{operandOf}
-use Rattle.rules.specs.Turn.{_>>=_, _>>_, check, permit, isForeign, asObject, object, callLine}
+use Rattle.rules.specs.Turn.{ok, _>>=_, _>>_, check, permit, isForeign, asObject, object, callLine}
 use Rattle.rules.proofs.ListLaws.{impossible}
 use Rattle.rules.proofs.Keeps.{kind-ok}
 use Rattle.table.specs.declared.state.Here.{Here}
 use Rattle.table.specs.Program.{Filled, KindMethod}
 use Rattle.table.specs.State.{Sees, Any}
 use Rattle.checks.specs.declared.lines.Step.{Step}
-use Rattle.checks.specs.declared.lines.Step.the-variants.{Next, NoValue, NoMethod, WrongThing, Foreign, UsedUp}
+use Rattle.checks.specs.declared.lines.Step.the-variants.{Next, NoValue, NoMethod, WrongThing, UsedUp}
 use Rattle.checks.specs.Checked.{resultOf, outcomeOf, isPass, Made, Few, Stand, hereAt, Named, MethodItem}
-use Rattle.checks.proofs.CheckLaws.{stays}
+use Rattle.checks.proofs.CheckLaws.{stays, as-outcome}
 use Rattle.checks.proofs.Standing.{TargetSeen, OperandChecked, kind-is-there, target-read, target-object, operand-goes}
 
 -- ---- spawn: k threads
@@ -126,28 +126,30 @@ module _ {p s : List ℕ} {h : Here} (i j w : ℕ) {k : Step} (first : OperandCh
           foreign-is : isForeign (h .thread) (objectAt (S .objects) o) ≡ b
           foreign-is = sym (away .sees S rest₂ (st .held) (made filled st named))
 
-        pub call-foreign : b ≡ true → ChecksCall p s h i j w Foreign
-        unfolding callLine asObject object check permit _>>=_ _>>_
-        call-foreign far =
+        pub call-forbidden : {a : Step} → resultOf a ≡ permit b false false → isPass a ≡ false → ChecksCall p s h i j w a
+        unfolding callLine asObject object check _>>=_ _>>_
+        call-forbidden permission fails =
             record {
               checks = λ P n S f fs counts rest₁ rest₂ filled st named.
-                  rw (operand-goes st w first passed (named .1 .0), target-read st i w target (named .0) ∙ is, has-method filled st named, foreign-is filled st named ∙ far) refl;
+                  rw (operand-goes st w first passed (named .1 .0), target-read st i w target (named .0) ∙ is, has-method filled st named, foreign-is filled st named)
+                  (stays (permit _ _ _) _ fails (permission ∙ as-outcome _));
             }
 
-        pub call-used-up : b ≡ false → 15 ≤ h .depth → ChecksCall p s h i j w UsedUp
-        unfolding callLine asObject object check permit _>>=_ _>>_
-        call-used-up near deep =
-            record {
-              checks = λ P n S f fs counts rest₁ rest₂ filled st named.
-                  let full = le-ltb (suc (length fs)) 16 (omega (arith, st .depth, deep)) in
-                  rw (operand-goes st w first passed (named .1 .0), target-read st i w target (named .0) ∙ is, has-method filled st named, foreign-is filled st named ∙ near, full) refl;
-            }
+        module _ (allowed : permit b false false ≡ ok tt) where
+          pub call-used-up : 15 ≤ h .depth → ChecksCall p s h i j w UsedUp
+          unfolding callLine asObject object check _>>=_ _>>_
+          call-used-up deep =
+              record {
+                checks = λ P n S f fs counts rest₁ rest₂ filled st named.
+                    let full = le-ltb (suc (length fs)) 16 (omega (arith, st .depth, deep)) in
+                    rw (operand-goes st w first passed (named .1 .0), target-read st i w target (named .0) ∙ is, has-method filled st named, foreign-is filled st named, allowed, full) refl;
+              }
 
-        pub call-passes : b ≡ false → h .depth < 15 → ChecksCall p s h i j w Next
-        unfolding callLine asObject object check permit _>>=_ _>>_
-        call-passes near room =
-            record {
-              checks = λ P n S f fs counts rest₁ rest₂ filled st named.
-                  let one-more = lt-ltb (suc (length fs)) 16 (omega (arith, st .depth, room)) in
-                  rw (operand-goes st w first passed (named .1 .0), target-read st i w target (named .0) ∙ is, has-method filled st named, foreign-is filled st named ∙ near, one-more) refl;
-            }
+          pub call-passes : h .depth < 15 → ChecksCall p s h i j w Next
+          unfolding callLine asObject object check _>>=_ _>>_
+          call-passes room =
+              record {
+                checks = λ P n S f fs counts rest₁ rest₂ filled st named.
+                    let one-more = lt-ltb (suc (length fs)) 16 (omega (arith, st .depth, room)) in
+                    rw (operand-goes st w first passed (named .1 .0), target-read st i w target (named .0) ∙ is, has-method filled st named, foreign-is filled st named, allowed, one-more) refl;
+              }

@@ -1,7 +1,7 @@
 -- Each way out of the checks of recv and send: under the facts of that way the rule computes to the check's answer.
 use Prim.Native.Nat.{ℕ, _/_, _%_, _<_}
-use mathlib.Core.Path.{_≡_, refl, sym, _∙_, subst}
-use mathlib.Core.Bool.{true, false}
+use mathlib.Core.Path.{_≡_, refl, sym, ap, _∙_, subst}
+use mathlib.Core.Bool.{Bool, true, false}
 use mathlib.Core.List.{List, [], _∷_}
 use lib.ListN.{length}
 use borrow.Author.Tests.{eq-eqb, ne-eqb}
@@ -10,14 +10,14 @@ use Rattle.rules.specs.declared.Value.{Value}
 use Rattle.rules.specs.declared.Value.the-variants.{Absent, Obj, Chan}
 use Rattle.rules.specs.State.{State, objectAt, channelAt}
 use Rattle.rules.specs.Tables.{operandOf}
-use Rattle.rules.specs.Turn.{_>>=_, _>>_, check, waitUnless, permit, isLocal, isAbsent, asObject, asChannel, object, recvLine, sentLine, putLine}
+use Rattle.rules.specs.Turn.{ok, _>>=_, _>>_, waitUnless, permit, isLocal, isAbsent, asObject, asChannel, object, recvLine, sentLine, putLine}
 use Rattle.table.specs.declared.state.Here.{Here}
 use Rattle.table.specs.State.{InTable, Held, Sees, Any}
 use Rattle.table.proofs.Places.{message-in-table}
 use Rattle.checks.specs.declared.lines.Step.{Step}
-use Rattle.checks.specs.declared.lines.Step.the-variants.{Next, Waits, NoValue, WrongThing, Other}
+use Rattle.checks.specs.declared.lines.Step.the-variants.{Next, Waits, NoValue, WrongThing}
 use Rattle.checks.specs.Checked.{resultOf, outcomeOf, isPass, InObjects, putInto, Checks}
-use Rattle.checks.proofs.CheckLaws.{stays, then-ok, same-after}
+use Rattle.checks.proofs.CheckLaws.{stays, as-outcome, then-ok, same-after}
 use Rattle.checks.proofs.Standing.{SlotSeen, TargetSeen, MessageSeen, OperandChecked, slot-in-objects, slot-read, target-read, message-read, operand-goes}
 
 -- ---- recv and sent: the target v in slot i, its message u
@@ -83,22 +83,24 @@ module _ (s : List ℕ) (c : ℕ) {v : Value} where
   unfolding putInto asObject _>>=_
   put-channel is = record { sees = λ S rest held there. rw is refl }
 
-module _ {s : List ℕ} (c : ℕ) {v : Value} {n : ℕ} {k : Cap} (is : v ≡ Obj n) (cap : Sees s (λ S. n < length (S .objects)) (λ S. objectAt (S .objects) n .cap) k) where
-  cap-is : (S : State) (rest : List ℕ) → Held s S rest → InObjects v S → objectAt (S .objects) n .cap ≡ k
-  cap-is S rest held there = sym (cap .sees S rest held (subst (λ x. InObjects x S) is there))
+module _ {s : List ℕ} (c : ℕ) {v : Value} {n : ℕ} {k : Cap} {b : Bool} (is : v ≡ Obj n) (cap : Sees s (λ S. n < length (S .objects)) (λ S. objectAt (S .objects) n .cap) k)
+    (local : b ≡ isLocal k) where
+  local-is : (S : State) (rest : List ℕ) → Held s S rest → InObjects v S → isLocal (objectAt (S .objects) n .cap) ≡ b
+  local-is S rest held there = sym (local ∙ ap isLocal (cap .sees S rest held (subst (λ x. InObjects x S) is there)))
 
-  pub put-local : isLocal k ≡ true → PutSeen s c v Other
-  unfolding putInto asObject permit check _>>=_ _>>_
-  put-local loc = record { sees = λ S rest held there. rw (is, cap-is S rest held (there .0), loc) refl }
+  pub put-forbidden : (a : Step) → resultOf a ≡ permit false false b → isPass a ≡ false → PutSeen s c v a
+  unfolding putInto asObject _>>=_ _>>_
+  put-forbidden a permission fails =
+      record { sees = λ S rest held there. rw (is, local-is S rest held (there .0)) (stays (permit _ _ _) _ fails (permission ∙ as-outcome _)) }
 
-  module _ {u : Value} (near : isLocal k ≡ false) (message : MessageSeen s c u) where
+  module _ {u : Value} (allowed : permit false false b ≡ ok tt) (message : MessageSeen s c u) where
     pub put-empty : isAbsent u ≡ true → PutSeen s c v Next
-    unfolding putInto asObject permit check waitUnless _>>=_ _>>_
-    put-empty empty = record { sees = λ S rest held there. rw (is, cap-is S rest held (there .0), near, sym (message .sees S rest held (there .1)), empty) refl }
+    unfolding putInto asObject waitUnless _>>=_ _>>_
+    put-empty empty = record { sees = λ S rest held there. rw (is, local-is S rest held (there .0), allowed, sym (message .sees S rest held (there .1)), empty) refl }
 
     pub put-full : isAbsent u ≡ false → PutSeen s c v Waits
-    unfolding putInto asObject permit check waitUnless _>>=_ _>>_
-    put-full full = record { sees = λ S rest held there. rw (is, cap-is S rest held (there .0), near, sym (message .sees S rest held (there .1)), full) refl }
+    unfolding putInto asObject waitUnless _>>=_ _>>_
+    put-full full = record { sees = λ S rest held there. rw (is, local-is S rest held (there .0), allowed, sym (message .sees S rest held (there .1)), full) refl }
 
 -- ---- put: the operand's word w, the target v in slot i as the operand leaves it
 

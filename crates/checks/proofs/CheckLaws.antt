@@ -54,6 +54,17 @@ pub then-ok : {A B : Type 0} (x : Res A) (b : B) → outcomeOf x ≡ outcomeOf (
 unfolding _>>_
 then-ok x b = sym (then-gives x (λ _. b))
 
+-- a part that gives nothing is its own outcome
+pub as-outcome : (x : Res (Unit {0})) → x ≡ outcomeOf x
+as-outcome (ok a) = refl
+as-outcome wait = refl
+as-outcome (stop n) = refl
+
+pub passed-is-ok : {x : Res (Unit {0})} (k : Res (Unit {0})) → k ≡ x → passed k ≡ true → x ≡ ok tt
+passed-is-ok (ok a) e passes = sym e
+passed-is-ok wait e passes = impossible cc
+passed-is-ok (stop n) e passes = impossible cc
+
 -- where the rests answer the same, so do the wholes
 pub same-after : {A B C : Type 0} (x : Res A) (g : A → Res B) (g′ : A → Res C) → ((a : A) → outcomeOf (g a) ≡ outcomeOf (g′ a)) → outcomeOf (x >>= g) ≡ outcomeOf (x >>= g′)
 unfolding _>>=_

@@ -18,9 +18,9 @@ use Rattle.rules.specs.Turn.{ok, stop, _>>=_, _>>_, check, permit, mayHold, isF
 use Rattle.rules.proofs.ListLaws.{impossible, every-pad}
 use Rattle.table.specs.State.{Sees, Any}
 use Rattle.checks.specs.declared.lines.Step.{Step}
-use Rattle.checks.specs.declared.lines.Step.the-variants.{Next, WrongThing, Foreign, Other, UsedUp}
-use Rattle.checks.specs.Checked.{resultOf, outcomeOf, Made, InObjects}
-use Rattle.checks.proofs.CheckLaws.{numberOf}
+use Rattle.checks.specs.declared.lines.Step.the-variants.{Next, WrongThing, UsedUp}
+use Rattle.checks.specs.Checked.{resultOf, outcomeOf, isPass, Made, InObjects}
+use Rattle.checks.proofs.CheckLaws.{numberOf, stays, as-outcome}
 use Rattle.checks.specs.Items.{holdAll, foreignTo, above, isChannel, AllInObjects, ChecksHeld}
 
 -- ---- Channels among the values
@@ -122,29 +122,27 @@ module _ (s : List ℕ) (t : ℕ) (k : Cap) {vs : List Value} where
           };
         }
 
-    module _ {far : Bool} (foreigns : Sees s (AllInObjects vs) (λ S. any (foreignTo t S) vs) far) where
-      pub held-foreign : far ≡ true → ChecksHeld s t k vs Foreign
-      unfolding permit check _>>=_ _>>_
-      held-foreign is = of-all-four (record { sees = λ S rest held made. rw (← foreigns .sees S rest held made, is) refl })
+    module _ {far over : Bool} (foreigns : Sees s (AllInObjects vs) (λ S. any (foreignTo t S) vs) far) (aboves : Sees s (AllInObjects vs) (λ S. any (above k S) vs) over) where
+      pub held-forbidden : {a : Step} → resultOf a ≡ permit far false over → isPass a ≡ false → ChecksHeld s t k vs a
+      unfolding _>>_
+      held-forbidden permission fails =
+          of-all-four (record {
+            sees = λ S rest held made. rw (← foreigns .sees S rest held made, ← aboves .sees S rest held made) (stays (permit _ _ _) _ fails (permission ∙ as-outcome _));
+          })
 
-      module _ {over : Bool} (near : far ≡ false) (aboves : Sees s (AllInObjects vs) (λ S. any (above k S) vs) over) where
-        pub held-above : over ≡ true → ChecksHeld s t k vs Other
-        unfolding permit check _>>=_ _>>_
-        held-above is = of-all-four (record { sees = λ S rest held made. rw (← foreigns .sees S rest held made, near, ← aboves .sees S rest held made, is) refl })
+      module _ {n : ℕ} (allowed : permit far false over ≡ ok tt) (count : Sees s Any (λ S. length (S .objects)) n) where
+        pub held-passes : n < 256 → ChecksHeld s t k vs Next
+        unfolding check _>>=_ _>>_
+        held-passes room =
+            of-all-four (record {
+              sees = λ S rest held made.
+                  rw (← foreigns .sees S rest held made, ← aboves .sees S rest held made, allowed, ← count .sees S rest held tt, lt-ltb n 256 room) refl;
+            })
 
-        module _ {n : ℕ} (within : over ≡ false) (count : Sees s Any (λ S. length (S .objects)) n) where
-          pub held-passes : n < 256 → ChecksHeld s t k vs Next
-          unfolding permit check _>>=_ _>>_
-          held-passes room =
-              of-all-four (record {
-                sees = λ S rest held made.
-                    rw (← foreigns .sees S rest held made, near, ← aboves .sees S rest held made, within, ← count .sees S rest held tt, lt-ltb n 256 room) refl;
-              })
-
-          pub held-used-up : 256 ≤ n → ChecksHeld s t k vs UsedUp
-          unfolding permit check _>>=_ _>>_
-          held-used-up full =
-              of-all-four (record {
-                sees = λ S rest held made.
-                    rw (← foreigns .sees S rest held made, near, ← aboves .sees S rest held made, within, ← count .sees S rest held tt, le-ltb n 256 full) refl;
-              })
+        pub held-used-up : 256 ≤ n → ChecksHeld s t k vs UsedUp
+        unfolding check _>>=_ _>>_
+        held-used-up full =
+            of-all-four (record {
+              sees = λ S rest held made.
+                  rw (← foreigns .sees S rest held made, ← aboves .sees S rest held made, allowed, ← count .sees S rest held tt, le-ltb n 256 full) refl;
+            })

@@ -1,11 +1,12 @@
 -- Each way out of the checks of field and swap: under the facts of that way the rule computes to the check's answer.
 use Prim.Native.Nat.{ℕ, _/_, _%_, _<_}
 use mathlib.Core.Path.{_≡_, refl, sym, _∙_, subst}
-use mathlib.Core.Bool.{Bool, true, false, not}
+use mathlib.Core.Bool.{Bool, true, false, not, _&&_, _||_}
 use mathlib.Core.List.{List, [], _∷_}
-use lib.Dec.{ltb}
+use lib.Dec.{ltb, eqb}
 use lib.ListN.{length, getD, List·getD-eq-default}
-use borrow.Author.Tests.{ltb-false, eq-eqb, ne-eqb}
+use borrow.Author.Tests.{ltb-false}
+use Rattle.rules.specs.declared.Cap.{Cap}
 use Rattle.rules.specs.declared.Value.{Value}
 use Rattle.rules.specs.declared.Value.the-variants.{Absent, Obj, Chan}
 use Rattle.rules.specs.Mosts.{mosts}
@@ -21,8 +22,8 @@ use Rattle.table.specs.declared.state.Here.{Here}
 use Rattle.table.specs.State.{Sees, FieldIn}
 use Rattle.checks.specs.Checked.{resultOf, outcomeOf, isPass, Made, Fielded, InObjects, swapInto, hereAt, Stand, Named, Checks}
 use Rattle.checks.specs.declared.lines.Step.{Step}
-use Rattle.checks.specs.declared.lines.Step.the-variants.{Next, NoValue, NoField, WrongThing, Foreign, Alias, Other}
-use Rattle.checks.proofs.CheckLaws.{stays, then-ok, same-after}
+use Rattle.checks.specs.declared.lines.Step.the-variants.{NoValue, NoField, WrongThing}
+use Rattle.checks.proofs.CheckLaws.{stays, as-outcome, then-ok, same-after}
 use Rattle.checks.proofs.Standing.{SlotSeen, TargetSeen, OperandChecked, field-in, slot-in-objects, slot-object, fielded, field-in-objects, slot-read, target-read, target-object, operand-goes}
 
 -- ---- A field that is there
@@ -75,71 +76,39 @@ module _ {s : List ℕ} {h : Here} (i j : ℕ) {x : Value} (target : SlotSeen s 
     unfolding check _>>_ _>>=_
     field-missing missing = record { checks = λ P n S f fs rest st named. let answer = field-answer st named in rw missing at answer }
 
-    module _ {b : Bool} (there : isAbsent v ≡ false) (away : Sees s (Made o) (λ S. isForeign (h .thread) (objectAt (S .objects) o)) b) where
-      pub field-of-foreign : b ≡ true → Checks s h (i ∷ []) (λ P H. fieldLine H i j) Foreign
-      unfolding check permit _>>_ _>>=_
-      field-of-foreign far = record { checks = λ P n S f fs rest st named. let answer = field-answer st named in rw (there, sym (away .sees S rest (st .held) (made st named)) ∙ far) at answer }
-
-      module _ {a : Bool} (near : b ≡ false) (iso : Sees s (InObjects v) (λ S. isIsoObject (S .objects) v) a) where
-        pub field-iso : a ≡ true → Checks s h (i ∷ []) (λ P H. fieldLine H i j) Alias
-        unfolding check permit _>>_ _>>=_
-        field-iso is-iso =
-            record {
-              checks = λ P n S f fs rest st named.
-                  let answer = field-answer st named in rw (there, sym (away .sees S rest (st .held) (made st named)) ∙ near, sym (iso .sees S rest (st .held) (field-there st named)) ∙ is-iso) at answer;
-            }
-
-        pub field-passes : a ≡ false → Checks s h (i ∷ []) (λ P H. fieldLine H i j) Next
-        unfolding check permit _>>_ _>>=_
-        field-passes not-iso =
-            record {
-              checks = λ P n S f fs rest st named.
-                  let answer = field-answer st named in rw (there, sym (away .sees S rest (st .held) (made st named)) ∙ near, sym (iso .sees S rest (st .held) (field-there st named)) ∙ not-iso) at answer;
-            }
+    pub field-answered : {far iso : Bool} {k : Step} → isAbsent v ≡ false → Sees s (Made o) (λ S. isForeign (h .thread) (objectAt (S .objects) o)) far
+        → Sees s (InObjects v) (λ S. isIsoObject (S .objects) v) iso → resultOf k ≡ permit far iso false → Checks s h (i ∷ []) (λ P H. fieldLine H i j) k
+    unfolding check _>>_ _>>=_
+    field-answered there foreign alias permission =
+        record {
+          checks = λ P n S f fs rest st named.
+              let answer = field-answer st named in
+              permission ∙ as-outcome _ ∙ (rw (there, sym (foreign .sees S rest (st .held) (made st named)), sym (alias .sees S rest (st .held) (field-there st named))) at answer);
+        }
 
 -- ---- swap: what may go into what
 
--- local with other creators, and three ways not to be so
-module _ (o u : Object) where
-  pub apart : isLocal (o .cap) ≡ true → isLocal (u .cap) ≡ true → (o .creator ≡ u .creator → ⊥) → areApart o u ≡ true
+-- objects n and m, as they are seen: both local with other creators, or not, since the first is not local
+module _ {s : List ℕ} {n : ℕ} (m : ℕ) {k : Cap} (cap : Sees s (Made n) (λ S. objectAt (S .objects) n .cap) k) where
+  pub apart-seen : {l : Cap} {a b : ℕ} {r : Bool} → isLocal k ≡ true → Sees s (Made m) (λ S. objectAt (S .objects) m .cap) l → r ≡ isLocal l
+      → Sees s (Made n) (λ S. objectAt (S .objects) n .creator) a → Sees s (Made m) (λ S. objectAt (S .objects) m .creator) b
+      → Sees s (λ S. Made n S × Made m S) (λ S. areApart (objectAt (S .objects) n) (objectAt (S .objects) m)) (r && not (eqb a b))
   unfolding areApart
-  apart local value-local others = rw (local, value-local, ne-eqb (o .creator) (u .creator) others)
+  apart-seen local value-cap is creator value-creator =
+      record {
+        sees = λ S rest held made.
+            rw (← cap .sees S rest held (made .0), ← value-cap .sees S rest held (made .1), ← creator .sees S rest held (made .0), ← value-creator .sees S rest held (made .1), local, is) refl;
+      }
 
-  pub not-local : isLocal (o .cap) ≡ false → areApart o u ≡ false
+  pub not-local-not-apart : isLocal k ≡ false → Sees s (λ S. Made n S × Made m S) (λ S. areApart (objectAt (S .objects) n) (objectAt (S .objects) m)) false
   unfolding areApart
-  not-local h = rw h
-
-  pub value-not-local : isLocal (o .cap) ≡ true → isLocal (u .cap) ≡ false → areApart o u ≡ false
-  unfolding areApart
-  value-not-local local h = rw (local, h)
-
-  pub same-creator : isLocal (o .cap) ≡ true → isLocal (u .cap) ≡ true → o .creator ≡ u .creator → areApart o u ≡ false
-  unfolding areApart
-  same-creator local value-local same = rw (local, value-local, eq-eqb (o .creator) (u .creator) same)
+  not-local-not-apart not-local = record { sees = λ S rest held made. rw (← cap .sees S rest held (made .0), not-local) refl }
 
 -- object u into object o, by thread t
-module _ (t : ℕ) (o u : Object) where
-  pub into-foreign : isForeign t o ≡ true → resultOf Foreign ≡ outcomeOf (permitSwap t o u)
-  unfolding permitSwap permit check _>>_ _>>=_
-  into-foreign far = rw far
-
-  module _ (near : isForeign t o ≡ false) where
-    pub into-apart : areApart o u ≡ true → resultOf Foreign ≡ outcomeOf (permitSwap t o u)
-    unfolding permitSwap permit check _>>_ _>>=_
-    into-apart h = rw (near, h)
-
-    module _ (together : areApart o u ≡ false) where
-      pub into-imm : isImm (o .cap) ≡ true → resultOf Other ≡ outcomeOf (permitSwap t o u)
-      unfolding permitSwap permit check _>>_ _>>=_
-      into-imm imm = rw (near, together, imm)
-
-      pub into-passes : isImm (o .cap) ≡ false → mayHold (o .cap) (u .cap) ≡ true → resultOf Next ≡ outcomeOf (permitSwap t o u)
-      unfolding permitSwap permit check _>>_ _>>=_
-      into-passes not-imm holds = rw (near, together, not-imm, holds)
-
-      pub into-above : isImm (o .cap) ≡ false → mayHold (o .cap) (u .cap) ≡ false → resultOf Other ≡ outcomeOf (permitSwap t o u)
-      unfolding permitSwap permit check _>>_ _>>=_
-      into-above not-imm above = rw (near, together, not-imm, above)
+pub into-answered : (t : ℕ) (o u : Object) (k : Step) {far imm holds : Bool} → far ≡ (isForeign t o || areApart o u) → imm ≡ isImm (o .cap) → holds ≡ mayHold (o .cap) (u .cap)
+    → resultOf k ≡ permit far false (imm || not holds) → resultOf k ≡ outcomeOf (permitSwap t o u)
+unfolding permitSwap
+into-answered t o u k foreign is-imm may-hold permission = rw (← foreign, ← is-imm, ← may-hold) (permission ∙ as-outcome _)
 
 -- into field j of object n
 module _ (t : ℕ) (os : List Object) (n j : ℕ) where

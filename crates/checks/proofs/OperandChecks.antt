@@ -20,9 +20,9 @@ use Rattle.rules.proofs.ListLaws.{by-bool}
 use Rattle.table.specs.declared.state.Here.{Here}
 use Rattle.table.specs.State.{InTable, Sees, frameAt}
 use Rattle.checks.specs.declared.lines.Step.{Step}
-use Rattle.checks.specs.declared.lines.Step.the-variants.{Next, NoValue, WrongThing, Alias, WrongCap}
-use Rattle.checks.specs.Checked.{isPass, Made, InObjects, Stand, Checks}
-use Rattle.checks.proofs.CheckLaws.{stays}
+use Rattle.checks.specs.declared.lines.Step.the-variants.{Next, NoValue, WrongThing, WrongCap}
+use Rattle.checks.specs.Checked.{resultOf, isPass, Made, InObjects, Stand, Checks}
+use Rattle.checks.proofs.CheckLaws.{stays, as-outcome, then-ok}
 use Rattle.checks.proofs.Standing.{SlotSeen, TargetSeen, OperandChecked, slot-object, slot-read, operand-goes}
 
 -- ---- An operand: its word w, its slot's value v
@@ -52,20 +52,16 @@ module _ {s : List ℕ} {h : Here} {r : ℕ} {v : Value} (w : ℕ) (place : r �
     operand-taken takes =
         record { checks = λ P n S f fs rest st named. rw (eq-eqb (w % 2) 1 takes, slot-read st (w / 2) _ place slot (named .0) ∙ is) refl }
 
-    module _ {k : Cap} (reads : w % 2 ≡ 1 → ⊥) (cap : Sees s (λ S. o < length (S .objects)) (λ S. objectAt (S .objects) o .cap) k) where
-      iso-is : {P : Program} {n : ℕ} {S : State} {f : Frame} {fs : List Frame} {rest : List ℕ} → Stand s h P n S f fs rest → w / 2 < length (f .slots)
-          → isIso (objectAt (S .objects) o .cap) ≡ isIso k
-      iso-is {S = S} {rest = rest} st filled = ap isIso (sym (cap .sees S rest (st .held) (slot-object st (w / 2) o (slot-read st (w / 2) _ place slot filled ∙ is))))
-
-      pub operand-alias : isIso k ≡ true → OperandChecked s h w Alias
-      unfolding operand present permit check isIsoObject _>>=_ _>>_
-      operand-alias iso =
-          record { checks = λ P n S f fs rest st named. rw (ne-eqb (w % 2) 1 reads, slot-read st (w / 2) _ place slot (named .0) ∙ is, iso-is st (named .0) ∙ iso) refl }
-
-      pub operand-read : isIso k ≡ false → OperandChecked s h w Next
-      unfolding operand present permit check isIsoObject _>>=_ _>>_
-      operand-read not-iso =
-          record { checks = λ P n S f fs rest st named. rw (ne-eqb (w % 2) 1 reads, slot-read st (w / 2) _ place slot (named .0) ∙ is, iso-is st (named .0) ∙ not-iso) refl }
+    pub operand-read : {k : Cap} {b : Bool} {a : Step} → (w % 2 ≡ 1 → ⊥) → Sees s (λ S. o < length (S .objects)) (λ S. objectAt (S .objects) o .cap) k → b ≡ isIso k
+        → resultOf a ≡ permit false b false → OperandChecked s h w a
+    unfolding operand present isIsoObject _>>=_
+    operand-read reads cap iso permission =
+        record {
+          checks = λ P n S f fs rest st named.
+              let value = slot-read st (w / 2) _ place slot (named .0) ∙ is in
+              let iso-is = iso ∙ ap isIso (cap .sees S rest (st .held) (slot-object st (w / 2) o value)) in
+              rw (ne-eqb (w % 2) 1 reads, value, ← iso-is) (permission ∙ as-outcome _ ∙ then-ok (permit _ _ _) _);
+        }
 
 -- ---- A slot as the operand leaves it
 

@@ -10,7 +10,6 @@ use Rattle.rules.specs.declared.Value.the-variants.{Absent, Obj, Chan}
 use Rattle.rules.specs.Mosts as Most
 use Rattle.rules.specs.Mosts.{mosts}
 use Rattle.rules.specs.Numbers as No
-use Rattle.rules.specs.Numbers.{foreign, alias, other}
 use Rattle.rules.specs.Lists.{Every}
 use Rattle.rules.specs.Script.{Program, linesOf, kindAt}
 use Rattle.rules.specs.Valid.{Valid}
@@ -22,9 +21,9 @@ use Rattle.table.specs.declared.state.Here.{Here}
 use Rattle.table.specs.Program.{Filled}
 use Rattle.table.specs.State.{Held}
 use Rattle.checks.specs.declared.lines.Step.{Step}
-use Rattle.checks.specs.declared.lines.Step.the-variants.{Next, Stay, Turned, Waits, NoValue, NoField, NoMethod, WrongThing, Foreign, Alias, Other, WrongCap, UsedUp}
+use Rattle.checks.specs.declared.lines.Step.the-variants.{Next, Stay, Turned, Waits, NoValue, NoField, NoMethod, WrongThing, Forbidden, WrongCap, UsedUp}
 
--- a step as a result of the rules: each ground has its number there
+-- a step as a result of the rules
 abbrev pub resultOf : Step → Res (Unit {0})
 resultOf Next = ok tt
 resultOf Stay = ok tt
@@ -34,9 +33,7 @@ resultOf NoValue = stop No.absent
 resultOf NoField = stop No.noField
 resultOf NoMethod = stop No.noMethod
 resultOf WrongThing = stop No.wrongThing
-resultOf Foreign = stop (No.permission foreign)
-resultOf Alias = stop (No.permission alias)
-resultOf Other = stop (No.permission other)
+resultOf (Forbidden g) = stop (No.permission g)
 resultOf WrongCap = stop No.cast
 resultOf UsedUp = stop No.usedUp
 

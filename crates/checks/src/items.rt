@@ -3,6 +3,7 @@ use super::lines::Step;
 use super::lines::is_foreign;
 use super::lines::operand_check;
 use super::lines::passes;
+use super::lines::permission_check;
 use super::lines::slot_of;
 use rules::Cap;
 use rules::Value;
@@ -159,7 +160,7 @@ fn any_above(s: &[u16], k: Cap, a: Value, b: Value, c: Value, d: Value) -> bool
     )
 }
 
-// "any value a channel 13; any value above K, or local with another creator, 14; objects used up 16".
+// "any value a channel 13; any value above K, .. 14", or 20 for "new's value that is local with another creator"; "objects used up 16".
 fn hold_check(s: &[u16], t: usize, k: Cap, a: Value, b: Value, c: Value, d: Value) -> Step
     requires { ⌜ (8192 ≤ length (now s)) × InTable a × InTable b × InTable c × InTable d ⌝ }
     ensures { λ r. ⌜ ChecksHeld (now (s .entry)) t k (a ∷ b ∷ c ∷ d ∷ []) r ⌝ }
@@ -167,11 +168,11 @@ fn hold_check(s: &[u16], t: usize, k: Cap, a: Value, b: Value, c: Value, d: Valu
     if any_channel(a, b, c, d) {
         return Step::WrongThing;
     }
-    if any_foreign(s, t, a, b, c, d) {
-        return Step::Foreign;
-    }
-    if any_above(s, k, a, b, c, d) {
-        return Step::Other;
+    let foreign = any_foreign(s, t, a, b, c, d);
+    let other = any_above(s, k, a, b, c, d);
+    let permission = permission_check(foreign, false, other);
+    if !passes(permission) {
+        return permission;
     }
     if table::object_count(s) < 256 {
         return Step::Next;
@@ -179,7 +180,7 @@ fn hold_check(s: &[u16], t: usize, k: Cap, a: Value, b: Value, c: Value, d: Valu
     Step::UsedUp
 }
 
-// "new: any value a channel 13; any value above K, or local with another creator, 14; objects used up 16."
+// The operands of a new, then the values that they give.
 pub fn new_check(s: &[u16], h: Here, k: Cap, a: u16, b: u16, c: u16, d: u16) -> Step
     requires { ⌜ (8192 ≤ length (now s)) × Placed h ⌝ }
     ensures { λ r. ⌜ ChecksNew (now (s .entry)) h k (a ∷ b ∷ c ∷ d ∷ []) r ⌝ }

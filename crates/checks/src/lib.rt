@@ -11,6 +11,7 @@ pub use lines::is_iso_object;
 pub use lines::method_item;
 pub use lines::operand_check;
 pub use lines::passes;
+pub use lines::permission_check;
 pub use lines::put_check;
 pub use lines::put_into;
 pub use lines::recv_check;

@@ -1,8 +1,10 @@
 // What a line comes to, and the checks that lines share or that say whether a thread would wait, in document 01's order. None of them writes.
 use rules::Cap;
+use rules::Ground;
 use rules::Value;
 use table::Here;
 ghost use mathlib.Core.Path.{_≡_};
+ghost use mathlib.Core.Bool.{_||_};
 ghost use mathlib.Core.List.{[], _∷_};
 ghost use Prim.Native.Nat.{_-_, _/_, _%_, _≤_, _<_};
 ghost use lib.Dec.{ltb};
@@ -11,12 +13,12 @@ ghost use Rattle.rules.specs.Mosts.{mosts};
 ghost use Rattle.rules.specs.Numbers as No;
 ghost use Rattle.rules.specs.State.{objectAt, channelAt, slotAt};
 ghost use Rattle.rules.specs.Tables.{operandOf};
-ghost use Rattle.rules.specs.Turn.{check, isImm, isIso, isLocal, isForeign, isAbsent, isIsoObject, operand, leftBy, permitSwap, castLine, putLine, sentLine, recvLine};
+ghost use Rattle.rules.specs.Turn.{check, isImm, isIso, isLocal, isForeign, isAbsent, isIsoObject, permit, operand, leftBy, areApart, permitSwap, castLine, putLine, sentLine, recvLine};
 ghost use Rattle.table.specs.State.{InTable, Sees, Placed, frameAt};
 ghost use Rattle.checks.specs.Checked.{resultOf, outcomeOf, stopNumber, isPass, isWait, Made, Fielded, InObjects, Few, swapInto, putInto, MethodItem, Checks};
 
 // What a line comes to. It moves, and the thread is then at the frame's next line, at the same line, or in another frame or finished; it waits; or
-// it stops on one of the grounds. A check that passes answers that the line moves, by Next.
+// it stops. A check that passes answers that the line moves, by Next.
 pub enum Step {
     Next,
     Stay,
@@ -26,9 +28,7 @@ pub enum Step {
     NoField,
     NoMethod,
     WrongThing, // a channel where an object is wanted, or an object where a channel is
-    Foreign, // something local to another thread
-    Alias, // a second reference to an iso
-    Other, // any other ground of a permission stop
+    Forbidden(Ground), // the capabilities do not allow it
     WrongCap, // a cast to another capability
     UsedUp,
 }
@@ -45,9 +45,7 @@ pub fn passes(k: Step) -> bool
         Step::NoField => false,
         Step::NoMethod => false,
         Step::WrongThing => false,
-        Step::Foreign => false,
-        Step::Alias => false,
-        Step::Other => false,
+        Step::Forbidden(_) => false,
         Step::WrongCap => false,
         Step::UsedUp => false,
     }
@@ -65,15 +63,13 @@ pub fn waits(k: Step) -> bool
         Step::NoField => false,
         Step::NoMethod => false,
         Step::WrongThing => false,
-        Step::Foreign => false,
-        Step::Alias => false,
-        Step::Other => false,
+        Step::Forbidden(_) => false,
         Step::WrongCap => false,
         Step::UsedUp => false,
     }
 }
 
-// Document 01's number of a stop; 0 of any other step.
+// The number of a stop; 0 of any other step.
 pub fn stop_number(k: Step) -> u16
     ensures { λ r. ⌜ r ≡ stopNumber (resultOf k) ⌝ }
 {
@@ -86,9 +82,7 @@ pub fn stop_number(k: Step) -> u16
         Step::NoField => rules::numbers::NO_FIELD,
         Step::NoMethod => rules::numbers::NO_METHOD,
         Step::WrongThing => rules::numbers::WRONG_THING,
-        Step::Foreign => rules::numbers::FOREIGN,
-        Step::Alias => rules::numbers::ALIAS,
-        Step::Other => rules::numbers::OTHER,
+        Step::Forbidden(g) => rules::ground_number(g),
         Step::WrongCap => rules::numbers::CAST,
         Step::UsedUp => rules::numbers::USED_UP,
     }
@@ -154,7 +148,7 @@ pub fn is_foreign(s: &[u16], t: usize, n: u16) -> bool
     if is_local(table::cap(s, n)) {
         return table::creator(s, n) as usize != t;
     }
-    false
+    false // not local
 }
 
 // Whether a value is an iso object.
@@ -169,9 +163,25 @@ pub fn is_iso_object(s: &[u16], v: Value) -> bool
     }
 }
 
+// A permission check: which of its grounds hold. "Where several hold, 20 goes before 19 and 19 before 14".
+pub fn permission_check(foreign: bool, alias: bool, other: bool) -> Step
+    ensures { λ r. ⌜ resultOf r ≡ permit foreign alias other ⌝ }
+{
+    if foreign {
+        return Step::Forbidden(Ground::Foreign);
+    }
+    if alias {
+        return Step::Forbidden(Ground::Alias);
+    }
+    if other {
+        return Step::Forbidden(Ground::Other);
+    }
+    Step::Next
+}
+
 // ---- Operands
 
-// "operand: absent 10; a read of an iso object 14."
+// "operand: absent 10; a read of an iso object 19."
 pub fn operand_check(s: &[u16], h: Here, w: u16) -> Step
     requires { ⌜ (8192 ≤ length (now s)) × Placed h ⌝ }
     ensures { λ r. ⌜ Checks (now (s .entry)) h (w / 2 ∷ []) (λ P H. operand (H .state .objects) (H .frame .slots) (operandOf w)) r ⌝ }
@@ -184,10 +194,7 @@ pub fn operand_check(s: &[u16], h: Here, w: u16) -> Step
             if w % 2 == 1 {
                 return Step::Next;
             }
-            if is_iso(table::cap(s, n)) {
-                return Step::Alias;
-            }
-            Step::Next
+            permission_check(false, is_iso(table::cap(s, n)), false)
         }
     }
 }
@@ -228,33 +235,41 @@ pub fn cast_check(s: &[u16], h: Here, k: Cap, w: u16) -> Step
     }
 }
 
-// "target imm, or local to another thread, or value above the target, or both local with other creators, 14": object m into object n.
+// Objects n and m are "both local with other creators".
+fn are_apart(s: &[u16], n: u16, m: u16) -> bool
+    requires { ⌜ (8192 ≤ length (now s)) × (n < 256) × (m < 256) ⌝ }
+    ensures { λ r. ⌜ Sees (now (s .entry)) (λ S. Made n S × Made m S) (λ S. areApart (objectAt (S .objects) n) (objectAt (S .objects) m)) r ⌝ }
+{
+    if is_local(table::cap(s, n)) {
+        return is_local(table::cap(s, m)) & (table::creator(s, n) != table::creator(s, m));
+    }
+    false
+}
+
+// Object m into object n: "A target local to another thread becomes 20, and so do swap's two locals with other creators".
+fn is_foreign_swap(s: &[u16], t: usize, n: u16, m: u16) -> bool
+    requires { ⌜ (8192 ≤ length (now s)) × (n < 256) × (m < 256) ⌝ }
+    ensures { λ r. ⌜ Sees (now (s .entry)) (λ S. Made n S × Made m S) (λ S. isForeign t (objectAt (S .objects) n) || areApart (objectAt (S .objects) n) (objectAt (S .objects) m)) r ⌝ }
+{
+    if is_foreign(s, t, n) {
+        return true;
+    }
+    are_apart(s, n, m)
+}
+
+// The same, and "target imm, or .. value above the target, .. 14".
 fn swap_permission(s: &[u16], t: usize, n: u16, m: u16) -> Step
     requires { ⌜ (8192 ≤ length (now s)) × (n < 256) × (m < 256) ⌝ }
     ensures { λ r. ⌜ Sees (now (s .entry)) (λ S. Made n S × Made m S) (λ S. outcomeOf (permitSwap t (objectAt (S .objects) n) (objectAt (S .objects) m))) (resultOf r) ⌝ }
 {
-    if is_foreign(s, t, n) {
-        return Step::Foreign;
-    }
     let a = table::cap(s, n);
     let b = table::cap(s, m);
-    if is_local(a) {
-        if is_local(b) {
-            if table::creator(s, n) != table::creator(s, m) {
-                return Step::Foreign;
-            }
-        }
-    }
-    if is_imm(a) {
-        return Step::Other;
-    }
-    if rules::may_hold(a, b) {
-        return Step::Next;
-    }
-    Step::Other
+    let foreign = is_foreign_swap(s, t, n, m);
+    let other = is_imm(a) | !rules::may_hold(a, b);
+    permission_check(foreign, false, other)
 }
 
-// The value into field j of object n: "value a channel 13; no such field 11; .. 14".
+// The value into field j of object n: "value a channel 13; no such field 11; .. 14" or 20.
 pub fn swap_into(s: &[u16], t: usize, n: u16, j: u16, v: Value) -> Step
     requires { ⌜ (8192 ≤ length (now s)) × (n < 256) × InTable v ⌝ }
     ensures { λ r. ⌜ Sees (now (s .entry)) (λ S. Fielded n S × InObjects v S) (λ S. outcomeOf (swapInto t (S .objects) n j v)) (resultOf r) ⌝ }
@@ -341,8 +356,9 @@ pub fn put_into(s: &[u16], c: u16, v: Value) -> Step
         Value::Absent => Step::NoValue,
         Value::Chan(_) => Step::WrongThing,
         Value::Obj(n) => {
-            if is_local(table::cap(s, n)) {
-                return Step::Other;
+            let k = permission_check(false, false, is_local(table::cap(s, n)));
+            if !passes(k) {
+                return k;
             }
             if is_absent(table::message(s, c)) {
                 return Step::Next;

@@ -1,4 +1,4 @@
--- The starred bench cases of document 01, as one table: each is computed from its text.
+-- The starred bench cases of document 01, D as document 02, L5, has it, as one table: each is computed from its text.
 use Prim.Native.String as S
 use mathlib.Core.Path.{refl}
 use mathlib.Core.List.{List, [], _∷_}
@@ -25,7 +25,7 @@ cases =
     ∷ answers "(thread)\n(give (read 0))\n" (0 ∷ []) guarded (halted 10 0 0 0 0)
     ∷ answers "(thread)\n(give (read 0))\n" [] guarded (ended openEnd 0)
     -- D, and stripped
-    ∷ answers caseD (0 ∷ 0 ∷ []) guarded (halted 14 0 0 1 1)
+    ∷ answers caseD (0 ∷ 0 ∷ []) guarded (halted 19 0 0 1 1)
     ∷ answers caseD (0 ∷ 0 ∷ []) stripped (ended finished 2)
     -- E: D with a take
     ∷ answers "(kind (fields 0) (does))\n(thread)\n(let (new iso 0))\n(give (take 1))\n" (0 ∷ 0 ∷ []) guarded (ended finished 2)

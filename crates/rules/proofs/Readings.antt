@@ -36,13 +36,13 @@ every-refusal = refl
 
 cases : List Case
 cases =
-    -- Thread 1 holds an object that is local to thread 0, and its kind has no field and no method: 11 and 12 go before 14.
+    -- Thread 1 holds an object that is local to thread 0, and its kind has no field and no method: 11 and 12 go before 20.
     answers "(kind (fields 0) (does))\n(kind (fields 1) (does))\n(thread)\n(let (spawn 1))\n(let (new local 0))\n(let (new unsafe 1 (read 2)))\n(let (send 1 (read 3)))\n(give (read 1))\n(thread)\n(let (recv 0))\n(let (field 1 0))\n(let (field 2 0))\n(give (read 1))\n" (0 ∷ 0 ∷ 0 ∷ 0 ∷ 1 ∷ 1 ∷ 1 ∷ []) guarded (halted 11 1 1 2 6)
     ∷ answers "(kind (fields 0) (does))\n(kind (fields 1) (does))\n(thread)\n(let (spawn 1))\n(let (new local 0))\n(let (new unsafe 1 (read 2)))\n(let (send 1 (read 3)))\n(give (read 1))\n(thread)\n(let (recv 0))\n(let (field 1 0))\n(let (swap 2 0 (read 1)))\n(give (read 1))\n" (0 ∷ 0 ∷ 0 ∷ 0 ∷ 1 ∷ 1 ∷ 1 ∷ []) guarded (halted 11 1 1 2 6)
     ∷ answers "(kind (fields 0) (does))\n(kind (fields 1) (does))\n(thread)\n(let (spawn 1))\n(let (new local 0))\n(let (new unsafe 1 (read 2)))\n(let (send 1 (read 3)))\n(give (read 1))\n(thread)\n(let (recv 0))\n(let (field 1 0))\n(let (call 2 0 (read 1)))\n(give (read 1))\n" (0 ∷ 0 ∷ 0 ∷ 0 ∷ 1 ∷ 1 ∷ 1 ∷ []) guarded (halted 12 1 1 2 6)
-    -- "a swap stores another thread's local in an unsafe object, a new stops with 14"
+    -- "a swap stores another thread's local in an unsafe object, a new stops", with 20 since document 02, L5
     ∷ answers "(kind (fields 0) (does))\n(kind (fields 1) (does))\n(thread)\n(let (spawn 1))\n(let (new local 0))\n(let (new unsafe 1 (read 2)))\n(let (send 1 (read 3)))\n(give (read 1))\n(thread)\n(let (recv 0))\n(let (field 1 0))\n(let (swap 1 0 (read 2)))\n(give (read 1))\n" (0 ∷ 0 ∷ 0 ∷ 0 ∷ 1 ∷ 1 ∷ 1 ∷ []) guarded (ended openEnd 7)
-    ∷ answers "(kind (fields 0) (does))\n(kind (fields 1) (does))\n(thread)\n(let (spawn 1))\n(let (new local 0))\n(let (new unsafe 1 (read 2)))\n(let (send 1 (read 3)))\n(give (read 1))\n(thread)\n(let (recv 0))\n(let (field 1 0))\n(let (new unsafe 1 (read 2)))\n(give (read 1))\n" (0 ∷ 0 ∷ 0 ∷ 0 ∷ 1 ∷ 1 ∷ 1 ∷ []) guarded (halted 14 1 1 2 6)
+    ∷ answers "(kind (fields 0) (does))\n(kind (fields 1) (does))\n(thread)\n(let (spawn 1))\n(let (new local 0))\n(let (new unsafe 1 (read 2)))\n(let (send 1 (read 3)))\n(give (read 1))\n(thread)\n(let (recv 0))\n(let (field 1 0))\n(let (new unsafe 1 (read 2)))\n(give (read 1))\n" (0 ∷ 0 ∷ 0 ∷ 0 ∷ 1 ∷ 1 ∷ 1 ∷ []) guarded (halted 20 1 1 2 6)
     -- A swap's target is absent and its value a channel: the target goes first.
     ∷ answers "(thread)\n(let (spawn 0))\n(let (swap 0 0 (read 1)))\n(give (read 1))\n" (0 ∷ 0 ∷ []) guarded (halted 10 0 0 1 1)
     -- A swap's value is a channel and there is no such field: 13 goes before 11.
@@ -50,7 +50,7 @@ cases =
     -- A new's first value is above K and its second is a channel: 13 goes before 14.
     ∷ answers "(kind (fields 0) (does))\n(kind (fields 2) (does))\n(thread)\n(let (spawn 0))\n(let (new unsafe 0))\n(let (new imm 1 (read 2) (read 1)))\n(give (read 1))\n" (0 ∷ 0 ∷ 0 ∷ []) guarded (halted 13 0 0 2 2)
     -- A new reads an iso and then an absent slot: each operand passes its own checks before the next.
-    ∷ answers "(kind (fields 0) (does))\n(kind (fields 2) (does))\n(thread)\n(let (new iso 0))\n(let (new iso 1 (read 1) (read 0)))\n(give (read 0))\n" (0 ∷ 0 ∷ []) guarded (halted 14 0 0 1 1)
+    ∷ answers "(kind (fields 0) (does))\n(kind (fields 2) (does))\n(thread)\n(let (new iso 0))\n(let (new iso 1 (read 1) (read 0)))\n(give (read 0))\n" (0 ∷ 0 ∷ []) guarded (halted 19 0 0 1 1)
     -- A send's target is an object and its value local: 13 goes before 14.
     ∷ answers "(kind (fields 0) (does))\n(thread)\n(let (new local 0))\n(let (send 1 (read 1)))\n(give (read 0))\n" (0 ∷ 0 ∷ []) guarded (halted 13 0 0 1 1)
     -- The channel is full. A local stops with 14; "letting a send that finds its channel full empty its slot: the record is lost".
@@ -69,6 +69,33 @@ cases =
 every-case : AllHold cases
 unfolding cases computed
 every-case = refl
+
+-- Document 02, L5: "Where several hold, 20 goes before 19 and 19 before 14 within one line's permission check; operands still go first."
+grounds : List Case
+grounds =
+    -- Thread 1 holds an object that is local to thread 0 and whose field holds an iso, in slot 2; what was sent, an unsafe object, is in slot 1.
+    -- Field: the target is foreign and its field holds an iso. 20 goes before 19.
+    answers "(kind (fields 0) (does))\n(kind (fields 1) (does 2))\n(kind (fields 2) (does))\n(thread)\n(let (spawn 1))\n(let (new iso 0))\n(let (new local 1 (take 2)))\n(let (new unsafe 1 (read 3)))\n(let (send 1 (read 4)))\n(give (read 1))\n(thread)\n(let (recv 0))\n(let (field 1 0))\n(let (field 2 0))\n(give (read 1))\n(method)\n(give (read 1))\n" (0 ∷ 0 ∷ 0 ∷ 0 ∷ 0 ∷ 1 ∷ 1 ∷ 1 ∷ []) guarded (halted 20 1 1 2 7)
+    -- Swap: the target is foreign and the value above it. 20 goes before 14.
+    ∷ answers "(kind (fields 0) (does))\n(kind (fields 1) (does 2))\n(kind (fields 2) (does))\n(thread)\n(let (spawn 1))\n(let (new iso 0))\n(let (new local 1 (take 2)))\n(let (new unsafe 1 (read 3)))\n(let (send 1 (read 4)))\n(give (read 1))\n(thread)\n(let (recv 0))\n(let (field 1 0))\n(let (swap 2 0 (read 1)))\n(give (read 1))\n(method)\n(give (read 1))\n" (0 ∷ 0 ∷ 0 ∷ 0 ∷ 0 ∷ 1 ∷ 1 ∷ 1 ∷ []) guarded (halted 20 1 1 2 7)
+    -- New: its value is foreign and above K; the first value is above K and the second foreign. 20 goes before 14.
+    ∷ answers "(kind (fields 0) (does))\n(kind (fields 1) (does 2))\n(kind (fields 2) (does))\n(thread)\n(let (spawn 1))\n(let (new iso 0))\n(let (new local 1 (take 2)))\n(let (new unsafe 1 (read 3)))\n(let (send 1 (read 4)))\n(give (read 1))\n(thread)\n(let (recv 0))\n(let (field 1 0))\n(let (new iso 1 (read 2)))\n(give (read 1))\n(method)\n(give (read 1))\n" (0 ∷ 0 ∷ 0 ∷ 0 ∷ 0 ∷ 1 ∷ 1 ∷ 1 ∷ []) guarded (halted 20 1 1 2 7)
+    ∷ answers "(kind (fields 0) (does))\n(kind (fields 1) (does 2))\n(kind (fields 2) (does))\n(thread)\n(let (spawn 1))\n(let (new iso 0))\n(let (new local 1 (take 2)))\n(let (new unsafe 1 (read 3)))\n(let (send 1 (read 4)))\n(give (read 1))\n(thread)\n(let (recv 0))\n(let (field 1 0))\n(let (new local 2 (read 1) (read 2)))\n(give (read 1))\n(method)\n(give (read 1))\n" (0 ∷ 0 ∷ 0 ∷ 0 ∷ 0 ∷ 1 ∷ 1 ∷ 1 ∷ []) guarded (halted 20 1 1 2 7)
+    -- "operands still go first": the target, or another value, is foreign, and an operand reads an iso.
+    ∷ answers "(kind (fields 0) (does))\n(kind (fields 1) (does 2))\n(kind (fields 2) (does))\n(thread)\n(let (spawn 1))\n(let (new iso 0))\n(let (new local 1 (take 2)))\n(let (new unsafe 1 (read 3)))\n(let (send 1 (read 4)))\n(give (read 1))\n(thread)\n(let (recv 0))\n(let (field 1 0))\n(let (new iso 0))\n(let (swap 2 0 (read 3)))\n(give (read 1))\n(method)\n(give (read 1))\n" (0 ∷ 0 ∷ 0 ∷ 0 ∷ 0 ∷ 1 ∷ 1 ∷ 1 ∷ 1 ∷ []) guarded (halted 19 1 1 3 8)
+    ∷ answers "(kind (fields 0) (does))\n(kind (fields 1) (does 2))\n(kind (fields 2) (does))\n(thread)\n(let (spawn 1))\n(let (new iso 0))\n(let (new local 1 (take 2)))\n(let (new unsafe 1 (read 3)))\n(let (send 1 (read 4)))\n(give (read 1))\n(thread)\n(let (recv 0))\n(let (field 1 0))\n(let (new iso 0))\n(let (call 2 0 (read 3)))\n(give (read 1))\n(method)\n(give (read 1))\n" (0 ∷ 0 ∷ 0 ∷ 0 ∷ 0 ∷ 1 ∷ 1 ∷ 1 ∷ 1 ∷ []) guarded (halted 19 1 1 3 8)
+    ∷ answers "(kind (fields 0) (does))\n(kind (fields 1) (does 2))\n(kind (fields 2) (does))\n(thread)\n(let (spawn 1))\n(let (new iso 0))\n(let (new local 1 (take 2)))\n(let (new unsafe 1 (read 3)))\n(let (send 1 (read 4)))\n(give (read 1))\n(thread)\n(let (recv 0))\n(let (field 1 0))\n(let (new iso 0))\n(let (new iso 2 (read 2) (read 3)))\n(give (read 1))\n(method)\n(give (read 1))\n" (0 ∷ 0 ∷ 0 ∷ 0 ∷ 0 ∷ 1 ∷ 1 ∷ 1 ∷ 1 ∷ []) guarded (halted 19 1 1 3 8)
+    -- "swap's two locals with other creators", each way round.
+    ∷ answers "(kind (fields 0) (does))\n(kind (fields 1) (does 2))\n(kind (fields 2) (does))\n(thread)\n(let (spawn 1))\n(let (new iso 0))\n(let (new local 1 (take 2)))\n(let (new unsafe 1 (read 3)))\n(let (send 1 (read 4)))\n(give (read 1))\n(thread)\n(let (recv 0))\n(let (field 1 0))\n(let (new imm 0))\n(let (new local 1 (read 3)))\n(let (swap 4 0 (read 2)))\n(give (read 1))\n(method)\n(give (read 1))\n" (0 ∷ 0 ∷ 0 ∷ 0 ∷ 0 ∷ 1 ∷ 1 ∷ 1 ∷ 1 ∷ 1 ∷ []) guarded (halted 20 1 1 4 9)
+    ∷ answers "(kind (fields 0) (does))\n(kind (fields 1) (does 2))\n(kind (fields 2) (does))\n(thread)\n(let (spawn 1))\n(let (new iso 0))\n(let (new local 1 (take 2)))\n(let (new unsafe 1 (read 3)))\n(let (send 1 (read 4)))\n(give (read 1))\n(thread)\n(let (recv 0))\n(let (field 1 0))\n(let (new local 0))\n(let (swap 2 0 (read 3)))\n(give (read 1))\n(method)\n(give (read 1))\n" (0 ∷ 0 ∷ 0 ∷ 0 ∷ 0 ∷ 1 ∷ 1 ∷ 1 ∷ 1 ∷ []) guarded (halted 20 1 1 3 8)
+    -- A call on it. "The rest stays 14, any local in a send too", another thread's as well.
+    ∷ answers "(kind (fields 0) (does))\n(kind (fields 1) (does 2))\n(kind (fields 2) (does))\n(thread)\n(let (spawn 1))\n(let (new iso 0))\n(let (new local 1 (take 2)))\n(let (new unsafe 1 (read 3)))\n(let (send 1 (read 4)))\n(give (read 1))\n(thread)\n(let (recv 0))\n(let (field 1 0))\n(let (call 2 0 (read 1)))\n(give (read 1))\n(method)\n(give (read 1))\n" (0 ∷ 0 ∷ 0 ∷ 0 ∷ 0 ∷ 1 ∷ 1 ∷ 1 ∷ []) guarded (halted 20 1 1 2 7)
+    ∷ answers "(kind (fields 0) (does))\n(kind (fields 1) (does 2))\n(kind (fields 2) (does))\n(thread)\n(let (spawn 1))\n(let (new iso 0))\n(let (new local 1 (take 2)))\n(let (new unsafe 1 (read 3)))\n(let (send 1 (read 4)))\n(give (read 1))\n(thread)\n(let (recv 0))\n(let (field 1 0))\n(let (send 0 (read 2)))\n(give (read 1))\n(method)\n(give (read 1))\n" (0 ∷ 0 ∷ 0 ∷ 0 ∷ 0 ∷ 1 ∷ 1 ∷ 1 ∷ []) guarded (halted 14 1 1 2 7)
+    ∷ []
+
+every-ground : AllHold grounds
+unfolding grounds computed
+every-ground = refl
 
 -- ---- Reach reports (document 02, L1 and L4)
 

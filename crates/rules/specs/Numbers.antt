@@ -2,6 +2,8 @@
 use Prim.Native.Nat.{ℕ}
 use mathlib.Core.Bool.{Bool, _||_}
 use lib.Dec.{eqb}
+use Rattle.rules.specs.declared.Ground.{Ground}
+use Rattle.rules.specs.declared.Ground.the-variants.{Foreign, Alias, Other}
 
 -- text or turns too long
 abbrev pub overlong : ℕ
@@ -55,14 +57,11 @@ noMethod = 12
 abbrev pub wrongThing : ℕ
 wrongThing = 13
 
--- the grounds of a permission stop: something local to another thread; a second reference to an iso; any other
-pub data Ground : Type 0 where
-  foreign alias other : Ground
-
+-- the capabilities do not allow it, by its ground; document 02, L5: "Turned away: 19 alias and 20 foreign, each in the place that 14 had."
 abbrev pub permission : Ground → ℕ
-permission foreign = 14
-permission alias = 14
-permission other = 14
+permission Foreign = 20
+permission Alias = 19
+permission Other = 14
 
 -- capability not K
 abbrev pub cast : ℕ
@@ -80,6 +79,6 @@ noThread = 17
 abbrev pub noScript : ℕ
 noScript = 18
 
--- "Permission is 14 and cast is 15": the numbers of the guards
+-- document 02, L5: "The stripped-script rule now counts 14, 15, 19 and 20 as permission or cast."
 abbrev pub isGuard : ℕ → Bool
-isGuard n = eqb n (permission foreign) || eqb n (permission alias) || eqb n (permission other) || eqb n cast
+isGuard n = eqb n (permission Foreign) || eqb n (permission Alias) || eqb n (permission Other) || eqb n cast

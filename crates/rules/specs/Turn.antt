@@ -1,4 +1,5 @@
 -- One turn of one thread: operands first, then the checks in the order that document 01's "Machine" writes them, then the new state.
+-- Where document 02, L5, puts 19 or 20 in the place of a 14, the sentence is quoted with that number.
 use Prim.Native.Nat.{ℕ, suc, _+_}
 use mathlib.Core.Bool.{Bool, true, false, not, _&&_, _||_}
 use mathlib.Core.List.{List, [], _∷_, _++_}
@@ -8,10 +9,10 @@ use Rattle.rules.specs.declared.Cap.{Cap}
 use Rattle.rules.specs.declared.Cap.the-variants.{Imm, Iso, Local, Unsafe}
 use Rattle.rules.specs.declared.Value.{Value}
 use Rattle.rules.specs.declared.Value.the-variants.{Absent, Obj, Chan}
+use Rattle.rules.specs.declared.Ground.the-variants.{Foreign, Alias, Other}
 use Rattle.rules.specs.declared.Mosts.{Mosts}
 use Rattle.rules.specs.Mosts as Most
 use Rattle.rules.specs.Numbers as No
-use Rattle.rules.specs.Numbers.{foreign, alias, other}
 use Rattle.rules.specs.Lists.{any}
 use Rattle.rules.specs.Script.{Program, Operand, reads, takes, Expr, value, field, swap, call, new, cast, spawn, send, recv, Line, bind, give, rank, kindAt, lineAt}
 use Rattle.rules.specs.State.{Object, Frame, Sender, ready, waiting, Channel, State, emptyChannel, objectAt, threadAt, channelAt, slotAt}
@@ -42,12 +43,12 @@ unfoldable pub waitUnless : Bool → Res (Unit {0})
 waitUnless true = ok tt
 waitUnless false = wait
 
--- a permission check: which of its grounds hold. Each has its number in Numbers.
+-- a permission check: which of its grounds hold. Document 02, L5: "Where several hold, 20 goes before 19 and 19 before 14".
 unfoldable pub permit : (isForeign isAlias isOther : Bool) → Res (Unit {0})
 permit f a o = do
-  check (not f) (No.permission foreign)
-  check (not a) (No.permission alias)
-  check (not o) (No.permission other)
+  check (not f) (No.permission Foreign)
+  check (not a) (No.permission Alias)
+  check (not o) (No.permission Other)
 
 -- ---- Capabilities
 
@@ -113,7 +114,7 @@ asChannel (Chan c) = ok c
 -- ---- Operands
 
 -- "read gives the slot's value. take gives it and makes the slot absent."
--- "operand: absent 10; a read of an iso object 14." It gives the value and the slots that are left.
+-- "operand: absent 10; a read of an iso object 19." It gives the value and the slots that are left.
 unfoldable pub operand : List Object → List Value → Operand → Res (Value × List Value)
 operand os vs (reads s) = do
   v ← present (slotAt vs s)
@@ -188,7 +189,7 @@ valueLine H w = do
   (v, vs) ← operand (objectsOf H) (H .frame .slots) w
   ok (gives (H .state) H vs v)
 
--- "field: target slot absent 10; a channel 13; no such field 11; target local to another thread 14; field holds an iso 14."
+-- "field: target slot absent 10; a channel 13; no such field 11; target local to another thread 20; field holds an iso 19."
 unfoldable pub fieldLine : Here → ℕ → ℕ → Res State
 fieldLine H s f = do
   n ← asObject (slotAt (H .frame .slots) s)
@@ -201,14 +202,15 @@ fieldLine H s f = do
 unfoldable pub areApart : Object → Object → Bool
 areApart o u = isLocal (o .cap) && (isLocal (u .cap) && not (eqb (o .creator) (u .creator)))
 
--- "target imm, or local to another thread, or value above the target, or both local with other creators, 14"
+-- "target imm, or .. value above the target, .. 14"; L5: "A target local to another thread becomes 20, and so do swap's two locals with
+-- other creators"
 unfoldable pub permitSwap : ℕ → Object → Object → Res (Unit {0})
 permitSwap t o u = permit (isForeign t o || areApart o u) false (isImm (o .cap) || not (mayHold (o .cap) (u .cap)))
 
 unfoldable pub setField : Object → ℕ → Value → Object
 setField o f v = record { cap = o .cap; kind = o .kind; creator = o .creator; fields = set (o .fields) f v }
 
--- "swap: target absent 10; target a channel 13; value a channel 13; no such field 11; .. 14. It stores the value and gives the old one."
+-- "swap: target absent 10; target a channel 13; value a channel 13; no such field 11; .. 14" or 20. "It stores the value and gives the old one."
 unfoldable pub swapLine : Here → ℕ → ℕ → Operand → Res State
 swapLine H s f w = do
   (v, vs) ← operand (objectsOf H) (H .frame .slots) w
@@ -219,7 +221,7 @@ swapLine H s f w = do
   let S = putObjects (H .state) (set (objectsOf H) target (setField (object H target) f v))
   ok (gives S H vs (slotAt (object H target .fields) f))
 
--- "call: target absent 10; a channel 13; no such method 12; target local to another thread 14; frames used up 16.
+-- "call: target absent 10; a channel 13; no such method 12; target local to another thread 20; frames used up 16.
 -- The new frame holds target and value; the caller's slot keeps the target."
 unfoldable pub callLine : Program → Here → ℕ → ℕ → Operand → Res State
 callLine P H s i w = do
@@ -232,7 +234,8 @@ callLine P H s i w = do
   let g : Frame = record { block = getD ms i 0; line = 0; slots = Obj n ∷ v ∷ [] }
   ok (putThread (H .state) (H .self) (g ∷ withSlots (H .frame) vs ∷ H .callers) ready)
 
--- "new: any value a channel 13; any value above K, or local with another creator, 14; objects used up 16. The creator is this thread."
+-- "new: any value a channel 13; any value above K, .. 14; objects used up 16. The creator is this thread."; L5: 20, "and so do .. new's
+-- value that is local with another creator"
 unfoldable pub newLine : Mosts → Here → Cap → ℕ → List Operand → Res State
 newLine m H k n ws = do
   (us, vs) ← operands (objectsOf H) (H .frame .slots) ws

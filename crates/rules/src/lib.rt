@@ -2,6 +2,7 @@
 ghost use mathlib.Core.Path.{_≡_};
 ghost use Prim.Native.Nat.{_<_};
 ghost use lib.ListN.{getD};
+ghost use Rattle.rules.specs.Numbers as No;
 ghost use Rattle.rules.specs.Script.{rank};
 ghost use Rattle.rules.specs.Templates.{capWord};
 ghost use Rattle.rules.specs.Turn.{mayHold};
@@ -21,6 +22,13 @@ pub enum Cap {
     Iso,
     Local,
     Unsafe,
+}
+
+// The grounds of a permission stop (document 02, L5).
+pub enum Ground {
+    Foreign, // something local to another thread
+    Alias, // a second reference to an iso
+    Other,
 }
 
 // The mosts of a script that two scripts on one box would share (specs/Mosts has their values).
@@ -60,6 +68,17 @@ pub fn may_hold(holder: Cap, value: Cap) -> bool
     let row = cap_rank(holder);
     let column = cap_rank(value);
     HOLDS[row][column]
+}
+
+// The number of a stop on this ground.
+pub fn ground_number(g: Ground) -> u16
+    ensures { λ r. ⌜ r ≡ No.permission g ⌝ }
+{
+    match g {
+        Ground::Foreign => numbers::FOREIGN,
+        Ground::Alias => numbers::ALIAS,
+        Ground::Other => numbers::PERMISSION,
+    }
 }
 
 // "K is one of the words".

@@ -26,12 +26,8 @@ pub const NO_FIELD: u16 = 11;
 pub const NO_METHOD: u16 = 12;
 // a channel where an object is wanted, or an object where a channel is
 pub const WRONG_THING: u16 = 13;
-// the grounds of a permission stop: something local to another thread; a second reference to an iso; any other
-pub const FOREIGN: u16 = 14;
-
-pub const ALIAS: u16 = 14;
-
-pub const OTHER: u16 = 14;
+// the capabilities do not allow it, on another ground than 19 or 20
+pub const PERMISSION: u16 = 14;
 // capability not K
 pub const CAST: u16 = 15;
 // objects, threads or frames used up
@@ -40,3 +36,7 @@ pub const USED_UP: u16 = 16;
 pub const NO_THREAD: u16 = 17;
 // document 02, L2: no accepted text reads to this table
 pub const NO_SCRIPT: u16 = 18;
+// document 02, L5: a second reference to an iso
+pub const ALIAS: u16 = 19;
+// something local to another thread
+pub const FOREIGN: u16 = 20;

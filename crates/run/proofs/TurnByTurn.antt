@@ -31,7 +31,7 @@ use Rattle.checks.proofs.Standing.{frame-is}
 use Rattle.turn.proofs.Located as Place
 use Rattle.turn.proofs.Located.{no-frames, no-frame-waits, turn-performs, went-moves}
 use Rattle.checks.specs.declared.lines.Step.{Step}
-use Rattle.checks.specs.declared.lines.Step.the-variants.{Next, Stay, Turned, Waits, NoValue, NoField, NoMethod, WrongThing, Foreign, Alias, Other, WrongCap, UsedUp}
+use Rattle.checks.specs.declared.lines.Step.the-variants.{Next, Stay, Turned, Waits, NoValue, NoField, NoMethod, WrongThing, Forbidden, WrongCap, UsedUp}
 use Rattle.run.specs.declared.playing.Played.the-variants.{Through, Stopped}
 use Rattle.turn.specs.Performed.{StandsAt, Went, to-next, to-same, Performed, moved, waited, stopped, Loaded, PerformsHere}
 use Rattle.run.specs.Played.{Plays}
@@ -186,18 +186,16 @@ module _ {t : ℕ} {f : Frame} {fs : List Frame} {s rest : List ℕ} where
   has-stopped {k = k} (stopped {k = n} is) stops = let same : n ≡ k = cc in (ap stop same, refl)
 
 -- the steps past the fourth stop
-pub other-steps-stop : (r : Step) → OneOf (4 ∷ 5 ∷ 6 ∷ 7 ∷ 8 ∷ 9 ∷ 10 ∷ 11 ∷ 12 ∷ []) (tagOf the-type r) → resultOf r ≡ stop (stopNumber (resultOf r))
-other-steps-stop Next one = absurd (miss (4 ∷ 5 ∷ 6 ∷ 7 ∷ 8 ∷ 9 ∷ 10 ∷ 11 ∷ 12 ∷ []) 0 tt one)
-other-steps-stop Stay one = absurd (miss (4 ∷ 5 ∷ 6 ∷ 7 ∷ 8 ∷ 9 ∷ 10 ∷ 11 ∷ 12 ∷ []) 1 tt one)
-other-steps-stop Turned one = absurd (miss (4 ∷ 5 ∷ 6 ∷ 7 ∷ 8 ∷ 9 ∷ 10 ∷ 11 ∷ 12 ∷ []) 2 tt one)
-other-steps-stop Waits one = absurd (miss (4 ∷ 5 ∷ 6 ∷ 7 ∷ 8 ∷ 9 ∷ 10 ∷ 11 ∷ 12 ∷ []) 3 tt one)
+pub other-steps-stop : (r : Step) → OneOf (4 ∷ 5 ∷ 6 ∷ 7 ∷ 8 ∷ 9 ∷ 10 ∷ []) (tagOf the-type r) → resultOf r ≡ stop (stopNumber (resultOf r))
+other-steps-stop Next one = absurd (miss (4 ∷ 5 ∷ 6 ∷ 7 ∷ 8 ∷ 9 ∷ 10 ∷ []) 0 tt one)
+other-steps-stop Stay one = absurd (miss (4 ∷ 5 ∷ 6 ∷ 7 ∷ 8 ∷ 9 ∷ 10 ∷ []) 1 tt one)
+other-steps-stop Turned one = absurd (miss (4 ∷ 5 ∷ 6 ∷ 7 ∷ 8 ∷ 9 ∷ 10 ∷ []) 2 tt one)
+other-steps-stop Waits one = absurd (miss (4 ∷ 5 ∷ 6 ∷ 7 ∷ 8 ∷ 9 ∷ 10 ∷ []) 3 tt one)
 other-steps-stop NoValue one = refl
 other-steps-stop NoField one = refl
 other-steps-stop NoMethod one = refl
 other-steps-stop WrongThing one = refl
-other-steps-stop Foreign one = refl
-other-steps-stop Alias one = refl
-other-steps-stop Other one = refl
+other-steps-stop (Forbidden g) one = refl
 other-steps-stop WrongCap one = refl
 other-steps-stop UsedUp one = refl
 

@@ -22,7 +22,7 @@ use Rattle.rules.proofs.TableWords.{slot-of-word}
 use Rattle.table.specs.declared.state.Here.{Here}
 use Rattle.table.specs.State.{Held}
 use Rattle.checks.specs.declared.lines.Step as C
-use Rattle.checks.specs.declared.lines.Step.the-variants.{Next, Stay, Turned, Waits, NoValue, NoField, NoMethod, WrongThing, Foreign, Alias, Other, WrongCap, UsedUp}
+use Rattle.checks.specs.declared.lines.Step.the-variants.{Next, Stay, Turned, Waits, NoValue, NoField, NoMethod, WrongThing, Forbidden, WrongCap, UsedUp}
 use Rattle.checks.specs.Checked.{resultOf, outcomeOf, passed, isPass, hereAt, Stand}
 use Rattle.checks.proofs.CheckLaws.{no-both}
 use Rattle.checks.proofs.Standing.{fits-here}
@@ -40,9 +40,7 @@ only-waits NoValue e = impossible cc
 only-waits NoField e = impossible cc
 only-waits NoMethod e = impossible cc
 only-waits WrongThing e = impossible cc
-only-waits Foreign e = impossible cc
-only-waits Alias e = impossible cc
-only-waits Other e = impossible cc
+only-waits (Forbidden g) e = impossible cc
 only-waits WrongCap e = impossible cc
 only-waits UsedUp e = impossible cc
 

@@ -53,7 +53,7 @@ pub fn value_line(s: &mut [u16], h: Here, w: u16) -> Step
     Step::Next
 }
 
-// "field: target slot absent 10; a channel 13; no such field 11; target local to another thread 14; field holds an iso 14."
+// "field: target slot absent 10; a channel 13; no such field 11; target local to another thread 20; field holds an iso 19."
 pub fn field_line(s: &mut [u16], h: Here, i: u16, j: u16) -> Step
     requires { ⌜ (8192 ≤ length (now s)) × Placed h ⌝ }
     ensures { λ r. ⌜ Performs Always (now (s .entry)) h (bind (field i j)) r (now (s .exit)) ⌝ }
@@ -67,11 +67,11 @@ pub fn field_line(s: &mut [u16], h: Here, i: u16, j: u16) -> Step
             if checks::is_absent(v) {
                 return Step::NoField;
             }
-            if checks::is_foreign(s, h.thread, n) {
-                return Step::Foreign;
-            }
-            if checks::is_iso_object(s, v) {
-                return Step::Alias;
+            let foreign = checks::is_foreign(s, h.thread, n);
+            let alias = checks::is_iso_object(s, v);
+            let k = checks::permission_check(foreign, alias, false);
+            if !checks::passes(k) {
+                return k;
             }
             table::give_field(s, h, n, j % 4);
             Step::Next
@@ -106,7 +106,7 @@ pub fn swap_line(s: &mut [u16], h: Here, i: u16, j: u16, w: u16) -> Step
     }
 }
 
-// "call: target absent 10; a channel 13; no such method 12; target local to another thread 14; frames used up 16. The new frame holds target and
+// "call: target absent 10; a channel 13; no such method 12; target local to another thread 20; frames used up 16. The new frame holds target and
 // value; the caller's slot keeps the target."
 pub fn call_line(p: &[u16], s: &mut [u16], h: Here, i: u16, j: u16, w: u16) -> Step
     requires { ⌜ (8192 ≤ length (now p)) × (8192 ≤ length (now s)) × Placed h × (i < 256) ⌝ }
@@ -125,8 +125,9 @@ pub fn call_line(p: &[u16], s: &mut [u16], h: Here, i: u16, j: u16, w: u16) -> S
             if m == 0 {
                 return Step::NoMethod;
             }
-            if checks::is_foreign(s, h.thread, n) {
-                return Step::Foreign;
+            let k = checks::permission_check(checks::is_foreign(s, h.thread, n), false, false);
+            if !checks::passes(k) {
+                return k;
             }
             if 15 <= h.depth {
                 return Step::UsedUp;

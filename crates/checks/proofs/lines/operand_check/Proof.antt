@@ -1,7 +1,6 @@
 -- `checks::lines::operand_check` meets its contract: each way out is one of the rule's, with the slot's value as read.
-use mathlib.Core.Path.{sym, _∙_}
 use Rattle.table.proofs.StateReads.{object-in-table}
-use Rattle.checks.proofs.OperandChecks.{operand-absent, operand-channel, operand-taken, operand-alias, operand-read}
+use Rattle.checks.proofs.OperandChecks.{operand-absent, operand-channel, operand-taken, operand-read}
 use borrow.Author.Needs.{needs}
 use Rattle.checks.proofs.lines.operand_check.Statement.{statement}
 use Rattle.checks.proofs.lines.operand_check.Tie as tie
@@ -32,23 +31,20 @@ cap-requires c κs = (search needs, object-in-table _ _ (c .before .before .v .g
 is-iso-requires : tie.Need-is-iso-requires
 is-iso-requires c κs = search needs
 
+permission-check-requires : tie.Need-permission-check-requires
+permission-check-requires c κs = search needs
+
 returns-2 : tie.Need-returns-2
-returns-2 c =
-    let arm = c .before .before .before .before .before in
-    operand-alias _ (arm .before .before .before .slot-of .ensures .0) (arm .before .before .slot .ensures .1) (arm .v .given .1)
-    (c .before .before .before .if1 .left) (c .before .before .cap .ensures .1) (sym (c .before .is-iso .ensures) ∙ c .if2 .taken)
+returns-2 c = operand-absent _ (c .before .before .before .slot-of .ensures .0) (c .before .before .slot .ensures .1) (c .enum-told .given .1)
 
 returns-3 : tie.Need-returns-3
-returns-3 c = operand-absent _ (c .before .before .before .slot-of .ensures .0) (c .before .before .slot .ensures .1) (c .enum-told .given .1)
+returns-3 c = operand-channel _ (c .before .before .before .slot-of .ensures .0) (c .before .before .slot .ensures .1) (c .enum-told2 .given .1)
 
 returns-4 : tie.Need-returns-4
-returns-4 c = operand-channel _ (c .before .before .before .slot-of .ensures .0) (c .before .before .slot .ensures .1) (c .enum-told2 .given .1)
-
-returns-5 : tie.Need-returns-5
-returns-5 c =
+returns-4 c =
     let arm = c .before .before .before .before .before in
     operand-read _ (arm .before .before .before .slot-of .ensures .0) (arm .before .before .slot .ensures .1) (arm .v .given .1)
-    (c .before .before .before .if1 .left) (c .before .before .cap .ensures .1) (sym (c .before .is-iso .ensures) ∙ c .if2 .left)
+    (c .before .before .before .if1 .left) (c .before .before .cap .ensures .1) (c .before .is-iso .ensures) (c .permission-check .ensures)
 
 pub operand-check-spec : {M : Type 1} → statement M
 operand-check-spec =
@@ -62,7 +58,7 @@ operand-check-spec =
     returns
     cap-requires
     is-iso-requires
+    permission-check-requires
     returns-2
     returns-3
-    returns-4
-    returns-5)
+    returns-4)

@@ -1,8 +1,10 @@
 -- `turn::lines::call_line` meets its contract: each way out is one of the rule's; where it passes the frame is pushed, then the operand's slot is left.
+use native.Mathlib.Omega.{arith}
 use borrow.Author.Tests.{not-true, not-false}
 use mathlib.Core.Path.{refl, sym, _∙_}
 use Rattle.table.proofs.StateReads.{object-in-table}
-use Rattle.checks.proofs.CallChecks.{call-no-operand, call-no-target, call-of-channel, call-no-method, call-foreign, call-used-up, call-passes}
+use Rattle.checks.proofs.CheckLaws.{passed-is-ok}
+use Rattle.checks.proofs.CallChecks.{call-no-operand, call-no-target, call-of-channel, call-no-method, call-forbidden, call-used-up, call-passes}
 use Rattle.turn.proofs.Steps.{line-halts, line-moves}
 use Rattle.turn.proofs.CallLines.{call-answers, call-writes}
 use borrow.Author.Needs.{needs}
@@ -51,29 +53,40 @@ returns-2 c =
 is-foreign-requires : tie.Need-is-foreign-requires
 is-foreign-requires c κs = (search needs, object-in-table _ _ (c .before .before .before .before .before .x .given .1) (c .before .before .before .before .before .before .before .seen .ensures .0))
 
+permission-check-requires : tie.Need-permission-check-requires
+permission-check-requires c κs = search needs
+
+passes-requires-2 : tie.Need-passes-requires-2
+passes-requires-2 c κs = search needs
+
 same-length-3 : tie.Need-same-length-3
 same-length-3 c = search needs
 
 returns-3 : tie.Need-returns-3
 returns-3 c =
-    let at-if2 = c .before .before .before in
+    let asked = c .before .before in
+    let at-if2 = asked .before .before .before in
     let at-x = at-if2 .before .before .before .before in
     let at-if1 = at-x .before .before .before .before in
-    line-halts (call-answers _ _ _ (call-foreign _ _ _ (at-if1 .before .before .operand-check .ensures) (sym (at-if1 .before .passes .ensures) ∙ not-false _ (at-if1 .if1 .left))
-    (at-x .before .before .seen .ensures .1) (at-x .x .given .1) (at-if2 .before .method-item .ensures) (at-if2 .if2 .left) (c .before .is-foreign .ensures) (c .if3 .taken))) refl
+    let fails = sym (c .before .passes2 .ensures) ∙ not-true _ (c .if3 .taken) in
+    line-halts (call-answers _ _ _ (call-forbidden _ _ _ (at-if1 .before .before .operand-check .ensures) (sym (at-if1 .before .passes .ensures) ∙ not-false _ (at-if1 .if1 .left))
+    (at-x .before .before .seen .ensures .1) (at-x .x .given .1) (at-if2 .before .method-item .ensures) (at-if2 .if2 .left) (asked .before .is-foreign .ensures) (asked .permission-check .ensures)
+    fails)) fails
 
 same-length-4 : tie.Need-same-length-4
 same-length-4 c = search needs
 
 returns-4 : tie.Need-returns-4
 returns-4 c =
-    let at-is-foreign = c .before .before .before in
+    let at-if3 = c .before .before in
+    let asked = at-if3 .before .before in
+    let at-is-foreign = asked .before in
     let at-method-item = at-is-foreign .before .before .before in
     let at-x = at-method-item .before .before .before in
     let at-if1 = at-x .before .before .before .before in
     line-halts (call-answers _ _ _ (call-used-up _ _ _ (at-if1 .before .before .operand-check .ensures) (sym (at-if1 .before .passes .ensures) ∙ not-false _ (at-if1 .if1 .left))
     (at-x .before .before .seen .ensures .1) (at-x .x .given .1) (at-method-item .method-item .ensures) (at-is-foreign .before .before .if2 .left) (at-is-foreign .is-foreign .ensures)
-    (c .before .before .if3 .left) (c .if4 .taken))) refl
+    (passed-is-ok _ (asked .permission-check .ensures) (sym (at-if3 .before .passes2 .ensures) ∙ not-false _ (at-if3 .if3 .left))) (c .if4 .taken))) refl
 
 sub-push-frame : tie.Need-sub-push-frame
 sub-push-frame c = search needs
@@ -82,10 +95,15 @@ slot-of-requires : tie.Need-slot-of-requires
 slot-of-requires c κs = search needs
 
 push-frame-requires : tie.Need-push-frame-requires
-push-frame-requires c κs = search needs
+push-frame-requires c κs =
+    let at-pre = c .before .before .before .before .before .before .before .before .before .before .before .before .before .before .before .before .before .before .before .before .before .before .before in
+    (at-pre .pre .1, at-pre .pre .2, omega (arith, c .before .before .if4 .left), search needs, search needs)
 
 leave-requires : tie.Need-leave-requires
-leave-requires c κs = search needs
+leave-requires c κs =
+    let at-push-frame = c .before .before .before in
+    let at-pre = at-push-frame .before .before .before .before .before .before .before .before .before .before .before .before .before .before .before .before .before .before .before .before .before .before .before .before in
+    (omega (arith, at-push-frame .push-frame .kept .0, at-pre .pre .1), at-pre .pre .2)
 
 same-length-5 : tie.Need-same-length-5
 same-length-5 c = search needs
@@ -112,13 +130,15 @@ returns-7 : tie.Need-returns-7
 returns-7 c =
     let at-push-frame = c .before .before .before .before .before .before in
     let at-if4 = at-push-frame .before .before .before in
-    let at-is-foreign = at-if4 .before .before .before in
+    let at-if3 = at-if4 .before .before in
+    let asked = at-if3 .before .before in
+    let at-is-foreign = asked .before in
     let at-method-item = at-is-foreign .before .before .before in
     let at-x = at-method-item .before .before .before in
     let at-if1 = at-x .before .before .before .before in
     line-moves (call-answers _ _ _ (call-passes _ _ _ (at-if1 .before .before .operand-check .ensures) (sym (at-if1 .before .passes .ensures) ∙ not-false _ (at-if1 .if1 .left))
     (at-x .before .before .seen .ensures .1) (at-x .x .given .1) (at-method-item .method-item .ensures) (at-is-foreign .before .before .if2 .left) (at-is-foreign .is-foreign .ensures)
-    (at-if4 .before .before .if3 .left) (at-if4 .if4 .left))) refl
+    (passed-is-ok _ (asked .permission-check .ensures) (sym (at-if3 .before .passes2 .ensures) ∙ not-false _ (at-if3 .if3 .left))) (at-if4 .if4 .left))) refl
     (call-writes _ _ _ (at-x .before .before .seen .ensures .1) (at-x .x .given .1) (at-method-item .method-item .ensures) (at-push-frame .before .slot-of .ensures .0)
     (at-push-frame .push-frame .ensures) (c .before .before .leave .ensures))
 
@@ -138,6 +158,8 @@ call-line-spec =
     same-length-2
     returns-2
     is-foreign-requires
+    permission-check-requires
+    passes-requires-2
     same-length-3
     returns-3
     same-length-4
