@@ -22,7 +22,7 @@ enum { BLOCK_STARTS = 8 }; /* the word of the program table where the blocks' fi
 static const char *const end_words[] = {[BOX_FINISHED] = "finished", [BOX_STUCK] = "stuck", [BOX_OPEN] = "open"};
 static const char *const number_words[] = {
     "", "overlong", "stray byte", "malformed", "over count", "unbound", "self taken", "unfinished", "dangling", "short table", "absent",
-    "no field", "no method", "wrong thing", "permission", "cast", "used up", "no thread", "no script",
+    "no field", "no method", "wrong thing", "permission", "cast", "used up", "no thread", "no script", "alias", "foreign",
 };
 
 /* What is lent to the box. Text and turns have room for one more than the most, so that the box itself refuses what is too long. */

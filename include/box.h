@@ -56,9 +56,11 @@ extern "C" {
 #define BOX_NO_FIELD 11    /* no such field */
 #define BOX_NO_METHOD 12   /* no such method */
 #define BOX_WRONG_THING 13 /* a channel where an object is wanted, or an object where a channel is */
-#define BOX_PERMISSION 14  /* the capabilities do not allow it */
+#define BOX_PERMISSION 14  /* the capabilities do not allow it, on another ground than 19 or 20 */
 #define BOX_CAST 15        /* capability not K */
 #define BOX_USED_UP 16     /* objects, threads or frames used up */
+#define BOX_ALIAS 19       /* a second reference to an iso: a read of one, or of a field that holds one */
+#define BOX_FOREIGN 20     /* something local to another thread: the target, or a value for a new object or for a local */
 
 /* A refusal of the report alone; the run was made. */
 #define BOX_NO_THREAD 17 /* report on a thread never started */

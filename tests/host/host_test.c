@@ -170,6 +170,9 @@ static void answers(const char *name, const char *text, const char *turns, size_
 #define CASE_E KIND "(thread)\n(let (new iso 0))\n(give (take 1))\n"
 #define CASE_I "(thread)\n(let (spawn 1))\n(let (recv 1))\n(give (read 1))\n(thread)\n(give (read 0))\n"
 #define IN_THREAD(lets) KIND "(thread)\n(let (new imm 0))\n" lets "(give (read 1))\n"
+/* Thread 1 does the let, at its line 2 and turn 7, with an unsafe object in slot 1 and in slot 2 thread 0's local, whose field holds an iso. */
+#define FOREIGN(let) KIND "(kind (fields 1) (does))\n(thread)\n(let (spawn 1))\n(let (new iso 0))\n(let (new local 1 (take 2)))\n" \
+    "(let (new unsafe 1 (read 3)))\n(let (send 1 (read 4)))\n(give (read 1))\n(thread)\n(let (recv 0))\n(let (field 1 0))\n" let "(give (read 1))\n"
 
 static const char zero_turns[MOST_TURNS + 1];
 
@@ -198,11 +201,11 @@ static void constants(void)
     static const int numbers[] = {
         BOX_OVERLONG, BOX_STRAY_BYTE, BOX_MALFORMED, BOX_OVER_COUNT, BOX_UNBOUND, BOX_SELF_TAKEN, BOX_UNFINISHED, BOX_DANGLING, BOX_SHORT_TABLE,
         BOX_ABSENT, BOX_NO_FIELD, BOX_NO_METHOD, BOX_WRONG_THING, BOX_PERMISSION, BOX_CAST, BOX_USED_UP, BOX_NO_THREAD,
-        BOX_NO_SCRIPT,
+        BOX_NO_SCRIPT, BOX_ALIAS, BOX_FOREIGN,
     };
     for (int n = 0; n < 5; n++)
         check(ends[n] == n, "the header's end %d", n);
-    for (int n = 0; n < 18; n++)
+    for (int n = 0; n < 20; n++)
         check(numbers[n] == n + 1, "the header's number %d", n + 1);
     check(BOX_TABLE_BYTES == TABLE && BOX_LIST_BYTES == LIST && BOX_SCRIPT_BYTES == SCRIPT, "the header's lengths");
     check(BOX_TEXT_MOST == MOST_TEXT && BOX_TURNS_MOST == MOST_TURNS, "the header's mosts");
@@ -265,10 +268,15 @@ static void runs(void)
     answers("11", IN_THREAD("(let (field 1 0))\n"), "\0\0", 2, (struct answer){STOPPED, 11, 0, 0, 1, 1});
     answers("12", IN_THREAD("(let (call 1 0 (read 1)))\n"), "\0\0", 2, (struct answer){STOPPED, 12, 0, 0, 1, 1});
     answers("13", IN_THREAD("(let (recv 1))\n"), "\0\0", 2, (struct answer){STOPPED, 13, 0, 0, 1, 1});
-    answers("14", CASE_D, "\0\0", 2, (struct answer){STOPPED, 14, 0, 0, 1, 1});
+    answers("14", KIND "(kind (fields 1) (does))\n(thread)\n(let (new iso 0))\n(let (new imm 1 (take 1)))\n(give (read 2))\n", "\0\0", 2,
+            (struct answer){STOPPED, 14, 0, 0, 1, 1});
     answers("15", IN_THREAD("(let (cast iso (read 1)))\n"), "\0\0", 2, (struct answer){STOPPED, 15, 0, 0, 1, 1});
     answers("16", "(kind (fields 0) (does 1))\n(thread)\n(let (new imm 0))\n(let (call 1 0 (read 1)))\n(give (read 1))\n"
                   "(method)\n(let (call 0 0 (read 1)))\n(give (read 1))\n", zero_turns, 17, (struct answer){STOPPED, 16, 0, 1, 0, 16});
+    answers("19", CASE_D, "\0\0", 2, (struct answer){STOPPED, 19, 0, 0, 1, 1});
+    answers("20 before 19", FOREIGN("(let (field 2 0))\n"), "\0\0\0\0\0\1\1\1", 8, (struct answer){STOPPED, 20, 1, 1, 2, 7});
+    answers("20 before 14, swap", FOREIGN("(let (swap 2 0 (read 1)))\n"), "\0\0\0\0\0\1\1\1", 8, (struct answer){STOPPED, 20, 1, 1, 2, 7});
+    answers("20 before 14, new", FOREIGN("(let (new iso 1 (read 2)))\n"), "\0\0\0\0\0\1\1\1", 8, (struct answer){STOPPED, 20, 1, 1, 2, 7});
 }
 
 /* ---- Refusals ---- */

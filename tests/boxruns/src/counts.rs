@@ -9,7 +9,7 @@ const ENDS: [&str; 3] = ["finished", "stuck", "open"];
 #[derive(Clone, Debug, Default, PartialEq, Eq)]
 pub struct Counts {
     pub ended: [u64; ENDS.len()],
-    pub numbers: [u64; USED_UP as usize + 1],
+    pub numbers: [u64; FOREIGN as usize + 1],
     pub stripped: u64,
     pub stopped_alone: u64,
 }
@@ -36,11 +36,11 @@ impl Counts {
         self.stopped_alone += other.stopped_alone;
     }
 
-    /// Every number but 9 and 17: boxrun lends tables of its own, which are never short, and it makes no report.
+    /// Every refusal but 9, since boxrun lends tables of its own, which are never short; and every stop.
     pub fn rows(&self) -> Vec<(String, u64)> {
         let ends = ENDS.iter().map(|end| format!("end {}", end));
         let mut rows: Vec<(String, u64)> = ends.zip(self.ended).collect();
-        for number in (OVERLONG..=USED_UP).filter(|number| *number != SHORT_TABLE) {
+        for number in (OVERLONG..SHORT_TABLE).chain(STOPS) {
             let word = if number < ABSENT {
                 "refused"
             } else {

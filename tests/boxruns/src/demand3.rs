@@ -1,12 +1,12 @@
 //! Demand 3, on printed runs: the guarded script and the stripped one, on the same turns.
 
-use second::numbers::{CAST, PERMISSION};
+use second::numbers;
 
 use crate::printed::{Answer, Printed};
 
 pub fn by_guard(answer: &Answer) -> bool {
     match answer {
-        Answer::Stopped { number, .. } => *number == PERMISSION || *number == CAST,
+        Answer::Stopped { number, .. } => numbers::by_guard(*number),
         _ => false,
     }
 }
@@ -108,10 +108,18 @@ mod tests {
 
     #[test]
     fn a_guard_stops_the_guarded_run_alone() {
-        let stop = printed("(stopped 14 0 0 1 1)\n");
+        let stop = printed("(stopped 19 0 0 1 1)\n");
         let (before, whole) = (printed("(end open 1)\n"), printed("(end finished 2)\n"));
         assert!(stopped_alone(&stop, &before, &whole).is_ok());
         assert!(stopped_alone(&stop, &printed("(stopped 10 0 0 1 1)\n"), &whole).is_err());
-        assert!(stopped_alone(&stop, &before, &printed("(stopped 15 0 0 1 2)\n")).is_err());
+        for number in [14, 15, 19, 20] {
+            let guard = printed(&format!("(stopped {} 0 0 1 2)\n", number));
+            assert!(by_guard(&guard.answer), "{}", number);
+            assert!(stopped_alone(&stop, &before, &guard).is_err(), "{}", number);
+        }
+        for number in [10, 11, 12, 13, 16, 17, 18, 21] {
+            let other = printed(&format!("(stopped {} 0 0 1 2)\n", number));
+            assert!(!by_guard(&other.answer), "{}", number);
+        }
     }
 }

@@ -60,7 +60,7 @@ fn cases_a_to_i() -> Vec<Fixed> {
         fixed("B", "", "", "(refused 7 0)"),
         fixed("C", SMALL, " 0", "(stopped 10 0 0 0 0)"),
         fixed("C, no turns", SMALL, "", "(end open 0)"),
-        fixed("D", &d("iso"), " 0 0", "(stopped 14 0 0 1 1)"),
+        fixed("D", &d("iso"), " 0 0", "(stopped 19 0 0 1 1)"),
         fixed("D, stripped", &d("unsafe"), " 0 0", "(end finished 2)"),
         fixed(
             "E",
@@ -117,7 +117,7 @@ fn case_j() -> Vec<Fixed> {
     ]
 }
 
-/// Every number but 9 and 17; 16 for frames and threads, as case J has it for objects.
+/// Every number that boxrun can show and that the cases do not; 16 for frames and threads, as case J has it for objects.
 fn numbers() -> Vec<Fixed> {
     let imm = |expr: &str| lets(&["(new imm 0)", expr], "(read 1)");
     let down = "(kind (fields 0) (does 1))\n(thread)\n(let (new imm 0))\n(let (call 1 0 (read 1)))\n(give (read 1))\n\
@@ -170,6 +170,36 @@ fn numbers() -> Vec<Fixed> {
             "(stopped 16 1 0 0 15)",
         ),
     ]
+}
+
+/// Document 02, L5: lines whose permission check has one ground or two. Thread 1 does the let, with an unsafe object in slot 1, thread 0's
+/// local, whose field holds an iso, in slot 2, and an iso object of its own in slot 3.
+fn grounds() -> Vec<Fixed> {
+    let script = |expr: &str| {
+        format!(
+            "{}(kind (fields 1) (does 2))\n(thread)\n(let (spawn 1))\n(let (new iso 0))\n(let (new local 1 (take 2)))\n\
+             (let (new unsafe 1 (read 3)))\n(let (send 1 (read 4)))\n(give (read 1))\n(thread)\n(let (recv 0))\n(let (field 1 0))\n\
+             (let (new iso 0))\n(let {})\n(give (read 0))\n(method)\n(give (read 1))\n",
+            KIND, expr
+        )
+    };
+    [
+        (20, "(field 2 0)"),
+        (20, "(swap 2 0 (read 1))"),
+        (20, "(new iso 1 (read 2))"),
+        (20, "(call 2 0 (read 1))"),
+        (19, "(swap 2 0 (read 3))"),
+        (19, "(call 2 0 (read 3))"),
+        (14, "(new imm 1 (take 3))"),
+        (14, "(send 0 (read 2))"),
+    ]
+    .into_iter()
+    .map(|(number, expr)| {
+        let first_line = format!("(stopped {} 1 1 3 8)", number);
+        let name = format!("{} {}", number, expr);
+        fixed(&name, &script(expr), " 0 0 0 0 0 1 1 1 1", &first_line)
+    })
+    .collect()
 }
 
 #[rustfmt::skip]
@@ -318,6 +348,7 @@ pub fn all() -> Vec<Fixed> {
     let mut all = cases_a_to_i();
     all.extend(case_j());
     all.extend(numbers());
+    all.extend(grounds());
     all.extend(turns_lines());
     all.extend(long_inputs());
     all

@@ -20,7 +20,7 @@ const ENDS: usize = 3;
 #[derive(Clone, Debug, Default, PartialEq, Eq)]
 pub struct Answers {
     pub ended: [u64; ENDS],
-    pub numbers: [u64; USED_UP as usize + 1],
+    pub numbers: [u64; FOREIGN as usize + 1],
 }
 
 const END_NAMES: [&str; ENDS] = ["finished", "stuck", "open"];
@@ -29,7 +29,7 @@ impl Answers {
     pub fn rows(&self) -> Vec<(String, u64)> {
         let ends = END_NAMES.iter().map(|name| name.to_string());
         let mut rows: Vec<(String, u64)> = ends.zip(self.ended).collect();
-        for number in OVERLONG..=USED_UP {
+        for number in (OVERLONG..=SHORT_TABLE).chain(STOPS) {
             let word = if number < ABSENT {
                 "refused"
             } else {
@@ -222,7 +222,7 @@ fn both(lent: &Lent, counts: &mut Counts) -> Result<(), String> {
     let stripped = one(&other, strip)?;
     counts.answers.add(&stripped.answer);
     match guarded.answer {
-        Ok((End::Stopped(stop), _)) if stop.number == PERMISSION || stop.number == CAST => {
+        Ok((End::Stopped(stop), _)) if by_guard(stop.number) => {
             counts.guarded_alone += 1;
             Ok(())
         }

@@ -1,5 +1,6 @@
 //! What a turn would do, decided without writing anything: idle, wait, stop, or move with one
-//! action. The checks of each line form stand in the order of document 01, "Machine".
+//! action. The checks of each line form stand in the order of document 01, "Machine", with 19 and
+//! 20 where document 02, L5, puts them.
 
 use crate::numbers::*;
 use crate::script::{Cap, Expr, Mode, Operand, Program};
@@ -156,12 +157,12 @@ impl<'a> Turn<'a> {
         }
     }
 
-    /// operand: absent 10; a read of an iso object 14.
+    /// operand: absent 10; a read of an iso object 19.
     fn operand(&mut self, operand: &Operand) -> Result<Value, Halt> {
         let value = self.slot(operand.slot);
         stop_if(value == Value::Absent, ABSENT)?;
         match operand.mode {
-            Mode::Read => stop_if(self.is_iso(value), PERMISSION)?,
+            Mode::Read => stop_if(self.is_iso(value), ALIAS)?,
             Mode::Take => self.taken |= 1 << operand.slot,
         }
         Ok(value)
@@ -202,32 +203,31 @@ impl<'a> Turn<'a> {
     }
 
     /// field: target slot absent 10; a channel 13; no such field 11; target local to another thread
-    /// 14; field holds an iso 14.
+    /// 20; field holds an iso 19.
     fn field(&self, target: u8, field: u8) -> Result<Action, Halt> {
         let (_, object) = self.target_object(target)?;
         let value = match object.fields.get(usize::from(field)) {
             Some(value) => *value,
             None => return stop(NO_FIELD),
         };
-        stop_if(self.is_foreign(object), PERMISSION)?;
-        stop_if(self.is_iso(value), PERMISSION)?;
+        stop_if(self.is_foreign(object), FOREIGN)?;
+        stop_if(self.is_iso(value), ALIAS)?;
         Ok(Action::Fill(value))
     }
 
     /// swap: target absent 10; target a channel 13; value a channel 13; no such field 11; target
-    /// imm, or local to another thread, or value above the target, or both local with other
-    /// creators, 14.
+    /// local to another thread, or both local with other creators, 20; target imm, or value above
+    /// the target, 14.
     fn swap(&mut self, target: u8, field: u8, operand: &Operand) -> Result<Action, Halt> {
         let value = self.operand(operand)?;
         let (number, holder) = self.target_object(target)?;
         let (_, held) = self.object(value)?;
         stop_if(usize::from(field) >= holder.fields.len(), NO_FIELD)?;
         let both_local = held.cap == Cap::Local && holder.cap == Cap::Local;
-        let forbidden = holder.cap == Cap::Imm
-            || self.is_foreign(holder)
-            || held.cap.above(holder.cap)
-            || (both_local && held.creator != holder.creator);
-        stop_if(forbidden, PERMISSION)?;
+        let apart = both_local && held.creator != holder.creator;
+        stop_if(self.is_foreign(holder) || apart, FOREIGN)?;
+        let above = held.cap.above(holder.cap);
+        stop_if(holder.cap == Cap::Imm || above, PERMISSION)?;
         Ok(Action::Store {
             object: number,
             field,
@@ -235,7 +235,7 @@ impl<'a> Turn<'a> {
         })
     }
 
-    /// call: target absent 10; a channel 13; no such method 12; target local to another thread 14;
+    /// call: target absent 10; a channel 13; no such method 12; target local to another thread 20;
     /// frames used up 16.
     fn call(&mut self, target: u8, method: u8, operand: &Operand) -> Result<Action, Halt> {
         let value = self.operand(operand)?;
@@ -245,7 +245,7 @@ impl<'a> Turn<'a> {
             Some(block) => *block,
             None => return stop(NO_METHOD),
         };
-        stop_if(self.is_foreign(object), PERMISSION)?;
+        stop_if(self.is_foreign(object), FOREIGN)?;
         let frames = self.state.threads[usize::from(self.thread)].frames.len();
         stop_if(frames >= MOST_FRAMES, USED_UP)?;
         Ok(Action::Enter {
@@ -255,8 +255,8 @@ impl<'a> Turn<'a> {
         })
     }
 
-    /// new: any value a channel 13; any value above K, or local with another creator, 14; objects
-    /// used up 16.
+    /// new: any value a channel 13; any value local with another creator 20; any value above K 14;
+    /// objects used up 16.
     fn new_object(&mut self, cap: Cap, kind: u8, operands: &[Operand]) -> Result<Action, Halt> {
         let mut values = Values {
             all: [Value::Absent; MOST_OPERANDS],
@@ -271,7 +271,11 @@ impl<'a> Turn<'a> {
         }
         for value in values.as_slice() {
             let (_, held) = self.object(*value)?;
-            stop_if(held.cap.above(cap) || self.is_foreign(held), PERMISSION)?;
+            stop_if(self.is_foreign(held), FOREIGN)?;
+        }
+        for value in values.as_slice() {
+            let (_, held) = self.object(*value)?;
+            stop_if(held.cap.above(cap), PERMISSION)?;
         }
         stop_if(self.state.objects.len() >= MOST_OBJECTS, USED_UP)?;
         Ok(Action::Make { cap, kind, values })

@@ -4,7 +4,7 @@
 use crate::generate;
 use crate::input::accepted;
 use crate::machine::{end, End, Machine, Outcome, Stop};
-use crate::numbers::{CAST, PERMISSION};
+use crate::numbers::{by_guard, ALIAS, CAST, FOREIGN, PERMISSION};
 use crate::script::Program;
 use crate::stripped::{erase, strip};
 
@@ -109,7 +109,7 @@ impl<'a> Pair<'a> {
 /// The two last sentences of demand 3, which are about the stops of the whole list.
 fn check_stops(guarded: Option<Stopped>, stripped: Option<Stopped>) -> Result<(), String> {
     if let Some(first) = guarded {
-        if !by_guard(first.stop) && stripped != Some(first) {
+        if !by_guard(first.stop.number) && stripped != Some(first) {
             return Err(format!(
                 "{:?} of the guarded run, {:?} of the other",
                 first, stripped
@@ -120,7 +120,7 @@ fn check_stops(guarded: Option<Stopped>, stripped: Option<Stopped>) -> Result<()
         Some(second) => second,
         None => return Ok(()),
     };
-    if by_guard(second.stop) {
+    if by_guard(second.stop.number) {
         return Err(format!(
             "the stripped run stopped for permission or cast: {:?}",
             second
@@ -129,7 +129,7 @@ fn check_stops(guarded: Option<Stopped>, stripped: Option<Stopped>) -> Result<()
     let allowed = match guarded {
         Some(first) => {
             let same = first.place == second.place && first.stop.number == second.stop.number;
-            same || (first.place <= second.place && by_guard(first.stop))
+            same || (first.place <= second.place && by_guard(first.stop.number))
         }
         None => false,
     };
@@ -143,16 +143,13 @@ fn check_stops(guarded: Option<Stopped>, stripped: Option<Stopped>) -> Result<()
     }
 }
 
-/// "Permission is 14 and cast is 15."
-fn by_guard(stop: Stop) -> bool {
-    stop.number == PERMISSION || stop.number == CAST
-}
-
 /// Counts over many runs in which demand 3 held.
 #[derive(Clone, Copy, Debug, Default, PartialEq, Eq)]
 pub struct Counts {
     pub runs: usize,
     pub compared: usize,
+    pub guarded_by_foreign: usize,
+    pub guarded_by_alias: usize,
     pub guarded_by_permission: usize,
     pub guarded_by_cast: usize,
     pub guarded_by_others: usize,
@@ -169,6 +166,8 @@ impl Counts {
         self.compared += facts.compared;
         if let Some(first) = facts.guarded {
             match first.stop.number {
+                FOREIGN => self.guarded_by_foreign += 1,
+                ALIAS => self.guarded_by_alias += 1,
                 PERMISSION => self.guarded_by_permission += 1,
                 CAST => self.guarded_by_cast += 1,
                 _ => self.guarded_by_others += 1,
@@ -192,6 +191,8 @@ impl Counts {
         vec![
             ("runs", self.runs),
             ("states compared", self.compared),
+            ("guarded stopped by foreign", self.guarded_by_foreign),
+            ("guarded stopped by alias", self.guarded_by_alias),
             ("guarded stopped by permission", self.guarded_by_permission),
             ("guarded stopped by cast", self.guarded_by_cast),
             ("guarded stopped by others", self.guarded_by_others),

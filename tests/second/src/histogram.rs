@@ -56,6 +56,8 @@ const ROWS: &[&str] = &[
     "stopped 16 objects",
     "stopped 16 threads",
     "stopped 16 frames",
+    "stopped 19",
+    "stopped 20",
     "end finished",
     "end stuck",
     "end open",
@@ -238,6 +240,8 @@ fn stopped_row(stop: Stop, line: Line) -> &'static str {
         WRONG_THING => "stopped 13",
         PERMISSION => "stopped 14",
         CAST => "stopped 15",
+        ALIAS => "stopped 19",
+        FOREIGN => "stopped 20",
         _ => match line {
             Line::Let {
                 expr: Expr::New { .. },

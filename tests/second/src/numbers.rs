@@ -18,6 +18,21 @@ pub const CAST: u8 = 15;
 pub const USED_UP: u8 = 16;
 pub const NO_THREAD: u8 = 17;
 pub const NO_SCRIPT: u8 = 18;
+pub const ALIAS: u8 = 19;
+pub const FOREIGN: u8 = 20;
+
+/// The numbers of stops.
+pub const STOPS: [u8; 9] = [
+    ABSENT,
+    NO_FIELD,
+    NO_METHOD,
+    WRONG_THING,
+    PERMISSION,
+    CAST,
+    USED_UP,
+    ALIAS,
+    FOREIGN,
+];
 
 pub const MOST_TEXT: usize = 16_384;
 pub const MOST_TURNS: usize = 32_768;
@@ -41,6 +56,11 @@ pub const MOST_FRAMES: usize = 16;
 
 pub const TABLE_WORDS: usize = 8_192;
 pub const LIST_WORDS: usize = 256;
+
+/// "The stripped-script rule now counts 14, 15, 19 and 20 as permission or cast."
+pub fn by_guard(number: u8) -> bool {
+    matches!(number, PERMISSION | CAST | ALIAS | FOREIGN)
+}
 
 /// A text, list or table that is turned away: the number of the reason and its place.
 #[derive(Clone, Copy, Debug, PartialEq, Eq)]

@@ -53,7 +53,7 @@ fn case_d(give: &str) -> String {
 #[test]
 fn case_d_read_of_an_iso_stops() {
     let script = case_d("(give (read 1))");
-    assert_eq!(answer(&script, "0 0"), "(stopped 14 0 0 1 1)");
+    assert_eq!(answer(&script, "0 0"), "(stopped 19 0 0 1 1)");
     assert_eq!(answer_stripped(&script, "0 0"), "(end finished 2)");
 }
 

@@ -369,6 +369,6 @@ fn a_stripped_run_may_stop_later() {
     let facts = check(&program(&script), &[0; 5]).unwrap();
     let place =
         |stopped: Option<second::demand3::Stopped>| stopped.map(|s| (s.place, s.stop.number));
-    assert_eq!(place(facts.guarded), Some((1, 14)));
+    assert_eq!(place(facts.guarded), Some((1, 19)));
     assert_eq!(place(facts.stripped), Some((2, 11)));
 }

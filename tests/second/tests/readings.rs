@@ -93,6 +93,6 @@ fn a_swap_stores_a_foreign_local_and_a_new_stops() {
     );
     assert_eq!(
         answer(&script("(let (new unsafe 1 (read 2)))"), turns),
-        "(stopped 14 1 1 4 8)"
+        "(stopped 20 1 1 4 8)"
     );
 }

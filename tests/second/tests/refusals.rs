@@ -648,7 +648,7 @@ fn order_of_8_is_by_line() {
     );
 }
 
-/// Thread 1, in the method's block 2, stops at line 1 with each of 10 to 16.
+/// Thread 1, in the method's block 2, stops at line 1.
 fn stopping(line: &str, method_0: &str) -> String {
     text(&[
         "(kind (fields 0) (does 2))",
@@ -668,15 +668,16 @@ fn stopping(line: &str, method_0: &str) -> String {
 }
 
 #[test]
-fn numbers_10_to_16_with_thread_block_and_line() {
+fn stops_with_thread_block_and_line() {
     let turns = "0 1 1 1 1";
     let cases = [
         (10, "(let (read 1))", "(let (take 1))"),
         (11, "(let (field 0 0))", "(let (read 1))"),
         (12, "(let (call 0 1 (read 1)))", "(let (read 1))"),
         (13, "(let (field 1 0))", "(let (read 1))"),
-        (14, "(let (read 2))", "(let (new iso 0))"),
+        (14, "(let (send 1 (read 2)))", "(let (new local 0))"),
         (15, "(let (cast local (read 2)))", "(let (new imm 0))"),
+        (19, "(let (read 2))", "(let (new iso 0))"),
     ];
     for (number, line, before) in cases {
         let expected = format!("(stopped {} 1 2 1 4)", number);

@@ -31,6 +31,13 @@ fn beside_a_foreign_local(lets: &[&str]) -> String {
     format!("{}{}{}{}", KINDS, first, METHOD, second)
 }
 
+/// The same, but the local holds an iso object.
+fn beside_a_foreign_iso(lets: &[&str]) -> String {
+    beside_a_foreign_local(lets)
+        .replacen("(new imm 0)", "(new iso 0)", 1)
+        .replacen("(new local 1 (read 2))", "(new local 1 (take 2))", 1)
+}
+
 /// Thread 1 does the lets, with its channel full of thread 0's message.
 fn beside_a_full_channel(lets: &[&str]) -> String {
     let first =
@@ -81,6 +88,11 @@ fn foreign_stops(lets: &[&str]) -> u8 {
     last_let_stops(&script, &foreign_turns(lets.len()), lets.len() + 1)
 }
 
+fn foreign_iso_stops(lets: &[&str]) -> u8 {
+    let script = beside_a_foreign_iso(lets);
+    last_let_stops(&script, &foreign_turns(lets.len()), lets.len() + 1)
+}
+
 fn foreign_moves(lets: &[&str]) -> bool {
     let run = run_of(&beside_a_foreign_local(lets), &foreign_turns(lets.len()));
     run.moves as usize == FIVE_THEN_TWO.len() + lets.len()
@@ -105,7 +117,7 @@ fn operand_checks() {
     assert_eq!(stops(&["(read 0)"]), 10);
     assert_eq!(stops(&["(take 0)"]), 10);
     assert_eq!(stops(&["(new imm 0)", "(take 1)", "(read 1)"]), 10);
-    assert_eq!(stops(&["(new iso 0)", "(read 1)"]), 14);
+    assert_eq!(stops(&["(new iso 0)", "(read 1)"]), 19);
     assert!(moves(&["(new iso 0)", "(take 1)"]));
     for cap in ["imm", "local", "unsafe"] {
         let new = format!("(new {} 0)", cap);
@@ -130,18 +142,18 @@ fn operand_checks_of_every_form() {
         let number = |last: &str| stops(&lets(last).iter().map(String::as_str).collect::<Vec<_>>());
         assert_eq!(number(&with("(read 0)")), 10, "{}", form);
         assert_eq!(number(&with("(take 1)")), 10, "{}", form);
-        assert_eq!(number(&with("(read 3)")), 14, "{}", form);
+        assert_eq!(number(&with("(read 3)")), 19, "{}", form);
     }
     assert_eq!(
         stops(&["(spawn 2)", "(new iso 0)", "(send 1 (read 2))"]),
-        14
+        19
     );
     assert_eq!(stops(&["(spawn 2)", "(send 1 (read 0))"]), 10);
     let give = |value: &str| {
         alone(&["(new iso 0)"]).replacen("(give (read 0))", &format!("(give {})", value), 1)
     };
     assert_eq!(answer(&give("(read 0)"), "0 0"), "(stopped 10 0 0 1 1)");
-    assert_eq!(answer(&give("(read 1)"), "0 0"), "(stopped 14 0 0 1 1)");
+    assert_eq!(answer(&give("(read 1)"), "0 0"), "(stopped 19 0 0 1 1)");
     assert_eq!(answer(&give("(take 1)"), "0 0"), "(end finished 2)");
 }
 
@@ -169,7 +181,7 @@ fn each_operand_sees_what_the_earlier_ones_took() {
 fn operands_go_left_to_right() {
     assert_eq!(
         stops(&["(new iso 0)", "(new unsafe 2 (read 1) (read 0))"]),
-        14
+        19
     );
     assert_eq!(
         stops(&["(new iso 0)", "(new unsafe 2 (read 0) (read 1))"]),
@@ -184,7 +196,7 @@ fn operands_come_before_the_target() {
         "(call 0 0 (read 1))",
         "(send 0 (read 1))",
     ] {
-        assert_eq!(stops(&["(new iso 0)", form]), 14, "{}", form);
+        assert_eq!(stops(&["(new iso 0)", form]), 19, "{}", form);
     }
     for form in ["(swap 1 0 (read 0))", "(call 1 0 (read 0))"] {
         assert_eq!(stops(&["(spawn 2)", form]), 10, "{}", form);
@@ -213,16 +225,52 @@ fn field_checks_in_order() {
         11
     );
     assert_eq!(foreign_stops(&["(field 2 1)"]), 11);
-    assert_eq!(foreign_stops(&["(field 2 0)"]), 14);
+    assert_eq!(foreign_stops(&["(field 2 0)"]), 20);
     for holder in ["iso", "local", "unsafe"] {
         let new = format!("(new {} 1 (take 1))", holder);
         assert_eq!(
             stops(&["(new iso 0)", &new, "(field 2 0)"]),
-            14,
+            19,
             "{}",
             holder
         );
     }
+}
+
+/// Document 02, L5: "20 goes before 19 and 19 before 14 within one line's permission check".
+#[test]
+fn a_foreign_field_that_holds_an_iso_is_20() {
+    assert_eq!(foreign_iso_stops(&["(field 2 0)"]), 20);
+}
+
+#[test]
+fn a_swap_into_a_foreign_local_of_what_is_above_it_is_20() {
+    assert_eq!(foreign_stops(&["(swap 2 0 (read 1))"]), 20);
+    assert_eq!(
+        foreign_stops(&["(new unsafe 0)", "(swap 2 0 (take 3))"]),
+        20
+    );
+}
+
+/// One value is both, and one of two is either, in both orders.
+#[test]
+fn a_new_with_a_foreign_value_and_one_above_is_20() {
+    assert_eq!(foreign_stops(&["(new imm 1 (read 2))"]), 20);
+    assert_eq!(foreign_stops(&["(new iso 1 (read 2))"]), 20);
+    assert_eq!(foreign_stops(&["(new local 2 (read 1) (read 2))"]), 20);
+    assert_eq!(foreign_stops(&["(new local 2 (read 2) (read 1))"]), 20);
+    assert_eq!(foreign_stops(&["(new local 1 (read 1))"]), 14);
+}
+
+/// "Operands still go first": a read of an iso is 19 where the target or another value is foreign, and where the iso is above K.
+#[test]
+fn operands_come_before_the_permission_check() {
+    let reads = |form: &str| foreign_stops(&["(new iso 0)", form]);
+    assert_eq!(reads("(swap 2 0 (read 3))"), 19);
+    assert_eq!(reads("(call 2 0 (read 3))"), 19);
+    assert_eq!(reads("(new local 2 (read 2) (read 3))"), 19);
+    assert_eq!(reads("(new imm 1 (read 3))"), 19);
+    assert_eq!(reads("(new imm 1 (take 3))"), 14);
 }
 
 #[test]
@@ -269,7 +317,7 @@ fn swap_checks_in_order() {
         11
     );
     assert_eq!(foreign_stops(&["(new imm 0)", "(swap 2 1 (read 3))"]), 11);
-    assert_eq!(foreign_stops(&["(new imm 0)", "(swap 2 0 (read 3))"]), 14);
+    assert_eq!(foreign_stops(&["(new imm 0)", "(swap 2 0 (read 3))"]), 20);
 }
 
 /// "Target imm, or value above the target."
@@ -310,7 +358,7 @@ fn swap_of_locals_with_other_creators() {
         "(new local 1 (read 3))",
         "(swap 4 0 (read 2))",
     ];
-    assert_eq!(foreign_stops(&own_local), 14);
+    assert_eq!(foreign_stops(&own_local), 20);
     let own_unsafe = [
         "(new imm 0)",
         "(new unsafe 1 (read 3))",
@@ -359,7 +407,7 @@ fn call_checks_in_order() {
         12
     );
     assert_eq!(foreign_stops(&["(call 2 1 (read 1))"]), 12);
-    assert_eq!(foreign_stops(&["(call 2 0 (read 1))"]), 14);
+    assert_eq!(foreign_stops(&["(call 2 0 (read 1))"]), 20);
     assert!(moves(&[
         "(new imm 0)",
         "(new local 1 (read 1))",
@@ -446,7 +494,7 @@ fn call_permission_comes_before_frames_used_up() {
         line: 1,
     };
     let foreign = run_of(&sixteen_frames("local"), &turns);
-    assert_eq!(foreign.end, End::Stopped(stop(14)));
+    assert_eq!(foreign.end, End::Stopped(stop(20)));
     assert_eq!(foreign.state.threads[1].frames.len(), 16);
     let free = run_of(&sixteen_frames("unsafe"), &turns);
     assert_eq!(free.end, End::Stopped(stop(16)));
@@ -515,8 +563,8 @@ fn new_checks_in_order() {
         ]),
         14
     );
-    assert_eq!(foreign_stops(&["(new unsafe 1 (read 2))"]), 14);
-    assert_eq!(foreign_stops(&["(new local 1 (read 2))"]), 14);
+    assert_eq!(foreign_stops(&["(new unsafe 1 (read 2))"]), 20);
+    assert_eq!(foreign_stops(&["(new local 1 (read 2))"]), 20);
     assert!(moves(&[
         "(new local 0)",
         "(new local 1 (read 1))",
@@ -589,8 +637,8 @@ fn cast_checks() {
             }
         }
     }
-    assert_eq!(stops(&["(new iso 0)", "(cast imm (read 1))"]), 14);
-    assert_eq!(stops(&["(new iso 0)", "(cast iso (read 1))"]), 14);
+    assert_eq!(stops(&["(new iso 0)", "(cast imm (read 1))"]), 19);
+    assert_eq!(stops(&["(new iso 0)", "(cast iso (read 1))"]), 19);
     for cap in Cap::ALL {
         assert_eq!(
             stops(&["(spawn 2)", &format!("(cast {} (read 1))", cap.word())]),
@@ -673,7 +721,7 @@ fn send_checks_in_order() {
     );
     assert_eq!(full_stops(&["(send 0 (read 0))"]), 13);
     assert_eq!(full_stops(&["(new local 0)", "(send 0 (read 1))"]), 14);
-    assert_eq!(full_stops(&["(new iso 0)", "(send 0 (read 1))"]), 14);
+    assert_eq!(full_stops(&["(new iso 0)", "(send 0 (read 1))"]), 19);
     assert_eq!(foreign_stops(&["(send 0 (read 2))"]), 14);
     for cap in ["imm", "iso", "unsafe"] {
         assert!(
