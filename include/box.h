@@ -97,7 +97,7 @@ uint16_t box_write(const uint8_t *program, size_t program_len,
  *   turns     the turns, lent to be read: a byte is the number of the thread whose turn it is
  *   program   the program table, at least BOX_TABLE_BYTES
  *   state     the state table, at least BOX_TABLE_BYTES
- *   number    gets the number of the stop (10 to 16) or of the refusal (1 to 9)
+ *   number    gets the number of the stop (10 to 16, 19 or 20) or of the refusal (1 to 9)
  *   thread    gets the thread of the stop
  *   block     gets the block of the stop
  *   line      gets the line of the stop, from 0 after the block's opener; or of the refusal, as box_read says it

@@ -1,4 +1,4 @@
-// The types that the definitions (specs/) share with the code, who may hold whom, and the words of K.
+// The types that the definitions (specs/) share with the code, who may hold whom, the numbers of grounds, and the words of K.
 ghost use mathlib.Core.Path.{_≡_};
 ghost use Prim.Native.Nat.{_<_};
 ghost use lib.ListN.{getD};

@@ -262,7 +262,8 @@ fn a_new_with_a_foreign_value_and_one_above_is_20() {
     assert_eq!(foreign_stops(&["(new local 1 (read 1))"]), 14);
 }
 
-/// "Operands still go first": a read of an iso is 19 where the target or another value is foreign, and where the iso is above K.
+/// "Operands still go first": a read of an iso is 19 where the target or another value is foreign,
+/// and where the iso is above K.
 #[test]
 fn operands_come_before_the_permission_check() {
     let reads = |form: &str| foreign_stops(&["(new iso 0)", form]);
