@@ -14,7 +14,7 @@ use Rattle.rules.specs.Script.{Program}
 use Rattle.rules.specs.State.{Frame, State, objectAt, channelAt, slotAt}
 use Rattle.rules.specs.Tables.{operandOf}
 use Rattle.rules.specs.Turn.{ok, isAbsent, operand, leftBy}
-use Rattle.rules.specs.Fits.{InRange, IsObject}
+use Rattle.rules.specs.Fits.{InRange, IsObject, Fits}
 use Rattle.rules.proofs.ListLaws.{every-map, every-get}
 use Rattle.rules.proofs.Keeps.{HereFits, here-fits, is-object-more, object-in-range, slot-range, object-fits, channel-fits}
 use Rattle.table.specs.declared.state.Here.{Here}
@@ -64,6 +64,15 @@ field-in o j {S} has = record {
   in-table = every-get InTable (objectAt (S .objects) o .fields) j Absent tt (every-map object-in-table (objectAt (S .objects) o .fields) (has .fields));
 }
 
+-- an object of a state of a run
+pub made-fielded : {P : Program} {n : ℕ} {S : State} → Fits mosts P n S → (o : ℕ) → o < length (S .objects) → Fielded o S
+made-fielded {S = S} fits o there =
+    record {
+      made = there;
+      few = object-fits fits o there .few;
+      fields = every-map (is-object-more (fits .few-objects)) (objectAt (S .objects) o .fields) (object-fits fits o there .fields);
+    }
+
 -- ---- Where a thread stands
 
 module _ {s : List ℕ} {h : Here} {P : Program} {n : ℕ} {S : State} {f : Frame} {fs : List Frame} {rest : List ℕ} (st : Stand s h P n S f fs rest) where
@@ -98,12 +107,7 @@ module _ {s : List ℕ} {h : Here} {P : Program} {n : ℕ} {S : State} {f : Fram
 
   -- what an object holds
   pub fielded : (o : ℕ) → o < length (S .objects) → Fielded o S
-  fielded o there =
-      record {
-        made = there;
-        few = object-fits (st .fits) o there .few;
-        fields = every-map (is-object-more (st .fits .few-objects)) (objectAt (S .objects) o .fields) (object-fits (st .fits) o there .fields);
-      }
+  fielded = made-fielded (st .fits)
 
   pub field-in-objects : (o j : ℕ) → o < length (S .objects) → InObjects (slotAt (objectAt (S .objects) o .fields) j) S
   unfolding slotAt

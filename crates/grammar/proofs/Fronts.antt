@@ -2,7 +2,7 @@
 -- that decodes fits whatever follows it. Only one form can fit, and a few bytes tell which.
 use Prim.{Unit}
 use Prim.Native.Nat.{ℕ, zero, suc, _+_, _/_, _%_, _<_, _≤_, suc-le-suc}
-use native.Mathlib.Nat.{le-of-suc-le-suc, not-suc-le-zero}
+use native.Mathlib.Nat.{le-add-right, not-le-of-lt, le-of-suc-le-suc, not-suc-le-zero}
 use native.Mathlib.Omega.{arith}
 use mathlib.Core.Path.{_≡_, refl, sym, ap, subst, _∙_}
 use mathlib.Core.Bool.{Bool, true, false, not, _&&_, cond, false≢true}
@@ -17,7 +17,7 @@ use Rattle.rules.specs.Numbers as No
 use Rattle.rules.specs.Lists.{any, all, Every}
 use Rattle.rules.specs.Text.{bytes, lf, allowed, stray, lines, join}
 use Rattle.rules.specs.Script.{Operand, reads, takes, Form, opens, thread}
-use Rattle.rules.specs.Templates.{Taken, took, unfit, _>>=_, orElse, digits, digit, digitAt, decimal, printOperand, capWord, printMany, Part, character, oneNumber, oneOperand, oneCap, manyNumbers, manyOperands, Holds, fit, print, Rule, forms, ruleAt, decode, show}
+use Rattle.rules.specs.Templates.{Taken, took, unfit, _>>=_, orElse, digits, digit, digitAt, decimal, printOperand, capWord, printMany, Part, character, oneNumber, oneOperand, oneCap, manyNumbers, manyOperands, Holds, fit, print, Rule, forms, ruleAt, decode, show, scriptT}
 use Rattle.rules.specs.Reading.{Sofar, fault, formStep, lineStep}
 use Rattle.rules.proofs.ListLaws.{impossible, by-bool, and-true, all-true, every-at, every-append}
 use Rattle.rules.proofs.Printing.{says-of, Short, fit-front, fit-prints, decode-prints, join-lines}
@@ -338,3 +338,17 @@ not-up-to (suc k) n h = (not-up-to k n (λ j j<k. h j (omega arith)), h k (omega
 pub line-by-none : (s : List ℕ) (at : ℕ) (r : Line) (n : ℕ) → r .ok ≡ false → n ≡ onlyForm (drop at s) → NotUpTo (length forms) n → LineAt s at r
 line-by-none s at r n k e h =
     line-unfit s at r k (front-none (drop at s) (λ j j<n f. not-up-to-each (length forms) n j h j<n (e ∙ front-tells j (drop at s) j<n f .0)))
+
+-- ---- The line that a text in script form 2 begins with
+
+-- no shorter text begins with it
+script-length : (l : List ℕ) → 11 ≤ length (print scriptT tt ++ l)
+unfolding print
+script-length l = rw (length-append (print scriptT tt) l) (le-add-right 11 (length l))
+
+pub script-short : (l : List ℕ) → length l < 11 → fit scriptT l ≡ unfit
+script-short l h = go (fit scriptT l) refl
+  where
+    go : (x : Taken (Holds scriptT)) → fit scriptT l ≡ x → fit scriptT l ≡ unfit
+    go (took p l₁) e = absurd (not-le-of-lt h (rw (fit-prints scriptT l p l₁ e) (script-length l₁)))
+    go unfit e = e

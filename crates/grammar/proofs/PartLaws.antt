@@ -12,9 +12,10 @@ use lib.Seq.{drop-drop}
 use borrow.Author.Tests.{ltb-true, ltb-false, eqb-true, eqb-false, lt-ltb, le-leb, lt-leb, ne-eqb}
 use Rattle.rules.specs.declared.Cap.{Cap}
 use Rattle.rules.specs.declared.Cap.the-variants.{Imm, Iso, Local, Unsafe}
+use Rattle.rules.specs.Lists.{placeOf}
 use Rattle.rules.specs.Text.{bytes}
 use Rattle.rules.specs.Script.{Operand, reads, takes}
-use Rattle.rules.specs.Templates.{Taken, took, unfit, _>>=_, orElse, placeOf, digitOf, digitsAt, isNumber, decimalValue, number, operandBy, operand, capWord, capBy, capability}
+use Rattle.rules.specs.Templates.{Taken, took, unfit, _>>=_, orElse, digitOf, digitsAt, isNumber, decimalValue, number, operandBy, operand, capWord, capBy, capability}
 use Rattle.rules.specs.Tables.{operandOf}
 use Rattle.rules.proofs.ListLaws.{by-bool}
 use Rattle.grammar.specs.Words.{begins}

@@ -11,7 +11,7 @@ use lib.ListN.{length, getD, take, replicate, length-map}
 use borrow.Author.Tests.{ltb-false, le-ltb}
 use Rattle.rules.specs.Mosts as Most
 use Rattle.rules.specs.Lists.{any, pad}
-use Rattle.rules.specs.Script.{Operand, value, field, swap, call, new, cast, spawn, send, recv, bind, give, thread, method, Form, kind, opens, line}
+use Rattle.rules.specs.Script.{Operand, value, field, swap, call, new, cast, spawn, send, recv, copy, bind, give, thread, method, Form, kind, opens, line}
 use Rattle.rules.specs.Reading.{slotOf, operandsIn, targetsIn, numbersIn, slotsIn, takesFirst, over255}
 use Rattle.rules.specs.Tables.{operandItem, lineWords, row, operandOf, capOf}
 use Rattle.rules.proofs.ListLaws.{by-bool, or-false as or-false-both}
@@ -38,7 +38,7 @@ short-row r e = rw (e .1, e .2, e .3, e .4, e .5, e .6, e .7)
 
 -- where the whole row is known
 tells : {r : Line} (F : Form) → lineRow r ≡ row F → r .over ≡ overLine F → r .need ≡ past (slotsIn F) → r .own ≡ any takesFirst (operandsIn F) → Tells r F
-tells F w o n t = record { number = ap (λ (l : List ℕ). getD l 0 0) w; words = λ _. w; over = o; need = n; own = t }
+tells F w o n t = record { number = ap (λ (l : List ℕ). getD l 0 0) w; part = ap (λ (l : List ℕ). getD l 1 0) w; words = λ _. w; over = o; need = n; own = t }
 
 module _ {s : List ℕ} {at : ℕ} {before : Bool} {r : Line} where
   pub give-tells : (R : OperandRest 4 before s at r) → Tells r (line (give (R .operand)))
@@ -78,6 +78,11 @@ module _ {r : Line} where
   pub recv-tells : (s : ℕ) → lineRow r ≡ 13 ∷ s ∷ 0 ∷ 0 ∷ 0 ∷ 0 ∷ 0 ∷ 0 ∷ [] → r .over ≡ ltb Most.number s → r .need ≡ s + 1 → r .own ≡ false → Tells r (line (bind (recv s)))
   unfolding what-forms-name
   recv-tells s w o n t = tells (line (bind (recv s))) w (simp or-false o) (simp max-zero n) t
+
+  pub copy-tells : (k : ℕ) → k ≤ 3 → (s : ℕ) → lineRow r ≡ 14 ∷ k ∷ s ∷ 0 ∷ 0 ∷ 0 ∷ 0 ∷ 0 ∷ [] → r .over ≡ ltb Most.number s → r .need ≡ s + 1 → r .own ≡ false
+      → Tells r (line (bind (copy (capOf k) s)))
+  unfolding what-forms-name
+  copy-tells k h s w o n t = tells (line (bind (copy (capOf k) s))) (rw (cap-rank k h) w) (simp or-false o) (simp max-zero n) t
 
   -- with an operand, given by its word
   module _ (x : ℕ) (t : r .own ≡ eqb x 1) where
@@ -122,6 +127,7 @@ pub kind-tells : {r : Line} {x : Items} (f : ℕ) (ns : List ℕ) → Listed x (
 unfolding what-forms-name
 kind-tells {r} {x} f ns L w o n t = record {
   number = ap (λ (l : List ℕ). getD l 0 0) w;
+  part = ap (λ (l : List ℕ). getD l 1 0) w;
   words = λ h. w ∙ ap (λ (l : List ℕ). 1 ∷ f ∷ l) (ap (λ (l : List ℕ). l ++ (0 ∷ 0 ∷ [])) (L .words)
       ∙ sym (four-words (map suc ns) (listed-few L (or-false-both (ltb Most.fields f) (x .over) (sym o ∙ h) .1)) .1));
   over = o ∙ rw (L .over, length-map ns suc) (fields-over f (ltb 4 (length ns)) (any (ltb Most.number) ns));
@@ -135,6 +141,7 @@ pub new-tells : {r : Line} {x : Items} (k : ℕ) → k ≤ 3 → (n : ℕ) (ws :
 unfolding what-forms-name
 new-tells {r} {x} k h n ws L w o g t = record {
   number = ap (λ (l : List ℕ). getD l 0 0) w;
+  part = ap (λ (l : List ℕ). getD l 1 0) w ∙ sym (cap-rank k h);
   words = λ e. w ∙ rw (cap-rank k h) (ap (λ (l : List ℕ). 9 ∷ k ∷ n ∷ l) (ap (λ (l : List ℕ). l ++ (0 ∷ [])) (L .words)
       ∙ sym (four-words (map operandItem ws) (listed-few L (or-false-both (x .over) (ltb Most.number n) (sym o ∙ e) .0)) .0)));
   over = o ∙ rw (L .over, length-map ws operandItem, or-false) (or-assoc (ltb 4 (length ws)) (any (ltb Most.number) (map slotOf ws)) (ltb Most.number n));

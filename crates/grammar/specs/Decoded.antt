@@ -35,6 +35,7 @@ lineRow r = r .form ∷ r .a ∷ r .b ∷ r .c ∷ r .d ∷ r .e ∷ r .f ∷ 0 
 -- what the code keeps of a form
 pub record Tells (r : Line) (F : Form) : Type 0 where
   pub number : r .form ≡ getD (row F) 0 0
+  pub part : r .a ≡ getD (row F) 1 0
   pub words : r .over ≡ false → lineRow r ≡ row F
   pub over : r .over ≡ overLine F
   pub need : r .need ≡ past (slotsIn F)
@@ -70,7 +71,7 @@ unfoldable pub letForm : List ℕ → ℕ
 letForm l =
     cond (eqb (getD l 6 0) (code "f")) 6
     (cond (eqb (getD l 6 0) (code "n")) 9
-    (cond (eqb (getD l 6 0) (code "c")) (cond (eqb (getD l 8 0) (code "l")) 8 10)
+    (cond (eqb (getD l 6 0) (code "c")) (cond (eqb (getD l 8 0) (code "l")) 8 (cond (eqb (getD l 7 0) (code "o")) 14 10))
     (cond (eqb (getD l 6 0) (code "s")) (cond (eqb (getD l 7 0) (code "w")) 7 (cond (eqb (getD l 7 0) (code "p")) 11 12))
     (cond (eqb (getD l 6 0) (code "r")) (cond (eqb (getD l 8 0) (code "c")) 13 5) 5))))
 

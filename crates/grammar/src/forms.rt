@@ -12,9 +12,11 @@ use super::words::both;
 use super::words::byte;
 use super::words::either;
 ghost use mathlib.Core.Path.{_≡_};
-ghost use mathlib.Core.Bool.{false};
+ghost use mathlib.Core.Bool.{false, cond};
 ghost use Prim.Native.Nat.{_+_, _≤_};
+ghost use lib.Dec.{eqb};
 ghost use lib.ListN.{length, drop};
+ghost use Rattle.rules.specs.Templates.{took, unfit, fit, scriptT};
 ghost use Rattle.grammar.specs.Decoded.{FormAt, EitherFormAt, PlaceRest, letForm, onlyForm, LineAt};
 
 // A decoded line: whether it fits its form; the form's number and the parts' words, as in the table; whether the line by itself exceeds a
@@ -288,6 +290,27 @@ fn recv_at(s: &[u8], at: usize) -> Line
     l
 }
 
+// (let (copy K S))
+fn copy_at(s: &[u8], at: usize) -> Line
+    requires { ⌜ (8 ≤ length (now s)) × (length (now s) ≤ 65536) × (at ≤ length (now s)) ⌝ }
+    ensures { λ r. ⌜ FormAt 13 (now (s .entry)) at r ⌝ }
+{
+    let opened = begins_at(s, at, b"(let (");
+    let named = begins_at(s, at + 6, b"copy ");
+    let cap = cap_at(s, at + 11);
+    let parted = begins_at(s, cap.end, b" ");
+    let slot = number_at(s, cap.end + 1);
+    let closed = begins_at(s, slot.end, b"))\n");
+    let ok = both(
+        opened,
+        both(named, both(cap.ok, both(parted, both(slot.ok, closed)))),
+    );
+    let mut l = short_line(ok, 14, cap.word, slot.word, 0, slot.end + 3);
+    l.over = over(slot.word);
+    l.need = slot.word + 1;
+    l
+}
+
 // The number of the only form that a let can fit, by the letters of its word.
 fn let_form(s: &[u8], at: usize) -> u16
     requires { ⌜ at ≤ 65536 ⌝ }
@@ -297,7 +320,13 @@ fn let_form(s: &[u8], at: usize) -> u16
     match first {
         b'f' => 6,
         b'n' => 9,
-        b'c' => { if byte(s, at + 8) == b'l' { 8 } else { 10 } }
+        b'c' => {
+            if byte(s, at + 8) == b'l' {
+                8
+            } else {
+                if byte(s, at + 7) == b'o' { 14 } else { 10 }
+            }
+        }
         b's' => {
             let second = byte(s, at + 7);
             match second {
@@ -347,6 +376,21 @@ pub fn line_at(s: &[u8], at: usize) -> Line
         11 => spawn_at(s, at),
         12 => send_at(s, at),
         13 => recv_at(s, at),
+        14 => copy_at(s, at),
         _ => short_line(false, 0, 0, 0, 0, 0),
     }
+}
+
+// The place after the line that a text in script form 2 begins with, or 0 where it does not begin so. (That line has eleven bytes.)
+pub fn script_end(s: &[u8]) -> usize
+    requires { ⌜ length (now s) ≤ 65536 ⌝ }
+    ensures { λ r. ⌜ fit scriptT (now (s .entry)) ≡ cond (eqb r 0) unfit (took tt (drop r (now (s .entry)))) ⌝ }
+    ensures { λ r. ⌜ r ≤ length (now (s .entry)) ⌝ }
+{
+    if s.len() < 11 {
+        return 0;
+    }
+    let opened = begins_at(s, 0, b"(script");
+    let closed = begins_at(s, 7, b" 2)\n");
+    if both(opened, closed) { 11 } else { 0 }
 }

@@ -5,6 +5,7 @@ mod words;
 
 pub use forms::Line;
 pub use forms::line_at;
+pub use forms::script_end;
 pub use parts::Part;
 pub use parts::number_at;
 pub use parts::over;

@@ -13,9 +13,9 @@ use Rattle.rules.specs.Mosts as Most
 use Rattle.rules.specs.Mosts.{mosts}
 use Rattle.rules.specs.Numbers as No
 use Rattle.rules.specs.Text.{stray, lines}
-use Rattle.rules.specs.Script.{Form, Program, programOf}
-use Rattle.rules.specs.Templates.{Taken, took, unfit, decode}
-use Rattle.rules.specs.Reading.{Sofar, nothing, inPlace, overMost, over255, isUnbound, takesSelf, isOutside, Step, fault, next, formStep, lineStep, Scan, faulty, scanned, finish, withForm, onStep, scan, dangles, opened, Reading, turnedAway, accepted, link, linked, script, reading}
+use Rattle.rules.specs.Script.{Form, Edition, edition1, edition2, Program, programOf}
+use Rattle.rules.specs.Templates.{Taken, took, unfit, fit, scriptT, decode}
+use Rattle.rules.specs.Reading.{Sofar, nothing, inPlace, overMost, over255, isUnbound, takesSelf, isOutside, Step, fault, next, formStep, lineStep, Scan, faulty, scanned, finish, withForm, onStep, scan, dangles, opened, Reading, turnedAway, accepted, link, linesBefore, linked, scriptOf, headed, script, reading}
 use Rattle.rules.specs.Calls.{longText, longTurns, shortTable, readCall, runCall, reachCall}
 use Rattle.rules.proofs.ListLaws.{or-false}
 use Rattle.host.specs.Calls.{shortBytes, earlyNumber, readBytes, runBytes, reachBytes}
@@ -179,15 +179,24 @@ unfolding link
 link-at-most-9 P b n [] = tt
 link-at-most-9 P b n (F ∷ Fs) = either AtMost9 (dangles P b F) (omega arith) (link-at-most-9 P (opened F b) (suc n) Fs)
 
-linked-at-most-9 : (x : Scan) → ScanAtMost9 x → AtMost9 (linked x)
-linked-at-most-9 (faulty k n) h = h
-linked-at-most-9 (scanned Fs) h = link-at-most-9 (programOf Fs) 0 0 Fs
+linked-at-most-9 : (e : Edition) (x : Scan) → ScanAtMost9 x → AtMost9 (linked e x)
+linked-at-most-9 e (faulty k n) h = h
+linked-at-most-9 e (scanned Fs) h = link-at-most-9 (programOf e Fs) 0 (linesBefore e) Fs
+
+-- in the lines of a text of either edition
+edition-at-most-9 : (m : Mosts) (e : Edition) (text : List ℕ) → AtMost9 (scriptOf m e text)
+unfolding scriptOf
+edition-at-most-9 m e text = linked-at-most-9 e (scan m (nothing e) (linesBefore e) (lines text)) (scan-at-most-9 m (nothing e) (linesBefore e) (lines text))
+
+headed-at-most-9 : (m : Mosts) (text : List ℕ) (first : Taken (Unit {0})) → AtMost9 (headed m text first)
+headed-at-most-9 m text (took x left) = edition-at-most-9 m edition2 left
+headed-at-most-9 m text unfit = edition-at-most-9 m edition1 text
 
 reading-at-most-9 : (m : Mosts) (long short : Bool) (text : List ℕ) → AtMost9 (reading m long short text)
 unfolding reading script
 reading-at-most-9 m long short text =
     either AtMost9 long (omega arith)
-    (either AtMost9 short (omega arith) (linked-at-most-9 (scan m nothing 0 (lines text)) (scan-at-most-9 m nothing 0 (lines text))))
+    (either AtMost9 short (omega arith) (headed-at-most-9 m text (fit scriptT text)))
 
 pub reach-at-most-9 : (text turns p s l : List ℕ) → AtMost9 (reachCall mosts text turns p s l)
 unfolding reachCall

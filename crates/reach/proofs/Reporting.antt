@@ -1,13 +1,14 @@
--- The report: the numbers marked are what is reached, and in rising order they are the one list of it. Before it: 1, 9, and what the run answers.
+-- The report: the objects met are what is reached, and in rising order they are the one list of it. Before it: 1, 9, and what the run answers.
 use Prim.Native.Nat.{ℕ, _%_, _≤_, _<_}
 use native.Mathlib.Nat.{mod-eq-of-lt}
 use native.Mathlib.Omega.{arith}
 use mathlib.Core.Path.{_≡_, refl, sym, ap, _∙_, subst}
-use mathlib.Core.Bool.{Bool, true, false}
+use mathlib.Core.Bool.{Bool, true, not}
 use mathlib.Core.List.{List, [], _++_}
 use mathlib.Core.Logic.{_↔_}
+use lib.Dec.{eqb}
 use lib.ListN.{length, getD, drop, replicate, length-append}
-use borrow.Author.Tests.{lt-ltb, le-ltb}
+use borrow.Author.Tests.{eqb-true, eqb-false, lt-ltb, le-ltb}
 use Rattle.rules.specs.declared.Value.{Value}
 use Rattle.rules.specs.Mosts as Most
 use Rattle.rules.specs.Mosts.{mosts}
@@ -21,12 +22,16 @@ use Rattle.rules.specs.Run.{run}
 use Rattle.rules.specs.Tables.{programWords, stateWords}
 use Rattle.rules.specs.Reach.{count, times, ReachedFrom, roots, reachList}
 use Rattle.rules.specs.Calls.{longText, longTurns, shortTable, runCall, runAnswer, reachCall, programAfter, stateAfter, reportOn, reachReport, listWords}
-use Rattle.rules.proofs.ListLaws.{by-bool}
+use Rattle.rules.proofs.ListLaws.{by-bool, of-not}
 use Rattle.rules.proofs.Accepted.{accepted-valid, reading-accepted}
+use Rattle.rules.proofs.Counts.{times-among, times-not-among}
 use Rattle.rules.proofs.Keeps.{fits-run}
-use Rattle.rules.proofs.Walks.{walked-reached, rising-lists, roots-made, reached-range, reach-lists}
+use Rattle.rules.proofs.Walks.{walked-reached}
+use Rattle.rules.proofs.Reports.{rising-lists, roots-made, reached-range, reach-lists}
 use Rattle.rules.proofs.TableWords.{program-words-length, state-words-length}
 use Rattle.table.specs.State.{Held, Sees, Any}
+use Rattle.walk.specs.Walking.{Tally, tally}
+use Rattle.walk.proofs.Numbers.{number-met, no-number-not-met, none-numbered}
 use Rattle.turn.proofs.Located.{words-loaded}
 use Rattle.run.specs.declared.Answer.{Answer}
 use Rattle.run.specs.declared.Answer.the-variants.{Refused}
@@ -34,8 +39,7 @@ use Rattle.run.specs.Answers.{answerOf}
 use Rattle.run.proofs.AnswerTells.{IsAccepted, Made, made-is, refusal-is}
 use Rattle.reach.specs.declared.Report.{Report}
 use Rattle.reach.specs.declared.Report.the-variants as T
-use Rattle.reach.specs.Walking.{Reports, WalkedAll, WalksRoots, markedBelow, ReportsState}
-use Rattle.reach.proofs.Marks.{mark-met, no-mark-not-met, none-marked}
+use Rattle.reach.specs.Walking.{Reports, WalkedAll, WalksRoots, metBelow, ReportsState}
 
 -- ---- The report on a state
 
@@ -43,22 +47,26 @@ use Rattle.reach.proofs.Marks.{mark-met, no-mark-not-met, none-marked}
 reached-same : {os : List Object} {vs us : List Value} → ((x : ℕ) → count x vs ≡ count x us) → (x : ℕ) → ReachedFrom os vs x → ReachedFrom os us x
 reached-same same x r = record { first = r .first; held = omega (arith, same (r .first), r .held); reaches = r .reaches }
 
--- what is marked in the end is what is reached, all of it below 256: in rising order it is the one list of that
-marked-list : {P : Program} {n : ℕ} {S : State} (t : ℕ) {marks : List Bool} → Fits mosts P n S → WalkedAll S (roots P S t) [] marks
-    → markedBelow 256 marks ≡ reachList (S .objects) (roots P S t)
-marked-list {P} {n} {S} t {marks} fits w =
-    reach-lists fits t .only (markedBelow 256 marks) (rising-lists 256 (λ x. getD marks x false) (λ x. (there x, back x)) low)
+-- what is met in the end is what is reached, all of it below 256: in rising order it is the one list of that
+met-list : {P : Program} {n : ℕ} {S : State} (t : ℕ) {w : Tally} → Fits mosts P n S → WalkedAll S (roots P S t) [] w
+    → metBelow 256 (w .places) ≡ reachList (S .objects) (roots P S t)
+met-list {P} {n} {S} t {w} fits walked =
+    reach-lists fits t .only (metBelow 256 (w .places)) (rising-lists 256 (λ x. not (eqb (getD (w .places) x 0) 0)) (λ x. (there x, back x)) low)
   where
-    ends : (x : ℕ) → (1 ≤ times x (w .walked-to .out)) ↔ ReachedFrom (S .objects) (w .values) x
-    ends = walked-reached (S .objects) (w .walked-to .walked)
+    ends : (x : ℕ) → (1 ≤ times x (walked .walked-to .out)) ↔ ReachedFrom (S .objects) (walked .values) x
+    ends = walked-reached (S .objects) (walked .walked-to .walked)
 
-    there : (x : ℕ) → getD marks x false ≡ true → ReachedFrom (S .objects) (roots P S t) x
-    there x h = reached-same (w .same) x (ends x .0 (omega (arith, mark-met x (w .walked-to .marked) h)))
+    there : (x : ℕ) → not (eqb (getD (w .places) x 0) 0) ≡ true → ReachedFrom (S .objects) (roots P S t) x
+    there x h =
+        let met = number-met x (walked .walked-to .numbered) (eqb-false (getD (w .places) x 0) 0 (of-not (eqb (getD (w .places) x 0) 0) h)) in
+        reached-same (walked .same) x (ends x .0 (times-among x (walked .walked-to .out) met))
 
-    back : (x : ℕ) → ReachedFrom (S .objects) (roots P S t) x → getD marks x false ≡ true
+    back : (x : ℕ) → ReachedFrom (S .objects) (roots P S t) x → not (eqb (getD (w .places) x 0) 0) ≡ true
     back x r =
-        let met = ends x .1 (reached-same (λ y. sym (w .same y)) x r) in
-        by-bool (getD marks x false) (λ h. h) (λ h. absurd (omega (arith, no-mark-not-met x (w .walked-to .marked) h)))
+        let met = ends x .1 (reached-same (λ y. sym (walked .same y)) x r) in
+        by-bool (eqb (getD (w .places) x 0) 0)
+        (λ h. let fresh = no-number-not-met x (walked .walked-to .numbered) (eqb-true (getD (w .places) x 0) 0 h) in absurd (omega (arith, met, times-not-among x (walked .walked-to .out) fresh)))
+        (λ h. ap not h)
 
     low : (x : ℕ) → ReachedFrom (S .objects) (roots P S t) x → x < 256
     low x r = omega (arith, fits .few-objects, reached-range fits (roots P S t) (roots-made fits t) x r)
@@ -72,15 +80,15 @@ module _ {p s list : List ℕ} {t d : ℕ} (counted : Sees s Any (λ S. length (
             subst (λ (b : Bool). Reports (reportOn P S t b) list (T.Refused No.noThread 0) list) (sym (le-ltb t (length (S .threads)) few)) (record { answers = refl; leaves = refl });
       }
 
-  pub reported : {marks : List Bool} {r : ℕ} {list₁ : List ℕ} → t < d → WalksRoots p s (replicate 256 false) (t % 16) marks → r ≡ length (markedBelow 256 marks)
-      → list₁ ≡ listWords (markedBelow 256 marks) ++ drop Most.reachList list → ReportsState p s t list (T.Reached r) list₁
-  reported {marks} {r} {list₁} there walks number words =
+  pub reported : {order : List ℕ} {w : Tally} {r : ℕ} {list₁ : List ℕ} → t < d → WalksRoots p s (tally (replicate 256 0) order 0) (t % 16) w
+      → r ≡ length (metBelow 256 (w .places)) → list₁ ≡ listWords (metBelow 256 (w .places)) ++ drop Most.reachList list → ReportsState p s t list (T.Reached r) list₁
+  reported {order} {w} {r} {list₁} there walks number words =
       record {
         reports = λ P n S rest loaded held valid fits.
             let started : t < length (S .threads) = omega (arith, counted .sees S rest held tt) in
             let place : t % 16 ≡ t = mod-eq-of-lt (omega (arith, fits .few-threads)) in
-            let walked : WalkedAll S (roots P S t) [] marks = rw place at (walks .walks P n S rest [] loaded held valid fits (none-marked 256)) in
-            let is = marked-list t fits walked in
+            let walked : WalkedAll S (roots P S t) [] w = rw place at (walks .walks P n S rest [] loaded held valid fits (none-numbered 256 order)) in
+            let is = met-list t fits walked in
             subst (λ (b : Bool). Reports (reportOn P S t b) list (T.Reached r) list₁) (sym (lt-ltb t (length (S .threads)) started))
             (record {
               answers = ap T.Reached (number ∙ ap length is);

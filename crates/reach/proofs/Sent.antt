@@ -9,7 +9,7 @@ use borrow.Author.Tests.{eqb-true, eqb-false, eq-eqb, ne-eqb}
 use Rattle.rules.specs.declared.Value.{Value}
 use Rattle.rules.specs.declared.Value.the-variants.{Absent, Obj, Chan}
 use Rattle.rules.specs.Lists.{pad}
-use Rattle.rules.specs.Script.{Operand, value, field, swap, call, new, cast, spawn, send, recv, Line, bind, give, line, Program, lineAt}
+use Rattle.rules.specs.Script.{Operand, value, field, swap, call, new, cast, spawn, send, recv, copy, Line, bind, give, line, Program, lineAt}
 use Rattle.rules.specs.State.{Frame, Sender, ready, waiting, State, threadAt, channelAt, slotAt}
 use Rattle.rules.specs.Tables.{senderWord, lineWords, row}
 use Rattle.rules.specs.Reach.{messageOf, messageOn, sendTarget, putBy, inFlight}
@@ -77,6 +77,7 @@ no-send-target (bind (cast k w)) vs other = refl
 no-send-target (bind (spawn b)) vs other = refl
 no-send-target (bind (send s w)) vs other = absurd (other refl)
 no-send-target (bind (recv s)) vs other = refl
+no-send-target (bind (copy k s)) vs other = refl
 no-send-target (give w) vs other = refl
 
 send-target : {x : Line} {s : ℕ} {w : Operand} (vs : List Value) → x ≡ bind (send s w) → sendTarget x vs ≡ slotAt vs s

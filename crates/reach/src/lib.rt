@@ -3,7 +3,7 @@ mod sending;
 mod walking;
 
 use run::Answer;
-use walking::list_marked;
+use walking::list_met;
 use walking::walk_roots;
 ghost use mathlib.Core.Path.{_≡_};
 ghost use Rattle.rules.specs.Mosts.{mosts};
@@ -60,7 +60,8 @@ fn report_state(p: &[u16], s: &[u16], t: usize, list: &mut [u16]) -> Report
     if table::thread_count(s) as usize <= t {
         return Report::Refused(rules::numbers::NO_THREAD, 0);
     }
-    let mut marks = [false; 256];
-    walk_roots(p, s, &mut marks, t % 16);
-    Report::Reached(list_marked(&marks, list))
+    let mut places = [0u16; 256];
+    let mut order = [0u16; 256];
+    walk_roots(p, s, &mut places, &mut order, t % 16);
+    Report::Reached(list_met(&places, list))
 }

@@ -8,22 +8,23 @@ use mathlib.Core.List.{List, [], _∷_}
 use lib.Dec.{ltb, leb, eqb}
 use lib.ListN.{getD}
 use borrow.Author.Tests.{lt-ltb, le-ltb, leb-true, leb-false, ltb-true, ltb-false, eqb-true, ne-eqb, not-true}
+use Rattle.rules.specs.declared.Cap.{Cap}
 use Rattle.rules.specs.declared.Mosts.{Mosts}
 use Rattle.rules.specs.Mosts as Most
 use Rattle.rules.specs.Numbers as No
 use Rattle.rules.specs.Lists.{any, pad}
-use Rattle.rules.specs.Script.{Operand, Expr, value, field, swap, call, new, cast, spawn, send, recv, Line as Script-line, bind, give, Sort, thread, method, Kind, Form, kind, opens, line}
+use Rattle.rules.specs.Script.{Operand, Expr, value, field, swap, call, new, cast, spawn, send, recv, copy, Line as Script-line, bind, give, Sort, thread, method, Kind, Form, kind, opens, line, Edition, rank}
 use Rattle.rules.specs.Templates.{took}
 use Rattle.rules.specs.Tables.{lineWords, row}
 use Rattle.rules.specs.Reading as R
-use Rattle.rules.specs.Reading.{targetsIn, operandsIn, numbersIn, slotsIn, Place, outside, within, slotsFilled, isOutside, inMethod, inPlace, overMost, over255, isUnbound, takesFirst, takesSelf, oneMore, readOn, Step, fault, next, formStep}
-use Rattle.rules.proofs.ListLaws.{by-bool, or-false as or-both-false}
+use Rattle.rules.specs.Reading.{targetsIn, operandsIn, numbersIn, slotsIn, Place, outside, within, slotsFilled, isOutside, inMethod, inEdition, inPlace, overMost, over255, isUnbound, takesFirst, takesSelf, oneMore, readOn, Step, fault, next, formStep}
+use Rattle.rules.proofs.ListLaws.{by-bool, and-true, or-false as or-both-false}
 use Rattle.grammar.specs.declared.forms.Line.{Line}
 use Rattle.grammar.specs.Items.{past}
 use Rattle.grammar.specs.Decoded.{overLine, Tells}
 use Rattle.table.specs.Program.{sortNumber}
 use Rattle.reader.specs.declared.faults.Sofar.{Sofar}
-use Rattle.reader.specs.Sofar.{placeOf, soFar, fullBefore, InPlace, Tidy, Full, faultOf, Faults}
+use Rattle.reader.specs.Sofar.{placeOf, editionOf, soFar, fullBefore, InPlace, Tidy, Full, faultOf, Faults}
 
 -- ---- The number of a form
 
@@ -41,6 +42,7 @@ let-number (cast k w) = omega arith
 let-number (spawn b) = omega arith
 let-number (send s w) = omega arith
 let-number (recv s) = omega arith
+let-number (copy k s) = omega arith
 
 -- the numbers that the forms of a sort have
 abbrev pub Numbered : Form → ℕ → Type 0
@@ -112,6 +114,45 @@ is-let {n} F t h k g = go (is-line F t h k)
     go (bind e, p) = (e, p)
     go (give w, p) = absurd (g (subst (λ (X : Form). Numbered X n) p t))
 
+-- ---- Copies
+
+-- 14 is the number of a copy, and its capability is its first part
+pub is-copy : {n : ℕ} (F : Form) → n ≡ numberOf F → n ≡ 14 → (k : Cap) × (s : ℕ) × (F ≡ line (bind (copy k s)))
+unfolding row lineWords pad
+is-copy (kind K) e h = absurd (omega arith)
+is-copy (opens thread) e h = absurd (omega arith)
+is-copy (opens method) e h = absurd (omega arith)
+is-copy (line (give w)) e h = absurd (omega arith)
+is-copy (line (bind (value w))) e h = absurd (omega arith)
+is-copy (line (bind (field s f))) e h = absurd (omega arith)
+is-copy (line (bind (swap s f w))) e h = absurd (omega arith)
+is-copy (line (bind (call s i w))) e h = absurd (omega arith)
+is-copy (line (bind (new k n ws))) e h = absurd (omega arith)
+is-copy (line (bind (cast k w))) e h = absurd (omega arith)
+is-copy (line (bind (spawn b))) e h = absurd (omega arith)
+is-copy (line (bind (send s w))) e h = absurd (omega arith)
+is-copy (line (bind (recv s))) e h = absurd (omega arith)
+is-copy (line (bind (copy k s))) e h = (k, s, refl)
+
+pub copy-part : (k : Cap) (s : ℕ) → getD (row (line (bind (copy k s)))) 1 0 ≡ rank k
+unfolding row lineWords pad
+copy-part k s = refl
+
+-- every other line may be used in both editions
+pub in-both-editions : {n : ℕ} (d : Edition) (x : Script-line) → n ≡ numberOf (line x) → (n ≡ 14 → ⊥) → inEdition d x ≡ true
+unfolding row lineWords pad inEdition
+in-both-editions d (give w) e h = refl
+in-both-editions d (bind (value w)) e h = refl
+in-both-editions d (bind (field s f)) e h = refl
+in-both-editions d (bind (swap s f w)) e h = refl
+in-both-editions d (bind (call s i w)) e h = refl
+in-both-editions d (bind (new k n ws)) e h = refl
+in-both-editions d (bind (cast k w)) e h = refl
+in-both-editions d (bind (spawn b)) e h = refl
+in-both-editions d (bind (send s w)) e h = refl
+in-both-editions d (bind (recv s)) e h = refl
+in-both-editions d (bind (copy k s)) e h = absurd (h e)
+
 -- ---- The place
 
 pub place-outside : (opener filled : ℕ) → isOutside (placeOf opener filled) ≡ eqb opener 0
@@ -130,9 +171,9 @@ place-more opener filled = by-bool (eqb opener 0) (λ h. rw h) (λ h. rw h (by-b
 
 -- after a let, in a block that has a slot to spare
 pub let-goes-on : (r : Sofar) (e : Expr)
-    → soFar (record { kinds = r .kinds; blocks = r .blocks; lets = r .lets + 1; opener = r .opener; filled = r .filled + 1 }) ≡ readOn (soFar r) (line (bind e))
+    → soFar (record { second = r .second; kinds = r .kinds; blocks = r .blocks; lets = r .lets + 1; opener = r .opener; filled = r .filled + 1 }) ≡ readOn (soFar r) (line (bind e))
 unfolding readOn
-let-goes-on r e = ap (λ (p : Place). record { kinds = r .kinds; blocks = r .blocks; lets = r .lets + 1; place = p }) (place-more (r .opener) (r .filled))
+let-goes-on r e = ap (λ (p : Place). record { edition = editionOf (r .second); kinds = r .kinds; blocks = r .blocks; lets = r .lets + 1; place = p }) (place-more (r .opener) (r .filled))
 
 filled-more : (p : Place) → isOutside p ≡ false → slotsFilled (oneMore p) ≡ slotsFilled p + 1
 unfolding isOutside slotsFilled oneMore
@@ -140,12 +181,12 @@ filled-more outside h = absurd (false≢true (sym h))
 filled-more (within o n) h = refl
 
 pub tidy-let : (m : Mosts) (r : Sofar) (e : Expr) → Tidy r → inPlace (soFar r) (line (bind e)) ≡ true → fullBefore m (soFar r) (line (bind e)) ≡ false
-    → Tidy (record { kinds = r .kinds; blocks = r .blocks; lets = r .lets + 1; opener = r .opener; filled = r .filled + 1 })
+    → Tidy (record { second = r .second; kinds = r .kinds; blocks = r .blocks; lets = r .lets + 1; opener = r .opener; filled = r .filled + 1 })
 unfolding inPlace fullBefore
 tidy-let m r e tidy placed free =
     let room = leb-false Most.slots (slotsFilled (soFar r .place)) (or-both-false (leb Most.slots (slotsFilled (soFar r .place))) (leb (m .lets) (r .lets)) free .0) in
     record {
-      filled = ap slotsFilled (place-more (r .opener) (r .filled)) ∙ filled-more (soFar r .place) (not-true (isOutside (soFar r .place)) placed) ∙ ap (λ k. k + 1) (tidy .filled);
+      filled = ap slotsFilled (place-more (r .opener) (r .filled)) ∙ filled-more (soFar r .place) (not-true (isOutside (soFar r .place)) (and-true (not (isOutside (soFar r .place))) (inEdition (soFar r .edition) (bind e)) placed .0)) ∙ ap (λ k. k + 1) (tidy .filled);
       bounded = omega (arith, tidy .filled);
     }
 
@@ -223,15 +264,15 @@ fault-by m r l F tidy tells =
     (fault-of (inPlace (soFar r) F) (overLine F || fullBefore m (soFar r) F) (ltb (r .filled) (past (slotsIn F))) (eqb (r .opener) 3 && any takesFirst (operandsIn F)) F (readOn (soFar r) F))
 
 module _ {m : Mosts} {r : Sofar} {l : Line} {placed : Bool} where
-  pub faults : {full : Bool} {k : ℕ} → InPlace r (l .form) placed → Full m r (l .form) full
+  pub faults : {full : Bool} {k : ℕ} → InPlace r (l .form) (l .a) placed → Full m r (l .form) full
       → faultBy placed (l .over) full (ltb (r .filled) (l .need)) (eqb (r .opener) 3) (l .own) ≡ k → Faults m r l k
   faults p f e = record {
-    is = λ tidy F tells. sym e ∙ rw (p .is F (tells .number), f .is tidy F (tells .number)) (sym (fault-by m r l F tidy tells));
+    is = λ tidy F tells. sym e ∙ rw (p .is F (tells .number) (tells .part), f .is tidy F (tells .number)) (sym (fault-by m r l F tidy tells));
   }
 
   -- where it does not matter what was read before the line
-  pub faults-alone : {k : ℕ} → InPlace r (l .form) placed
+  pub faults-alone : {k : ℕ} → InPlace r (l .form) (l .a) placed
       → ((full : Bool) → faultBy placed (l .over) full (ltb (r .filled) (l .need)) (eqb (r .opener) 3) (l .own) ≡ k) → Faults m r l k
   faults-alone p e = record {
-    is = λ tidy F tells. sym (e (fullBefore m (soFar r) F)) ∙ rw (p .is F (tells .number)) (sym (fault-by m r l F tidy tells));
+    is = λ tidy F tells. sym (e (fullBefore m (soFar r) F)) ∙ rw (p .is F (tells .number) (tells .part)) (sym (fault-by m r l F tidy tells));
   }

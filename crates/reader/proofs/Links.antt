@@ -14,7 +14,7 @@ use Rattle.rules.specs.declared.Cap.{Cap}
 use Rattle.rules.specs.Mosts as Most
 use Rattle.rules.specs.Numbers as No
 use Rattle.rules.specs.Lists.{any, pad, Every}
-use Rattle.rules.specs.Script.{Operand, Expr, value, field, swap, call, new, cast, spawn, send, recv, bind, give, Sort, thread, method, Kind, Form, kind, opens, line, Block, noBlock, Program, blocksOf, letLines, blockLines, kindLines, linesOf, kindAt, blockAt}
+use Rattle.rules.specs.Script.{Operand, Expr, value, field, swap, call, new, cast, spawn, send, recv, copy, bind, give, Sort, thread, method, Kind, Form, kind, opens, line, Block, noBlock, Program, blocksOf, letLines, blockLines, kindLines, linesOf, kindAt, blockAt}
 use Rattle.rules.specs.Reading.{operandsIn, over255, sameSort, isSort, dangles, opened, turnedAway, accepted, link}
 use Rattle.rules.specs.Tables.{operandWord, lineWords, row}
 use Rattle.rules.proofs.ListLaws.{by-bool, or-false, every-get, every-at}
@@ -162,6 +162,7 @@ module _ (P : Program) (b : ℕ) where
   told (line (bind (spawn i))) = refl
   told (line (bind (send s w))) = refl
   told (line (bind (recv s))) = refl
+  told (line (bind (copy k s))) = refl
 
   by-number : (F : Form) (n : ℕ) → n ≡ getD (row F) 0 0 → Told n F
   by-number F n e = subst (λ m. Told m F) (sym e) (told F)

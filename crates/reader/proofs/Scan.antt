@@ -13,7 +13,7 @@ use Rattle.rules.specs.Mosts as Most
 use Rattle.rules.specs.Mosts.{mosts}
 use Rattle.rules.specs.Numbers as No
 use Rattle.rules.specs.Text.{lf, stray, lines, onLine}
-use Rattle.rules.specs.Script.{bind, give, Sort, thread, method, Form, kind, opens, line, kindsOf, blocksOf}
+use Rattle.rules.specs.Script.{bind, give, Sort, thread, method, Form, kind, opens, line, Edition, kindsOf, blocksOf}
 use Rattle.rules.specs.Templates.{took, unfit, show}
 use Rattle.rules.specs.Tables.{firstLines}
 use Rattle.rules.specs.Reading as R
@@ -26,7 +26,7 @@ use Rattle.table.specs.Program.{Filled, LineAdded, OpenerAdded}
 use Rattle.reader.specs.declared.faults.Sofar.{Sofar}
 use Rattle.reader.specs.declared.scanning.Scan.{Scan}
 use Rattle.reader.specs.declared.scanning.Scan.the-variants.{Fault, Done}
-use Rattle.reader.specs.Sofar.{soFar, fullBefore, Tidy, faultOf, Faults, GoesOn}
+use Rattle.reader.specs.Sofar.{editionOf, soFar, fullBefore, Tidy, faultOf, Faults, GoesOn}
 use Rattle.reader.specs.Scanning.{Put, Finished, Finishes, ScansTo, Scans}
 use Rattle.grammar.proofs.Fronts.{front-fits, front-unfit}
 use Rattle.reader.proofs.LineChecks.{Numbered, told, is-opener, over-most, step-goes-on}
@@ -97,14 +97,14 @@ record Tally (m : Mosts) (r : R.Sofar) (Fs : List Form) : Type 0 where
   few-blocks : r .blocks ≤ m .blocks
   few-lets : r .lets ≤ m .lets
 
-tally-none : (m : Mosts) → Tally m R.nothing []
+tally-none : (m : Mosts) (e : Edition) → Tally m (R.nothing e) []
 unfolding kindsOf blocksOf
-tally-none m = record { kinds = refl; blocks = refl; lines = refl; few-kinds = omega arith; few-blocks = omega arith; few-lets = omega arith }
+tally-none m e = record { kinds = refl; blocks = refl; lines = refl; few-kinds = omega arith; few-blocks = omega arith; few-lets = omega arith }
 
-tally-more : (m : Mosts) (p : Place) (k b l : ℕ) (Fs : List Form) (F : Form)
-    → (let r : R.Sofar = record { kinds = k; blocks = b; lets = l; place = p } in Tally m r Fs → Passed m r F → Tally m (readOn r F) (Fs ++ (F ∷ [])))
+tally-more : (m : Mosts) (d : Edition) (p : Place) (k b l : ℕ) (Fs : List Form) (F : Form)
+    → (let r : R.Sofar = record { edition = d; kinds = k; blocks = b; lets = l; place = p } in Tally m r Fs → Passed m r F → Tally m (readOn r F) (Fs ++ (F ∷ [])))
 unfolding kindsOf blocksOf inPlace isOutside overMost readOn oneMore
-tally-more m p k b l Fs (kind K) c x =
+tally-more m d p k b l Fs (kind K) c x =
     let room : k < m .kinds = leb-false _ _ (or-false₃ _ _ _ (x .in-mosts) .0) in
     record {
       kinds = omega (arith, c .kinds, kinds-more Fs (kind K));
@@ -114,7 +114,7 @@ tally-more m p k b l Fs (kind K) c x =
       few-blocks = c .few-blocks;
       few-lets = c .few-lets;
     }
-tally-more m outside k b l Fs (opens o) c x =
+tally-more m d outside k b l Fs (opens o) c x =
     let room : b < m .blocks = leb-false _ _ (x .in-mosts) in
     record {
       kinds = omega (arith, c .kinds, kinds-more Fs (opens o));
@@ -124,9 +124,9 @@ tally-more m outside k b l Fs (opens o) c x =
       few-blocks = omega arith;
       few-lets = c .few-lets;
     }
-tally-more m (within _ n) k b l Fs (opens o) c x = absurd (false≢true (x .in-place))
-tally-more m outside k b l Fs (line y) c x = absurd (false≢true (x .in-place))
-tally-more m (within o n) k b l Fs (line (give w)) c x = record {
+tally-more m d (within _ n) k b l Fs (opens o) c x = absurd (false≢true (x .in-place))
+tally-more m d outside k b l Fs (line y) c x = absurd (false≢true (x .in-place))
+tally-more m d (within o n) k b l Fs (line (give w)) c x = record {
   kinds = omega (arith, c .kinds, kinds-more Fs (line (give w)));
   blocks = omega (arith, c .blocks, blocks-more Fs (line (give w)));
   lines = omega (arith, c .lines, length-snoc Fs (line (give w)));
@@ -134,7 +134,7 @@ tally-more m (within o n) k b l Fs (line (give w)) c x = record {
   few-blocks = c .few-blocks;
   few-lets = c .few-lets;
 }
-tally-more m (within o n) k b l Fs (line (bind e)) c x =
+tally-more m d (within o n) k b l Fs (line (bind e)) c x =
     let room : l < m .lets = leb-false _ _ (or-false₃ (leb Most.slots (slotsFilled (within o n))) (leb (m .lets) l) (ltb Most.operands (length (operandsIn (line (bind e))))) (x .in-mosts) .1) in
     record {
       kinds = omega (arith, c .kinds, kinds-more Fs (line (bind e)));
@@ -206,10 +206,10 @@ pub record Bounded (m : Mosts) : Type 0 where
   pub lets : m .lets ≤ mosts .lets
 
 -- the loop: the forms read so far stand in the table, and the definition has the lines from here on still to scan
-pub record Scanning (m : Mosts) (text t₀ t : List ℕ) (r : Sofar) (n at : ℕ) : Type 0 where
+pub record Scanning (m : Mosts) (d : Edition) (text t₀ t : List ℕ) (r : Sofar) (n at : ℕ) : Type 0 where
   bounded : Bounded m
   pub forms : List Form
-  scans : R.scan m R.nothing 0 (lines text) ≡ onto forms (R.scan m (soFar r) n (lines (drop at text)))
+  scans : R.scan m (R.nothing d) 0 (lines text) ≡ onto forms (R.scan m (soFar r) n (lines (drop at text)))
   filled : (rest : List ℕ) → Filled t₀ [] [] rest → Filled t [] forms rest
   number : n ≡ length forms
   tally : Tally m (soFar r) forms
@@ -225,32 +225,32 @@ pub record Passes (m : Mosts) (text : List ℕ) (r : Sofar) (at : ℕ) (l : Line
   passed : Passed m (soFar r) F
   tally : Tally m (readOn (soFar r) F) (Fs ++ (F ∷ []))
 
-pub at-start : {m : Mosts} (text t : List ℕ) → Bounded m → Scanning m text t t (record { kinds = 0; blocks = 0; lets = 0; opener = 0; filled = 0 }) 0 0
+pub at-start : {m : Mosts} (second : Bool) (text t : List ℕ) → Bounded m → Scanning m (editionOf second) text t t (record { second = second; kinds = 0; blocks = 0; lets = 0; opener = 0; filled = 0 }) 0 0
 unfolding onto slotsFilled
-at-start {m} text t b = record {
+at-start {m} second text t b = record {
   bounded = b;
   forms = [];
   scans = refl;
   filled = λ rest h. h;
   number = refl;
-  tally = tally-none m;
+  tally = tally-none m (editionOf second);
   tidy = record { filled = refl; bounded = omega arith };
   same-length = refl;
 }
 
-module _ {m : Mosts} {text t₀ t : List ℕ} {r : Sofar} {n at : ℕ} (s : Scanning m text t₀ t r n at) where
+module _ {m : Mosts} {d : Edition} {text t₀ t : List ℕ} {r : Sofar} {n at : ℕ} (s : Scanning m d text t₀ t r n at) where
   -- where the rest of the scan is faulty, so is the whole
-  stops : {k : ℕ} → R.scan m (soFar r) n (lines (drop at text)) ≡ faulty k n → Scans m text t₀ (Fault k n) t
+  stops : {k : ℕ} → R.scan m (soFar r) n (lines (drop at text)) ≡ faulty k n → Scans m d text t₀ (Fault k n) t
   stops {k} e = record { is = λ rest h. s .scans ∙ ap (onto (s .forms)) e ∙ onto-faulty (s .forms) k n }
 
   -- no line is left
-  pub at-end : {x : Scan} → length text ≤ at → Finishes r n x → Scans m text t₀ x t
+  pub at-end : {x : Scan} → length text ≤ at → Finishes r n x → Scans m d text t₀ x t
   at-end {x} h f = record { is = λ rest t₀-filled. go rest t₀-filled x (f .is) }
     where
       ended : R.scan m (soFar r) n (lines (drop at text)) ≡ R.finish (soFar r) n
       ended = rw (drop-of-length-le text h) (scan-end m (soFar r) n)
 
-      go : (rest : List ℕ) → Filled t₀ [] [] rest → (y : Scan) → Finished (soFar r) n y → ScansTo m text y rest t
+      go : (rest : List ℕ) → Filled t₀ [] [] rest → (y : Scan) → Finished (soFar r) n y → ScansTo m d text y rest t
       go rest t₀-filled (Fault k l) e = s .scans ∙ ap (onto (s .forms)) (ended ∙ e) ∙ onto-faulty (s .forms) k l
       go rest t₀-filled (Done kinds blocks l) (e, k, b, c) = record {
         forms = s .forms;
@@ -265,7 +265,7 @@ module _ {m : Mosts} {text t₀ t : List ℕ} {r : Sofar} {n at : ℕ} (s : Scan
   module _ {l : Line} (a : LineAt text at l) where
     -- the line fits no form; a check refuses it; it passes
     pub unfit-line : {k : ℕ} → at < length text → l .ok ≡ false → k ≡ cond (stray (getD (lines (drop at text)) 0 [])) No.strayByte No.malformed
-        → Scans m text t₀ (Fault k n) t
+        → Scans m d text t₀ (Fault k n) t
     unfit-line {k} h ok e =
         let f = first-line (drop at text) (simp length-drop (omega arith)) in
         let x = f .byte ∷ f .others in
@@ -276,7 +276,7 @@ module _ {m : Mosts} {text t₀ t : List ℕ} {r : Sofar} {n at : ℕ} (s : Scan
     fitted : l .ok ≡ true → front (drop at text) ≡ took (a .form) (drop (l .end) text)
     fitted ok = a .fits ∙ rw ok
 
-    pub refused-line : {k : ℕ} → l .ok ≡ true → Faults m r l k → (k ≡ 0 → ⊥) → Scans m text t₀ (Fault k n) t
+    pub refused-line : {k : ℕ} → l .ok ≡ true → Faults m r l k → (k ≡ 0 → ⊥) → Scans m d text t₀ (Fault k n) t
     refused-line {k} ok f some =
         let b = front-fits (drop at text) (a .form) (drop (l .end) text) (fitted ok) in
         let e = f .is (s .tidy) (a .form) (a .tells ok) in
@@ -294,8 +294,15 @@ module _ {m : Mosts} {text t₀ t : List ℕ} {r : Sofar} {n at : ℕ} (s : Scan
           step = b .step m (soFar r) ∙ go;
           tells = a .tells ok;
           passed = p;
-          tally = tally-more m (soFar r .place) (r .kinds) (r .blocks) (r .lets) (s .forms) (a .form) (s .tally) p;
+          tally = tally-more m (soFar r .edition) (soFar r .place) (r .kinds) (r .blocks) (r .lets) (s .forms) (a .form) (s .tally) p;
         }
+
+  -- every line so far has a place in the table
+  pub few-lines : n ≤ 672
+  few-lines =
+      let b = s .bounded in
+      let c = s .tally in
+      omega (arith, s .number, c .lines, c .few-kinds, c .few-blocks, c .few-lets, b .kinds, b .blocks, b .lets)
 
   -- the counts fit their words
   pub small : (r .kinds ≤ 65535) × (r .blocks ≤ 65535) × (r .lets ≤ 65535) × (r .filled ≤ 255)
@@ -319,7 +326,7 @@ module _ {m : Mosts} {text t₀ t : List ℕ} {r : Sofar} {n at : ℕ} (s : Scan
         omega (arith, ap length first, simp (length-append, length-drop) at (ap length (p .begins)))
 
     pub next-line : {t′ : List ℕ} {r₁ : Sofar} → Put n (r .blocks) l t t′ → GoesOn r (l .form) r₁ → length t′ ≡ length t
-        → Scanning m text t₀ t′ r₁ (n + 1) (l .end)
+        → Scanning m d text t₀ t′ r₁ (n + 1) (l .end)
     next-line {t′} {r₁} put goes kept =
         let b = s .bounded in
         let c = p .tally in

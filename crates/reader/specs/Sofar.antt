@@ -7,7 +7,7 @@ use lib.Dec.{eqb, leb}
 use lib.ListN.{getD}
 use Rattle.rules.specs.declared.Mosts.{Mosts}
 use Rattle.rules.specs.Mosts as Most
-use Rattle.rules.specs.Script.{bind, give, thread, method, Form, kind, opens, line}
+use Rattle.rules.specs.Script.{bind, give, thread, method, Form, kind, opens, line, Edition, edition1, edition2}
 use Rattle.rules.specs.Templates.{took}
 use Rattle.rules.specs.Tables.{row}
 use Rattle.rules.specs.Reading as R
@@ -19,12 +19,16 @@ use Rattle.reader.specs.declared.faults.Sofar.{Sofar}
 abbrev pub placeOf : (opener filled : ℕ) → R.Place
 placeOf opener filled = cond (eqb opener 0) outside (cond (eqb opener 3) (within method filled) (within thread filled))
 
-abbrev pub soFar : Sofar → R.Sofar
-soFar r = record { kinds = r .kinds; blocks = r .blocks; lets = r .lets; place = placeOf (r .opener) (r .filled) }
+-- the edition, by whether the first line names the second
+abbrev pub editionOf : Bool → Edition
+editionOf second = cond second edition2 edition1
 
--- of any form with this number
-pub record InPlace (r : Sofar) (form : ℕ) (ok : Bool) : Type 0 where
-  pub is : (F : Form) → form ≡ getD (row F) 0 0 → ok ≡ inPlace (soFar r) F
+abbrev pub soFar : Sofar → R.Sofar
+soFar r = record { edition = editionOf (r .second); kinds = r .kinds; blocks = r .blocks; lets = r .lets; place = placeOf (r .opener) (r .filled) }
+
+-- of any form with this number and this first part
+pub record InPlace (r : Sofar) (form part : ℕ) (ok : Bool) : Type 0 where
+  pub is : (F : Form) → form ≡ getD (row F) 0 0 → part ≡ getD (row F) 1 0 → ok ≡ inPlace (soFar r) F
 
 -- 4, but for what the line alone decides
 unfoldable pub fullBefore : Mosts → R.Sofar → Form → Bool

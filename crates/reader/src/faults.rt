@@ -1,9 +1,14 @@
 // "then line by line 2 to 6": what has been read so far, and a decoded line after it.
+ghost use mathlib.Core.Path.{_≡_};
 ghost use Prim.Native.Nat.{_≤_};
-ghost use Rattle.reader.specs.Sofar.{InPlace, Full, Faults, GoesOn};
+ghost use Rattle.rules.specs.Reading.{mayCopy};
+ghost use Rattle.rules.specs.Tables.{capOf};
+ghost use Rattle.reader.specs.Sofar.{editionOf, InPlace, Full, Faults, GoesOn};
 
-// What has been read so far: the counts; the form of the opener of the block that is open, or 0; and how many slots that block has filled.
+// What has been read so far: whether the first line names the second edition; the counts; the form of the opener of the block that is open, or 0;
+// and how many slots that block has filled.
 pub struct Sofar {
+    pub second: bool,
     pub kinds: usize,
     pub blocks: usize,
     pub lets: usize,
@@ -11,13 +16,26 @@ pub struct Sofar {
     pub filled: u16,
 }
 
-// 3: "Kinds come before all blocks. (thread) or (method) opens a block; (let E) lines follow; (give W) closes it."
-fn in_place(r: Sofar, form: u16) -> bool
-    ensures { λ ok. ⌜ InPlace r form ok ⌝ }
+// A copy stands in the second edition, and its capability, by its word, is not iso.
+fn may_copy(second: bool, cap: u16) -> bool
+    ensures { λ ok. ⌜ ok ≡ mayCopy (editionOf second) (capOf cap) ⌝ }
+{
+    if second { cap != 1 } else { false }
+}
+
+// 3: "Kinds come before all blocks. (thread) or (method) opens a block; (let E) lines follow; (give W) closes it." And a copy where it may not be.
+fn in_place(r: Sofar, form: u16, part: u16) -> bool
+    ensures { λ ok. ⌜ InPlace r form part ok ⌝ }
 {
     match form {
         1 => r.blocks == 0,
         2 | 3 => r.opener == 0,
+        14 => {
+            if r.opener == 0 {
+                return false;
+            }
+            may_copy(r.second, part)
+        }
         _ => r.opener != 0,
     }
 }
@@ -43,7 +61,7 @@ fn is_full(m: rules::Mosts, r: Sofar, form: u16) -> bool
 pub fn fault(m: rules::Mosts, r: Sofar, l: grammar::Line) -> u16
     ensures { λ k. ⌜ Faults m r l k ⌝ }
 {
-    if !in_place(r, l.form) {
+    if !in_place(r, l.form, l.a) {
         return rules::numbers::MALFORMED;
     }
     if l.over {

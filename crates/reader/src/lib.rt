@@ -10,14 +10,33 @@ use linking::first_dangling;
 use scanning::Scan;
 use scanning::scan_lines;
 ghost use mathlib.Core.Path.{_≡_};
+ghost use Prim.Native.Nat.{_≤_};
 ghost use Rattle.rules.specs.Calls.{readCall, programAfter};
 ghost use Rattle.rules.specs.Mosts.{mosts};
+ghost use Rattle.rules.specs.Reading.{linesBefore};
+ghost use Rattle.rules.specs.Tables.{editionWord};
 ghost use Rattle.reader.specs.Answers.{answerOf};
+ghost use Rattle.reader.specs.Sofar.{editionOf};
 
 // What reading answers: the script was read; or it is turned away, with document 01's number and the line.
 pub enum Answer {
     Read,
     Refused(u16, usize),
+}
+
+// The edition's word in the table.
+fn edition_word(second: bool) -> u16
+    ensures { λ r. ⌜ r ≡ editionWord (editionOf second) ⌝ }
+{
+    if second { 2 } else { 0 }
+}
+
+// How many lines stand before those that are read: the one that names the edition.
+fn lines_before(second: bool) -> usize
+    ensures { λ r. ⌜ r ≡ linesBefore (editionOf second) ⌝ }
+    ensures { λ r. ⌜ r ≤ 1 ⌝ }
+{
+    if second { 1 } else { 0 }
 }
 
 // Reads a script into a program table. A refusal changes no word.
@@ -38,16 +57,18 @@ pub fn read(text: &[u8], table: &mut [u16]) -> Answer
         objects: 256,
         threads: 16,
     };
+    let head = grammar::script_end(text);
+    let second = head != 0;
     let mut words = [0u16; 8192];
-    let scan = scan_lines(mosts, text, &mut words);
+    let scan = scan_lines(mosts, second, &text[head..], &mut words);
     match scan {
-        Scan::Fault(number, line) => Answer::Refused(number, line),
+        Scan::Fault(number, line) => Answer::Refused(number, line + lines_before(second)),
         Scan::Done(kinds, blocks, lines) => {
             let line = first_dangling(&words, kinds, blocks, lines);
             if line < lines {
-                return Answer::Refused(rules::numbers::DANGLING, line);
+                return Answer::Refused(rules::numbers::DANGLING, line + lines_before(second));
             }
-            table::put_counts(&mut words, kinds, blocks, lines);
+            table::put_counts(&mut words, kinds, blocks, lines, edition_word(second));
             table::copy_table(table, &words);
             Answer::Read
         }

@@ -88,6 +88,7 @@ fn line_dangles(t: &[u16], kinds: usize, blocks: usize, n: usize) -> bool
         11 => !is_sort(t, blocks, table::line_word(t, n, 1) as usize, 2),
         12 => false,
         13 => false,
+        14 => false,
         _ => false,
     }
 }

@@ -10,7 +10,8 @@ ghost use Prim.Native.Nat.{_≤_, _<_};
 ghost use lib.ListN.{length, drop, getD};
 ghost use Rattle.rules.specs.Numbers as No;
 ghost use Rattle.rules.specs.Text.{allowed, stray, lines};
-ghost use Rattle.reader.specs.Scanning.{Put, Finishes, Scans};
+ghost use Rattle.reader.specs.Sofar.{editionOf};
+ghost use Rattle.reader.specs.Scanning.{Put, Finishes, scanLine, Scans};
 
 // What the lines come to: a refusal with its line; or the number of kinds, of blocks and of lines.
 pub enum Scan {
@@ -75,6 +76,7 @@ fn put_line(words: &mut [u16], n: usize, b: usize, l: grammar::Line)
 // After the last line: 7, "no block, or the last one open", or the counts.
 fn finish(r: Sofar, n: usize) -> Scan
     ensures { λ s. ⌜ Finishes r n s ⌝ }
+    ensures { λ s. ⌜ scanLine s ≡ n ⌝ }
 {
     if r.blocks == 0 {
         return Scan::Fault(rules::numbers::UNFINISHED, n);
@@ -85,12 +87,14 @@ fn finish(r: Sofar, n: usize) -> Scan
     Scan::Done(r.kinds, r.blocks, n)
 }
 
-// All lines of a text into a table that holds none yet.
-pub fn scan_lines(m: rules::Mosts, text: &[u8], words: &mut [u16]) -> Scan
+// All lines of a text of this edition into a table that holds none yet.
+pub fn scan_lines(m: rules::Mosts, second: bool, text: &[u8], words: &mut [u16]) -> Scan
     requires { ⌜ (m .kinds ≤ 32) × (m .blocks ≤ 64) × (m .lets ≤ 512) × (length (now text) ≤ 16384) × (8192 ≤ length (now words)) ⌝ }
-    ensures { λ r. ⌜ Scans m (now (text .entry)) (now (words .entry)) r (now (words .exit)) ⌝ }
+    ensures { λ r. ⌜ Scans m (editionOf second) (now (text .entry)) (now (words .entry)) r (now (words .exit)) ⌝ }
+    ensures { λ r. ⌜ scanLine r ≤ 672 ⌝ }
 {
     let mut r = Sofar {
+        second: second,
         kinds: 0,
         blocks: 0,
         lets: 0,

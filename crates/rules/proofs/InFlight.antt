@@ -23,7 +23,7 @@ use Rattle.rules.specs.Fits.{InRange, Fits}
 use Rattle.rules.specs.InFlight.{holds, WaitsOn, HasSender, Received, SendersKeep}
 use Rattle.rules.specs.Reach.{count, ReachedFrom, slotsOf, messageOf, messageOn, sendTarget, putBy, inFlight, roots}
 use Rattle.rules.proofs.ListLaws.{impossible, by-bool, of-not, length-snoc}
-use Rattle.rules.proofs.Moves.{Step, by-value, by-field, by-swap, by-call, by-new, by-cast, by-spawn, by-put, by-sent, by-recv, by-return, by-finish, moved, hereAt, MessagePut, MessageReceived, nextNumber, putMessage, emptied}
+use Rattle.rules.proofs.Moves.{Step, by-value, by-field, by-swap, by-call, by-new, by-cast, by-spawn, by-put, by-sent, by-recv, by-copy, by-return, by-finish, moved, hereAt, MessagePut, MessageReceived, nextNumber, putMessage, emptied}
 use Rattle.rules.proofs.Runs.{Later, now, then, one-turn, later, from-start}
 use Rattle.rules.proofs.Counts.{count-append}
 use Rattle.rules.proofs.OtherThreads.{Other, kept, begun, turn-other}
@@ -219,6 +219,7 @@ module _ {m : Mosts} {P : Program} {n : ℕ} (S : State) (t : ℕ) (f : Frame) (
       message-put P S t f fs frames there s w c k vs line (has-channel vs s c (left-range _ _ w (sent .gave) (here-fit .frame .slots)) (sent .target)) sent
   step-after line (by-sent s w i c gone) = quiet P S _ t _ there (λ e. refl)
   step-after line (by-recv s c got) = message-received P S t f fs frames there s c line (has-channel (f .slots) s c (here-fit .frame .slots) (got .target)) got
+  step-after line (by-copy k s i copied) = quiet P S _ t _ there (λ c. refl)
   step-after line (by-return w v vs g gs gave callers) = quiet P S _ t _ there (λ c. refl)
   step-after line (by-finish w v vs gave callers) = quiet P S _ t _ there (λ c. refl)
 
@@ -249,6 +250,7 @@ step-free {H = H} {s = r} {w = v} c i (by-sent s w j d gone) line sender target 
     let number : j ≡ i = same-number (gone .sender) sender in
     gone-not-held (H .state) c i (rw (← channel, ← number) (gone .gone))
 step-free c i (by-recv s d got) line sender target = impossible cc
+step-free c i (by-copy k s j copied) line sender target = impossible cc
 step-free c i (by-return w v vs g gs gave callers) line sender target = impossible cc
 step-free c i (by-finish w v vs gave callers) line sender target = impossible cc
 

@@ -5,7 +5,7 @@ use native.Mathlib.Nat.{add-zero, add-suc, suc-add, le-refl}
 use native.Mathlib.Numerals.{add-one}
 use mathlib.Core.Path.{_≡_, refl, sym, ap, _∙_, subst}
 use mathlib.Core.List.{List, [], _∷_, _++_, map}
-use lib.ListN.{length, getD, set, length-set}
+use lib.ListN.{length, getD, set, length-set, length-map, length-append}
 use Rattle.rules.specs.declared.Cap.{Cap}
 use Rattle.rules.specs.declared.Value.{Value}
 use Rattle.rules.specs.declared.Value.the-variants.{Absent, Obj, Chan}
@@ -15,12 +15,15 @@ use Rattle.rules.specs.Lists.{Every}
 use Rattle.rules.specs.Script.{Operand, reads, takes, Expr, Line, bind, give, Sort, thread, method, Program, noKind, noBlock, kindAt, blockAt, lineOf, lineAt}
 use Rattle.rules.specs.Reading.{firstSlots, slotOf}
 use Rattle.rules.specs.State.{Object, noObject, Frame, Sender, ready, waiting, Thread, noThread, Channel, emptyChannel, State, objectAt, threadAt, channelAt, slotAt, start}
-use Rattle.rules.specs.Turn.{Res, ok, wait, stop, Here, objectsOf, object, putThread, putObjects, putChannel, filled, withSlots, gives, setField, started, turn}
+use Rattle.rules.specs.Turn.{Res, ok, wait, stop, Here, objectsOf, object, putThread, putObjects, putChannel, filled, withSlots, gives, setField, started, renamed, copyOf, turn}
 use Rattle.rules.specs.Run.{Run, Stop, none, stopped, fresh, after, advance, runFrom, run}
 use Rattle.rules.specs.Valid.{OperandOk, IsBlock, IsKind, ExprOk, LetsOk, BlockOk, KindOk, Valid}
 use Rattle.rules.specs.Fits.{InRange, IsObject, ObjectFits, FrameFits, CallerFits, FramesFit, SenderFits, ThreadFits, ChannelFits, Fits}
-use Rattle.rules.proofs.ListLaws.{impossible, every-map, every-get, every-at, every-set, every-snoc, length-snoc}
-use Rattle.rules.proofs.Moves.{Gave, GaveAll, no-more, one-more, values-count, slots-count, FieldRead, FieldSwapped, MethodCalled, ObjectMade, MessagePut, MessageTaken, swappedObjects, calledFrame, madeObject, nextNumber, putMessage, emptied, Step, by-value, by-field, by-swap, by-call, by-new, by-cast, by-spawn, by-put, by-sent, by-recv, by-return, by-finish, hereAt, moved}
+use Rattle.rules.specs.Reach.{count, times}
+use Rattle.rules.proofs.ListLaws.{impossible, every-map, every-get, every-at, every-set, every-append, every-image, every-snoc, length-snoc}
+use Rattle.rules.proofs.Moves.{Gave, GaveAll, no-more, one-more, values-count, slots-count, FieldRead, FieldSwapped, MethodCalled, ObjectMade, MessagePut, MessageTaken, metHere, GraphCopied, swappedObjects, calledFrame, madeObject, copiedState, nextNumber, putMessage, emptied, Step, by-value, by-field, by-swap, by-call, by-new, by-cast, by-spawn, by-put, by-sent, by-recv, by-copy, by-return, by-finish, hereAt, moved}
+use Rattle.rules.proofs.Counts.{object-self, every-time, place-there}
+use Rattle.rules.proofs.Walks.{walked-values, walked-fields, walked-range, met-walked}
 
 -- ---- The lines of a valid program
 
@@ -156,14 +159,14 @@ module _ (m : Mosts) (P : Program) (n : ℕ) (S : State) (fits : Fits m P n S) w
       state-fits m P n _ (length (S .objects)) (length (S .threads)) (length-set (S .objects) i x) refl (fits .channel-each) (fits .few-objects) (fits .few-threads)
       (every-set _ (S .objects) i x h (fits .objects)) (fits .threads) (fits .channels)
 
-  new-object-fits : (x : Object) → ObjectFits P (length (S .objects) + 1) (length (S .threads)) x → length (S .objects) < m .objects
-      → Fits m P n (putObjects S (S .objects ++ (x ∷ [])))
+  new-objects-fit : (xs : List Object) → Every (ObjectFits P (length (S .objects) + length xs) (length (S .threads))) xs → length (S .objects) + length xs ≤ m .objects
+      → Fits m P n (putObjects S (S .objects ++ xs))
   unfolding putObjects
-  new-object-fits x h room =
-      let ho : length (S .objects) ≤ length (S .objects) + 1 = omega arith in
+  new-objects-fit xs h room =
+      let ho : length (S .objects) ≤ length (S .objects) + length xs = omega arith in
       let hc = le-refl (length (S .threads)) in
-      state-fits m P n _ (length (S .objects) + 1) (length (S .threads)) (length-snoc (S .objects) x) refl (fits .channel-each) (omega arith) (fits .few-threads)
-      (every-snoc _ (S .objects) x h (every-map (object-more P ho hc) (S .objects) (fits .objects)))
+      state-fits m P n _ (length (S .objects) + length xs) (length (S .threads)) (length-append (S .objects) xs) refl (fits .channel-each) room (fits .few-threads)
+      (every-append _ (S .objects) xs (every-map (object-more P ho hc) (S .objects) (fits .objects)) h)
       (every-map (thread-more P ho hc (le-refl n)) (S .threads) (fits .threads))
       (every-map (channel-more P ho hc (le-refl n)) (S .channels) (fits .channels))
 
@@ -231,6 +234,16 @@ module _ (o c : ℕ) where
   object-in-range Absent h = absurd h
   object-in-range (Obj n) h = h
   object-in-range (Chan k) h = absurd h
+
+-- where each object among the values has a place in the list, the copies are objects of those and as many more
+renamed-fit : (o b : ℕ) (met : List ℕ) (vs : List Value) → Every (IsObject o) vs → ((x : ℕ) → 1 ≤ count x vs → 1 ≤ times x met)
+    → Every (IsObject (b + length met)) (map (renamed b met) vs)
+unfolding count renamed
+renamed-fit o b met [] h all-met = tt
+renamed-fit o b met (Absent ∷ vs) h all-met = absurd (h .0)
+renamed-fit o b met (Obj n ∷ vs) h all-met =
+    (omega (arith, place-there n met (all-met n (omega (arith, object-self n)))), renamed-fit o b met vs (h .1) (λ x k. all-met x (omega arith)))
+renamed-fit o b met (Chan c ∷ vs) h all-met = absurd (h .0)
 
 pub each-frame : (P : Program) (o c : ℕ) (fs : List Frame) → FramesFit P o c fs → Every (FrameFits P o c) fs
 each-frame P o c [] h = tt
@@ -392,8 +405,42 @@ module _ (m : Mosts) (P : Program) (n : ℕ) (H : Here) (here : HereFits m P n H
     unfolding putObjects
     new-fits at-let k i ws js vs is-kind made =
         let longer = length-snoc (objectsOf H) (madeObject H k i js) in
-        gives-fits at-let _ (new-object-fits m P (suc n) (H .state) counted _ (made-object-fits k i ws js vs is-kind made) (made .room)) (omega arith) (le-refl _)
+        gives-fits at-let _ (new-objects-fit m P (suc n) (H .state) counted (madeObject H k i js ∷ []) (made-object-fits k i ws js vs is-kind made, tt) (omega (arith, made .room))) (omega arith) (le-refl _)
         vs _ (slots-count (made .gave)) (all-left-range _ _ (made .gave) (here .frame .slots)) (omega arith)
+
+    -- the objects met from object i
+    met-here : (i : ℕ) → i < length (H .state .objects) → (x : ℕ) → 1 ≤ times x (metHere H i) → x < length (H .state .objects)
+    met-here i there = walked-range (objectsOf H) _ _ (fields-in-range (here .state)) (there, tt) (met-walked (objectsOf H) (Obj i ∷ []))
+
+    -- a field of an object that is met is met too, so its copy is among the new objects
+    copy-fits : (k : Cap) (i : ℕ) → i < length (H .state .objects) → (x : ℕ) → 1 ≤ times x (metHere H i)
+        → ObjectFits P (length (objectsOf H) + length (metHere H i)) (length (H .state .threads)) (copyOf H k (metHere H i) x)
+    unfolding copyOf object
+    copy-fits k i there x met =
+        let old = object-here x (met-here i there x met) in
+        let same = length-map (object H x .fields) (renamed (length (objectsOf H)) (metHere H i)) in
+        record {
+          kind = old .kind;
+          creator = here .self;
+          count = same ∙ old .count;
+          few = omega (arith, old .few);
+          fields =
+              renamed-fit _ (length (objectsOf H)) (metHere H i) (object H x .fields) (old .fields)
+              (λ y h. walked-fields (objectsOf H) (met-walked (objectsOf H) (Obj i ∷ [])) x y met h);
+        }
+
+    copied-fits : AtLet → (k : Cap) (s i : ℕ) → GraphCopied m H s i → Fits m P (suc n) (copiedState H k i)
+    unfolding putObjects count
+    copied-fits at-let k s i copied =
+        let there = target-in (H .frame .slots) s (Obj i) (here .frame .slots) (copied .target) in
+        let met = metHere H i in
+        let copies = map (copyOf H k met) met in
+        let many : length copies ≡ length met = length-map met (copyOf H k met) in
+        let longer = length-append (objectsOf H) copies in
+        let first = place-there i met (walked-values (objectsOf H) (met-walked (objectsOf H) (Obj i ∷ [])) i (omega (arith, object-self i))) in
+        gives-fits at-let _
+        (new-objects-fit m P (suc n) (H .state) counted copies (rw many (every-image _ (copyOf H k met) met (every-time _ met (copy-fits k i there)))) (omega (arith, copied .room)))
+        (omega arith) (le-refl _) (H .frame .slots) _ refl (here .frame .slots) (omega arith)
 
     spawn-fits : AtLet → (b : ℕ) → IsBlock P thread b → length (H .state .threads) < m .threads
         → Fits m P (suc n) (gives (started (H .state) b) H (H .frame .slots) (Chan (length (H .state .threads))))
@@ -446,6 +493,7 @@ module _ (m : Mosts) (P : Program) (n : ℕ) (H : Here) (here : HereFits m P n H
     step-fits x S′ at-line (by-put s w c i vs put) = put-fits s w c i vs put
     step-fits x S′ at-line (by-sent s w i c taken) = sent-fits (let-line at-line) s i c taken
     step-fits x S′ at-line (by-recv s c received) = recv-fits (let-line at-line) c
+    step-fits x S′ at-line (by-copy k s i copied) = copied-fits (let-line at-line) k s i copied
     step-fits x S′ at-line (by-return w v vs f fs gave callers) = return-fits f fs v callers (value-in gave)
     step-fits x S′ at-line (by-finish w v vs gave callers) = finish-fits
 

@@ -9,6 +9,9 @@ pub mod Printing
 pub mod OneForm
 pub mod Scanned
 pub mod Accepted
+-- numbers and objects counted in lists; the walk through fields meets what is reached, each object once
+pub mod Counts
+pub mod Walks
 -- the inversion of a moving turn; what it leaves of other threads; the state fits its program
 pub mod Moves
 pub mod OtherThreads
@@ -18,10 +21,11 @@ mod Runs
 -- one turn of the stripped script follows the guarded one; demand 3
 pub mod Simulation
 pub mod Demand3
--- reach as a relation, its walk and its list; the words of both tables
-pub mod Counts
+-- a copied graph is the source's, its numbers renamed
+pub mod Copies
+-- a report's list; the words of both tables
 pub mod Rising
-pub mod Walks
+pub mod Reports
 -- a message is its sender's until it is received
 pub mod InFlight
 pub mod TableWords

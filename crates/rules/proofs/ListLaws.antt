@@ -64,6 +64,10 @@ pub every-map : {A : Type 0} {Q R : A → Type 0} → ((x : A) → Q x → R x) 
 every-map h [] e = tt
 every-map h (x ∷ xs) e = (h x (e .0), every-map h xs (e .1))
 
+pub every-all : {A : Type 0} (Q : A → Type 0) → ((x : A) → Q x) → (l : List A) → Every Q l
+every-all Q h [] = tt
+every-all Q h (x ∷ xs) = (h x, every-all Q h xs)
+
 -- at any place, where the default has the property; and at a place that is there
 pub every-get : {A : Type 0} (Q : A → Type 0) (l : List A) (i : ℕ) (d : A) → Q d → Every Q l → Q (getD l i d)
 every-get Q [] i d h e = h
@@ -122,6 +126,11 @@ unfolding any
 any-false f [] h = tt
 any-false f (x ∷ xs) h = let p = or-false (f x) (any f xs) h in (p .0, any-false f xs (p .1))
 
+pub any-none : {A : Type 0} (f : A → Bool) (l : List A) → Every (λ x. f x ≡ false) l → any f l ≡ false
+unfolding any
+any-none f [] h = refl
+any-none f (x ∷ xs) h = rw (h .0) (any-none f xs (h .1))
+
 pub all-true : {A : Type 0} (f : A → Bool) (l : List A) → all f l ≡ true → Every (λ x. f x ≡ true) l
 unfolding all
 all-true f [] h = tt
@@ -145,12 +154,7 @@ all-from f d e [] (suc i) = rw e
 all-from f d e (x ∷ l) zero = refl
 all-from f d e (x ∷ l) (suc i) = all-from f d e l i
 
--- where no element can pass the test, and where what passes one test passes another
-pub any-none : {A : Type 0} (f : A → Bool) → ((x : A) → f x ≡ false) → (l : List A) → any f l ≡ false
-unfolding any
-any-none f h [] = refl
-any-none f h (x ∷ xs) = rw (h x) (any-none f h xs)
-
+-- where what passes one test passes another
 pub all-weaker : {A : Type 0} (f g : A → Bool) → ((x : A) → f x ≡ true → g x ≡ true) → (l : List A) → all f l ≡ true → all g l ≡ true
 unfolding all
 all-weaker f g h [] e = refl

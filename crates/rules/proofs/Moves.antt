@@ -1,20 +1,22 @@
 -- What a turn that moves has shown: one case for each way to move, with its checks as facts and the state that it leaves. Each line form is followed check by check.
-use Prim.Native.Nat.{ℕ, suc, _+_, _<_}
+use Prim.Native.Nat.{ℕ, suc, _+_, _≤_, _<_}
 use mathlib.Core.Path.{_≡_, refl, ap, _∙_, subst}
 use mathlib.Core.Bool.{Bool, true, false, not, _||_}
 use mathlib.Core.List.{List, [], _∷_, _++_, map}
 use lib.Dec.{eqb}
 use lib.ListN.{getD, set, length, length-set}
+use borrow.Author.Tests.{leb-true}
 use Rattle.rules.specs.declared.Cap.{Cap}
 use Rattle.rules.specs.declared.Value.{Value}
 use Rattle.rules.specs.declared.Value.the-variants.{Absent, Obj, Chan}
 use Rattle.rules.specs.declared.Mosts.{Mosts}
 use Rattle.rules.specs.Mosts as Most
 use Rattle.rules.specs.Lists.{Every}
-use Rattle.rules.specs.Script.{Program, Operand, reads, takes, Expr, value, field, swap, call, new, cast, spawn, send, recv, Line, bind, give, kindAt, lineAt}
+use Rattle.rules.specs.Script.{Program, Operand, reads, takes, Expr, value, field, swap, call, new, cast, spawn, send, recv, copy, Line, bind, give, kindAt, lineAt}
 use Rattle.rules.specs.Reading.{slotOf}
 use Rattle.rules.specs.State.{Object, Frame, Sender, ready, waiting, State, threadAt, channelAt, slotAt}
-use Rattle.rules.specs.Turn.{Res, ok, wait, stop, _>>=_, _>>_, check, waitUnless, permit, isImm, isLocal, sameCap, mayHold, isForeign, isAbsent, isIsoObject, present, asObject, asChannel, operand, leftBy, operands, allObjects, Here, objectsOf, object, putThread, putObjects, putChannel, filled, withSlots, gives, valueLine, fieldLine, areApart, permitSwap, setField, swapLine, callLine, newLine, castLine, started, spawnLine, putLine, sentLine, sendLine, recvLine, returned, giveLine, letLine, perform, turnOf, turn}
+use Rattle.rules.specs.Turn.{Res, ok, wait, stop, _>>=_, _>>_, check, waitUnless, permit, isImm, isLocal, sameCap, mayHold, isForeign, isAbsent, isIsoObject, present, asObject, asChannel, operand, leftBy, operands, allObjects, Here, objectsOf, object, putThread, putObjects, putChannel, filled, withSlots, gives, valueLine, fieldLine, areApart, permitSwap, setField, swapLine, callLine, newLine, castLine, started, spawnLine, putLine, sentLine, sendLine, recvLine, copyOf, copyLine, returned, giveLine, letLine, perform, turnOf, turn}
+use Rattle.rules.specs.Walk.{metFrom}
 use Rattle.rules.proofs.ListLaws.{impossible, below, of-not, or-false, any-false, every-map}
 
 -- ---- What operands give
@@ -105,6 +107,15 @@ pub record MessageReceived (H : Here) (s c : ℕ) : Type 0 where
   pub target : slotAt (H .frame .slots) s ≡ Chan c
   pub full : isAbsent (channelAt (H .state) c .message) ≡ false
 
+-- the objects met from object n, the one in slot s
+abbrev pub metHere : Here → ℕ → List ℕ
+metHere H n = metFrom (objectsOf H) (Obj n ∷ [])
+
+pub record GraphCopied (m : Mosts) (H : Here) (s n : ℕ) : Type 0 where
+  pub target : slotAt (H .frame .slots) s ≡ Obj n
+  pub near : Every (λ i. isForeign (H .self) (object H i) ≡ false) (metHere H n)
+  pub room : length (objectsOf H) + length (metHere H n) ≤ m .objects
+
 -- ---- The ways to move
 
 -- object n with object u in field f
@@ -118,6 +129,13 @@ calledFrame P H i n v = record { block = getD (kindAt P (object H n .kind) .meth
 -- the new object
 abbrev pub madeObject : Here → Cap → (kind : ℕ) → (ns : List ℕ) → Object
 madeObject H k i ns = record { cap = k; kind = i; creator = H .self; fields = map Obj ns }
+
+-- the objects, and after them a copy of each that is met; the state with these, in which the let gives the first copy
+abbrev pub withCopies : Here → Cap → ℕ → List Object
+withCopies H k n = objectsOf H ++ map (copyOf H k (metHere H n)) (metHere H n)
+
+abbrev pub copiedState : Here → Cap → ℕ → State
+copiedState H k n = gives (putObjects (H .state) (withCopies H k n)) H (H .frame .slots) (Obj (length (objectsOf H)))
 
 -- channel c with a message of the next number; channel c emptied
 abbrev pub nextNumber : Here → ℕ → ℕ
@@ -151,6 +169,8 @@ pub data Step (m : Mosts) (P : Program) (H : Here) : Line → State → Type 0 w
       → Step m P H (bind (send s w)) (gives (H .state) H (H .frame .slots) (Chan c))
   by-recv : (s c : ℕ) → MessageReceived H s c
       → Step m P H (bind (recv s)) (gives (emptied H c) H (H .frame .slots) (channelAt (H .state) c .message))
+  by-copy : (k : Cap) (s n : ℕ) → GraphCopied m H s n
+      → Step m P H (bind (copy k s)) (copiedState H k n)
   -- a give to the caller f, and one that finishes the thread
   by-return : (w : Operand) (v : Value) (vs : List Value) (f : Frame) (fs : List Frame) → Gave (objectsOf H) (H .frame .slots) w v vs → H .callers ≡ f ∷ fs
       → Step m P H (give w) (putThread (H .state) (H .self) (filled f (f .slots) v ∷ fs) ready)
@@ -367,6 +387,14 @@ module _ (m : Mosts) (P : Program) (H : Here) where
       past-wait _ _ λ full.
       goes-ok _ (by-recv s c (record { target = target; full = of-not _ full }))
 
+  copy-goes : (k : Cap) (s : ℕ) → Goes (copyLine m H k s) (Step m P H (bind (copy k s)))
+  unfolding copyLine
+  copy-goes k s =
+      past-object _ _ λ n target.
+      past-permit _ _ _ _ λ no-foreign _ _.
+      past-check _ _ _ λ room.
+      goes-ok _ (by-copy k s n (record { target = target; near = any-false _ (metHere H n) no-foreign; room = leb-true _ _ room }))
+
   returned-step : (w : Operand) (v : Value) (vs : List Value) → Gave (objectsOf H) (H .frame .slots) w v vs → (fs : List Frame) → H .callers ≡ fs
       → Step m P H (give w) (returned (H .state) (H .self) fs v)
   unfolding returned
@@ -390,6 +418,7 @@ module _ (m : Mosts) (P : Program) (H : Here) where
   let-goes (spawn b) = spawn-goes b
   let-goes (send s w) = send-goes (H .sender) s w refl
   let-goes (recv s) = recv-goes s
+  let-goes (copy k s) = copy-goes k s
 
   line-goes : (x : Line) → Goes (perform m P H x) (Step m P H x)
   unfolding perform

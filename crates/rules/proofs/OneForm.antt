@@ -9,10 +9,10 @@ use mathlib.Core.List.{List, [], _∷_, _++_, append-nil, append-assoc}
 use lib.Dec.{eqb}
 use lib.ListN.{length, getD}
 use borrow.Author.Tests.{eqb-false}
-use Rattle.rules.specs.Lists.{all, Every}
+use Rattle.rules.specs.Lists.{placeOf, all, Every}
 use Rattle.rules.specs.Text.{bytes}
-use Rattle.rules.specs.Script.{Operand, reads, takes, value, field, swap, call, new, cast, spawn, send, recv, bind, give, thread, method, Form, kind, opens, line}
-use Rattle.rules.specs.Templates.{Taken, took, unfit, _>>=_, orElse, placeOf, decimal, printOperand, Part, character, oneNumber, oneOperand, oneCap, manyNumbers, manyOperands, Holds, fit, whole, print, Rule, forms, ruleAt, firstFit, decode, show}
+use Rattle.rules.specs.Script.{Operand, reads, takes, value, field, swap, call, new, cast, spawn, send, recv, copy, bind, give, thread, method, Form, kind, opens, line}
+use Rattle.rules.specs.Templates.{Taken, took, unfit, _>>=_, orElse, decimal, printOperand, Part, character, oneNumber, oneOperand, oneCap, manyNumbers, manyOperands, Holds, fit, whole, print, Rule, forms, ruleAt, firstFit, decode, show}
 use Rattle.rules.specs.Reading.{slotOf, targetsIn, operandsIn, numbersIn, slotsIn}
 use Rattle.rules.proofs.ListLaws.{by-bool, and-true, all-true, every-at, every-mapped}
 use Rattle.rules.proofs.Printing.{Small, Short, fit-prints, starts, parted, fit-back}
@@ -226,3 +226,4 @@ decode-show (line (bind (cast k w))) s n = print-decodes 9 (k, (w, tt)) (omega a
 decode-show (line (bind (spawn b))) s n = print-decodes 10 (b, tt) (omega arith) n
 decode-show (line (bind (send x w))) s n = print-decodes 11 (x, (w, tt)) (omega arith) s
 decode-show (line (bind (recv x))) s n = print-decodes 12 (x, tt) (omega arith) s
+decode-show (line (bind (copy k x))) s n = print-decodes 13 (k, (x, tt)) (omega arith) s

@@ -9,7 +9,7 @@ use Rattle.rules.specs.Script.{Program, Line}
 use Rattle.rules.specs.State.{Frame, Sender, ready, Thread, noThread, State, threadAt}
 use Rattle.rules.specs.Turn.{ok, Here, putThread, putObjects, putChannel, gives, started, turn}
 use Rattle.rules.proofs.ListLaws.{impossible}
-use Rattle.rules.proofs.Moves.{Step, by-value, by-field, by-swap, by-call, by-new, by-cast, by-spawn, by-put, by-sent, by-recv, by-return, by-finish, moved}
+use Rattle.rules.proofs.Moves.{Step, by-value, by-field, by-swap, by-call, by-new, by-cast, by-spawn, by-put, by-sent, by-recv, by-copy, by-return, by-finish, moved}
 
 -- the thread is as it was; or there was none, and the new one is ready
 pub data Other (old new : Thread) : Type 0 where
@@ -44,6 +44,7 @@ module _ (u : ℕ) (m : Mosts) (P : Program) where
   step-other (by-put s w c n vs put) other = put-other _ _ u _ _ other (kept refl)
   step-other (by-sent s w i c taken) other = put-other _ _ u _ _ other (kept refl)
   step-other (by-recv s c received) other = put-other _ _ u _ _ other (kept refl)
+  step-other (by-copy k s n copied) other = put-other _ _ u _ _ other (kept refl)
   step-other (by-return w v vs g gs gave callers) other = put-other _ _ u _ _ other (kept refl)
   step-other (by-finish w v vs gave callers) other = put-other _ _ u _ _ other (kept refl)
 

@@ -13,11 +13,11 @@ use borrow.Author.Tests.{ltb-true, leb-true, eqb-true, eqb-false, not-true, lt-l
 use Rattle.rules.specs.declared.Cap.{Cap}
 use Rattle.rules.specs.declared.Cap.the-variants.{Imm, Iso, Local, Unsafe}
 use Rattle.rules.specs.declared.Mosts.{Mosts}
-use Rattle.rules.specs.Lists.{Every}
+use Rattle.rules.specs.Lists.{placeOf, Every}
 use Rattle.rules.specs.Text.{bytes, lf, space, stray, onLine, lines, join}
 use Rattle.rules.specs.Script.{Operand, reads, takes, Form}
-use Rattle.rules.specs.Templates.{Taken, took, unfit, _>>=_, orElse, literal, digits, placeOf, digitOf, digitsAt, isNumber, decimalValue, number, digit, decimal, operandBy, operand, printOperand, capWord, capBy, capability, many, printMany, Part, character, oneNumber, oneOperand, oneCap, manyNumbers, manyOperands, Holds, fit, whole, print, Rule, forms, firstFit, decode, show}
-use Rattle.rules.specs.Reading.{slotOf, isOutside, inPlace, overMost, over255, isUnbound, takesSelf, Sofar, nothing, Step, fault, next, formStep, lineStep, Scan, faulty, scanned, finish, withForm, onStep, scan}
+use Rattle.rules.specs.Templates.{Taken, took, unfit, _>>=_, orElse, literal, digits, digitOf, digitsAt, isNumber, decimalValue, number, digit, decimal, operandBy, operand, printOperand, capWord, capBy, capability, many, printMany, Part, character, oneNumber, oneOperand, oneCap, manyNumbers, manyOperands, Holds, fit, whole, print, Rule, forms, firstFit, decode, show}
+use Rattle.rules.specs.Reading.{slotOf, isOutside, inPlace, overMost, over255, isUnbound, takesSelf, Sofar, Step, fault, next, formStep, lineStep, Scan, faulty, scanned, finish, withForm, onStep, scan}
 use Rattle.rules.proofs.ListLaws.{by-bool, and-true, allBelow, below-true}
 
 -- ---- What is taken
@@ -217,7 +217,7 @@ Written r = (p : Holds (r .template)) → show (r .make p) ≡ print (r .templat
 
 forms-written : Every Written forms
 unfolding show
-forms-written = (λ _. refl, (λ _. refl, (λ _. refl, (λ _. refl, (λ _. refl, (λ _. refl, (λ _. refl, (λ _. refl, (λ _. refl, (λ _. refl, (λ _. refl, (λ _. refl, (λ _. refl, tt)))))))))))))
+forms-written = (λ _. refl, (λ _. refl, (λ _. refl, (λ _. refl, (λ _. refl, (λ _. refl, (λ _. refl, (λ _. refl, (λ _. refl, (λ _. refl, (λ _. refl, (λ _. refl, (λ _. refl, (λ _. refl, tt))))))))))))))
 
 -- a whole line is the form that it makes, written
 abbrev Line-of : List ℕ → Form → List ℕ → Type 0
@@ -298,8 +298,8 @@ lines-print m r n (l ∷ ls) = go (lineStep-prints m r l) (λ r₁. lines-print 
     go faulted rest = misread
     go (gone e) rest = withForm-prints _ l (join ls) e (rest _)
 
-pub scan-prints : (m : Mosts) (text : List ℕ) (Fs : List Form) → scan m nothing 0 (lines text) ≡ scanned Fs → join (map show Fs) ≡ text
-scan-prints m text Fs h = scan-of (subst (Scan-of (join (lines text))) h (lines-print m nothing 0 (lines text))) ∙ join-lines text
+pub scan-prints : (m : Mosts) (r : Sofar) (n : ℕ) (text : List ℕ) (Fs : List Form) → scan m r n (lines text) ≡ scanned Fs → join (map show Fs) ≡ text
+scan-prints m r n text Fs h = scan-of (subst (Scan-of (join (lines text))) h (lines-print m r n (lines text))) ∙ join-lines text
 
 -- ---- And back: what is printed reads as what it was printed from, where its numbers have at most three digits
 

@@ -1,15 +1,20 @@
 -- What the orders of refusals and checks and the four "Readings that sound reasonable" come to: cases in which another order or reading
--- would give something else, computed from their texts; and what messages in flight add to the reports.
+-- would give something else, computed from their texts; what copies give; and what messages in flight add to the reports.
 use Prim.Native.Nat.{ℕ}
 use Prim.Native.String as S
 use mathlib.Core.Path.{_≡_, refl}
 use mathlib.Core.List.{List, [], _∷_, map}
+use Rattle.rules.specs.declared.Cap.{Cap}
+use Rattle.rules.specs.declared.Cap.the-variants.{Imm, Local, Unsafe}
+use Rattle.rules.specs.declared.Value.the-variants.{Obj}
 use Rattle.rules.specs.Mosts.{mosts}
 use Rattle.rules.specs.Text.{bytes}
 use Rattle.rules.specs.Reading.{Reading, turnedAway, accepted, script}
-use Rattle.rules.specs.Run.{run, refused, ended, halted, stuck, openEnd}
+use Rattle.rules.specs.State.{ready, State}
+use Rattle.rules.specs.Turn.{Res, stop, copyLine}
+use Rattle.rules.specs.Run.{run, refused, ended, halted, finished, stuck, openEnd}
 use Rattle.rules.specs.Reach.{roots, reachList}
-use Rattle.rules.proofs.Computing.{Case, guarded, prints, answers, AllHold, computed, reaches-objects}
+use Rattle.rules.proofs.Computing.{Case, guarded, stripped, prints, answers, AllHold, computed, reaches-objects}
 
 refusals : List Case
 refusals =
@@ -96,6 +101,75 @@ grounds =
 every-ground : AllHold grounds
 unfolding grounds computed
 every-ground = refl
+
+-- ---- Copies (document 02, L6)
+
+editions : List Case
+editions =
+    -- The first line names the edition and counts in the numbers of lines.
+    answers "(script 2)\n" [] guarded (refused 7 1)
+    ∷ answers "(script 2)\n(method)\n(give (read 0))\n" [] guarded (refused 8 1)
+    -- Without its LF, with another number, or anywhere else it is 3; with a stray byte 2.
+    ∷ answers "(script 2)" [] guarded (refused 3 0)
+    ∷ answers "(script 1)\n(thread)\n(give (read 0))\n" [] guarded (refused 3 0)
+    ∷ answers "(script 2)\n(script 2)\n(thread)\n(give (read 0))\n" [] guarded (refused 3 1)
+    ∷ answers "(thread)\n(give (read 0))\n(script 2)\n" [] guarded (refused 3 2)
+    ∷ answers "(script-2)\n" [] guarded (refused 2 0)
+    -- A copy in the first edition and a copy to iso are 3, and that before 4; then 4 and 5 as for every slot.
+    ∷ answers "(thread)\n(let (copy imm 0))\n(give (read 0))\n" [] guarded (refused 3 1)
+    ∷ answers "(script 2)\n(thread)\n(let (copy iso 256))\n(give (read 0))\n" [] guarded (refused 3 2)
+    ∷ answers "(script 2)\n(thread)\n(let (copy imm 256))\n(give (read 0))\n" [] guarded (refused 4 2)
+    ∷ answers "(script 2)\n(thread)\n(let (copy imm 1))\n(give (read 0))\n" [] guarded (refused 5 2)
+    ∷ []
+
+every-edition : AllHold editions
+unfolding editions computed
+every-edition = refl
+
+-- thread 1 gets an unsafe object that holds an object local to thread 0, and copies it
+foreignWithin : S.String
+foreignWithin =
+    "(script 2)\n(kind (fields 0) (does))\n(kind (fields 1) (does))\n(thread)\n(let (spawn 1))\n(let (new local 0))\n(let (new unsafe 1 (read 2)))\n(let (send 1 (read 3)))\n(give (read 1))\n(thread)\n(let (recv 0))\n(let (copy imm 1))\n(give (read 2))\n"
+
+copies : List Case
+copies =
+    -- Objects 1 and 2 hold each other, and both hold object 0. The copy of 2 meets 2, 1 and 0: they become 3, 4 and 5.
+    record {
+      text = "(script 2)\n(kind (fields 0) (does))\n(kind (fields 2) (does))\n(thread)\n(let (new unsafe 0))\n(let (new unsafe 1 (read 1) (read 1)))\n(let (new unsafe 1 (read 2) (read 1)))\n(let (swap 2 0 (read 3)))\n(let (copy imm 3))\n(give (read 5))\n";
+      turns = 0 ∷ 0 ∷ 0 ∷ 0 ∷ 0 ∷ [];
+      way = guarded;
+      answer = ended openEnd 5;
+      output = prints (bytes "(end open 5)\n(object 0 unsafe 0 0)\n(object 1 unsafe 1 0 (obj 2) (obj 0))\n(object 2 unsafe 1 0 (obj 1) (obj 0))\n(object 3 imm 1 0 (obj 4) (obj 5))\n(object 4 imm 1 0 (obj 3) (obj 5))\n(object 5 imm 0 0)\n(thread 0 ready 0 5 absent (obj 0) (obj 1) (obj 2) (obj 0) (obj 3))\n");
+    }
+    -- "The slot keeps its value, even an iso."
+    ∷ answers "(script 2)\n(kind (fields 0) (does))\n(thread)\n(let (new iso 0))\n(let (copy local 1))\n(give (take 1))\n" (0 ∷ 0 ∷ 0 ∷ []) guarded (ended finished 3)
+    -- "slot absent 10, a channel 13, any object met local to another thread 20"; stripped, the last one moves on
+    ∷ answers "(script 2)\n(thread)\n(let (copy imm 0))\n(give (read 1))\n" (0 ∷ []) guarded (halted 10 0 0 0 0)
+    ∷ answers "(script 2)\n(thread)\n(let (spawn 0))\n(let (copy imm 1))\n(give (read 1))\n" (0 ∷ 0 ∷ []) guarded (halted 13 0 0 1 1)
+    ∷ answers foreignWithin (0 ∷ 0 ∷ 0 ∷ 0 ∷ 1 ∷ 1 ∷ 1 ∷ []) guarded (halted 20 1 1 1 5)
+    ∷ answers foreignWithin (0 ∷ 0 ∷ 0 ∷ 0 ∷ 1 ∷ 1 ∷ 1 ∷ []) stripped (ended openEnd 7)
+    ∷ []
+
+every-copy : AllHold copies
+unfolding foreignWithin copies computed
+every-copy = refl
+
+-- Thread 1 of a box with room for one object copies an object that is local to thread 0: 20 goes before 16. For an unsafe one it is 16.
+copyWithin : ℕ → Cap → Res State
+copyWithin room c =
+    copyLine (record { kinds = 0; blocks = 0; lets = 0; objects = room; threads = 0 })
+    (record {
+      state = record { objects = record { cap = c; kind = 0; creator = 0; fields = [] } ∷ []; threads = []; channels = [] };
+      self = 1;
+      sender = ready;
+      frame = record { block = 0; line = 0; slots = Obj 0 ∷ [] };
+      callers = [];
+    })
+    Imm 0
+
+every-room : (copyWithin 1 Local ≡ stop 20) × (copyWithin 1 Unsafe ≡ stop 16)
+unfolding copyWithin computed
+every-room = (refl, refl)
 
 -- ---- Reach reports (document 02, L1 and L4)
 

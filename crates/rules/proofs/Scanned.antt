@@ -8,16 +8,16 @@ use lib.Dec.{eqb}
 use borrow.Author.Tests.{ne-eqb, not-false}
 use Rattle.rules.specs.declared.Mosts.{Mosts}
 use Rattle.rules.specs.Text.{stray}
-use Rattle.rules.specs.Script.{bind, give, Form, kind, opens, line, kindsOf, letsOf, resultOf, blocksOf, programOf, letLines, blockLines, kindLines, linesOf}
+use Rattle.rules.specs.Script.{Edition, bind, give, Form, kind, opens, line, kindsOf, letsOf, resultOf, blocksOf, programOf, letLines, blockLines, kindLines, linesOf}
 use Rattle.rules.specs.Templates.{Taken, took, unfit, decode}
 use Rattle.rules.specs.Reading.{Place, outside, within, Sofar, nothing, firstSlots, isOutside, inPlace, overMost, over255, isUnbound, takesSelf, oneMore, readOn, Step, fault, next, formStep, lineStep, Scan, faulty, scanned, finish, withForm, onStep, scan}
 use Rattle.rules.proofs.ListLaws.{impossible, or-false, other-arm}
 
 -- ---- From the scan to the checks
 
--- what has been read so far: k kinds, b blocks, l lets, and the place
-abbrev pub sofar : ℕ → ℕ → ℕ → Place → Sofar
-sofar k b l p = record { kinds = k; blocks = b; lets = l; place = p }
+-- what has been read so far of an edition: k kinds, b blocks, l lets, and the place
+abbrev pub sofar : Edition → ℕ → ℕ → ℕ → Place → Sofar
+sofar e k b l p = record { edition = e; kinds = k; blocks = b; lets = l; place = p }
 
 -- the checks that a form passed
 pub record Passed (m : Mosts) (r : Sofar) (F : Form) : Type 0 where
@@ -106,7 +106,7 @@ some-more : (n : ℕ) → eqb (n + 1) 0 ≡ false
 some-more n = ne-eqb (n + 1) 0 (λ h. omega arith)
 
 -- so it is once a block is opened
-ordered : {m : Mosts} {k b l : ℕ} (p : Place) (Fs : List Form) → Scanned m (sofar k b l p) Fs → eqb b 0 ≡ false → Ordered p Fs
+ordered : {m : Mosts} {e : Edition} {k b l : ℕ} (p : Place) (Fs : List Form) → Scanned m (sofar e k b l p) Fs → eqb b 0 ≡ false → Ordered p Fs
 unfolding kindsOf blocksOf letsOf resultOf letLines blockLines inPlace isOutside readOn oneMore
 ordered outside [] s h = record { kinds = refl; lines = refl }
 ordered (within o n) [] (ended some closed) h = absurd (false≢true closed)
@@ -119,7 +119,7 @@ ordered outside (line (give w) ∷ Fs) (passed x s) h = absurd (false≢true (x 
 ordered (within o n) (line (give w) ∷ Fs) (passed x s) h = with-line refl refl (ordered outside Fs s h)
 
 -- before that, kinds may stand
-ordered-kinds : {m : Mosts} {k l : ℕ} (Fs : List Form) → Scanned m (sofar k 0 l outside) Fs → kindLines (kindsOf Fs) (blockLines (blocksOf Fs)) ≡ Fs
+ordered-kinds : {m : Mosts} {e : Edition} {k l : ℕ} (Fs : List Form) → Scanned m (sofar e k 0 l outside) Fs → kindLines (kindsOf Fs) (blockLines (blocksOf Fs)) ≡ Fs
 unfolding kindsOf blocksOf kindLines blockLines inPlace isOutside readOn
 ordered-kinds [] s = refl
 ordered-kinds (kind K ∷ Fs) (passed x s) = ap (λ (X : List Form). kind K ∷ X) (ordered-kinds Fs s)
@@ -129,6 +129,6 @@ ordered-kinds (opens o ∷ Fs) (passed x s) =
 ordered-kinds (line y ∷ Fs) (passed x s) = absurd (false≢true (x .in-place))
 
 -- kinds come first, and every block is opened, has its lets and is closed by a give
-pub lines-scanned : (m : Mosts) (Fs : List Form) → Scanned m nothing Fs → linesOf (programOf Fs) ≡ Fs
+pub lines-scanned : (m : Mosts) (e : Edition) (Fs : List Form) → Scanned m (nothing e) Fs → linesOf (programOf e Fs) ≡ Fs
 unfolding linesOf programOf
-lines-scanned m Fs s = ordered-kinds Fs s
+lines-scanned m e Fs s = ordered-kinds Fs s

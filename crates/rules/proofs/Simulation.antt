@@ -11,11 +11,13 @@ use Rattle.rules.specs.declared.Value.the-variants.{Absent, Obj, Chan}
 use Rattle.rules.specs.declared.Mosts.{Mosts}
 use Rattle.rules.specs.Numbers as No
 use Rattle.rules.specs.Lists.{any}
-use Rattle.rules.specs.Script.{Program, noBlock, Operand, reads, takes, Expr, value, field, swap, call, new, cast, spawn, send, recv, Line, bind, give, kindAt, blockAt, lineOf, lineAt}
-use Rattle.rules.specs.State.{Object, noObject, Frame, Sender, ready, waiting, State, objectAt, threadAt, channelAt, slotAt}
-use Rattle.rules.specs.Turn.{Res, ok, wait, stop, _>>=_, _>>_, check, waitUnless, permit, isImm, isIso, isLocal, sameCap, mayHold, isForeign, isIsoObject, present, asObject, asChannel, operand, operands, allObjects, Here, object, putThread, putObjects, putChannel, gives, valueLine, fieldLine, areApart, permitSwap, setField, swapLine, callLine, newLine, castLine, started, spawnLine, putLine, sentLine, sendLine, recvLine, returned, giveLine, letLine, perform, turnOf, turn}
-use Rattle.rules.proofs.ListLaws.{map-set, any-none}
+use Rattle.rules.specs.Script.{Program, noBlock, Operand, reads, takes, Expr, value, field, swap, call, new, cast, spawn, send, recv, copy, Line, bind, give, kindAt, blockAt, lineOf, lineAt}
+use Rattle.rules.specs.State.{Object, Frame, Sender, ready, waiting, State, threadAt, channelAt, slotAt}
+use Rattle.rules.specs.Turn.{Res, ok, wait, stop, _>>=_, _>>_, check, waitUnless, permit, isImm, isIso, isLocal, sameCap, mayHold, isForeign, isIsoObject, present, asObject, asChannel, operand, operands, allObjects, Here, object, putThread, putObjects, putChannel, gives, valueLine, fieldLine, areApart, permitSwap, setField, swapLine, callLine, newLine, castLine, started, spawnLine, putLine, sentLine, sendLine, recvLine, copyOf, copyLine, returned, giveLine, letLine, perform, turnOf, turn}
+use Rattle.rules.specs.Walk.{metFrom}
+use Rattle.rules.proofs.ListLaws.{every-all, any-none, map-set}
 use Rattle.rules.specs.Stripped.{stripExpr, stripBlock, strip, eraseObject, erase}
+use Rattle.rules.proofs.Walks.{object-erased, met-erased}
 
 -- ---- When a stripped result follows a guarded one
 
@@ -123,10 +125,6 @@ sim-permit f a o no-foreign no-alias no-other =
 
 -- ---- Erased objects
 
-pub object-erased : (os : List Object) (n : ℕ) → objectAt (map eraseObject os) n ≡ eraseObject (objectAt os n)
-unfolding objectAt eraseObject
-object-erased os n = List·getD-map eraseObject os n noObject
-
 no-iso : (os : List Object) (v : Value) → isIsoObject (map eraseObject os) v ≡ false
 unfolding isIsoObject eraseObject isIso
 no-iso os Absent = refl
@@ -196,7 +194,11 @@ sim-call P H s i w =
 -- a test that every erased object fails: none of these objects passes it
 none-erased : (f : Object → Bool) → ((o : Object) → f (eraseObject o) ≡ false) → (H : Here) (ns : List ℕ)
     → any (λ i. f (object (eraseHere H) i)) ns ≡ false
-none-erased f h H ns = any-none _ (λ i. ap f (here-erased H i) ∙ h (object H i)) ns
+none-erased f h H ns = any-none _ ns (every-all _ (λ i. ap f (here-erased H i) ∙ h (object H i)) ns)
+
+none-foreign : (H : Here) (ns : List ℕ) → any (λ i. isForeign (H .self) (object (eraseHere H) i)) ns ≡ false
+unfolding isForeign eraseObject isLocal
+none-foreign H ns = none-erased (isForeign (H .self)) (λ o. refl) H ns
 
 sim-new : (m : Mosts) (H : Here) (k : Cap) (n : ℕ) (ws : List Operand) → Sim erase (newLine m H k n ws) (newLine m (eraseHere H) Unsafe n ws)
 unfolding newLine eraseHere erase gives putThread putObjects eraseObject isForeign isLocal mayHold
@@ -204,13 +206,10 @@ sim-new m H k n ws =
     sim-bind (sim-operands _ _ ws) λ p.
     sim-bind (sim-objects _) λ ns.
     rw (length-map (H .state .objects) eraseObject)
-    (sim-then (sim-permit _ _ _ (no-foreign ns) refl (none-above ns))
+    (sim-then (sim-permit _ _ _ (none-foreign H ns) refl (none-above ns))
     (sim-then (sim-check _ _ refl)
     (sim-ok (rw map-append refl))))
   where
-    no-foreign : (ns : List ℕ) → any (λ i. isForeign (H .self) (object (eraseHere H) i)) ns ≡ false
-    no-foreign ns = none-erased (isForeign (H .self)) (λ o. refl) H ns
-
     none-above : (ns : List ℕ) → any (λ i. not (mayHold Unsafe (object (eraseHere H) i .cap))) ns ≡ false
     none-above ns = none-erased (λ o. not (mayHold Unsafe (o .cap))) (λ o. refl) H ns
 
@@ -246,6 +245,22 @@ sim-recv : (H : Here) (s : ℕ) → Sim erase (recvLine H s) (recvLine (eraseHer
 unfolding recvLine eraseHere erase gives putThread putChannel channelAt
 sim-recv H s = sim-bind (sim-channel _) λ c. sim-then (sim-wait _) (sim-ok refl)
 
+-- a copy of erased objects as unsafe is the copy, erased
+copies-erased : (H : Here) (k : Cap) (met ns : List ℕ) → map (copyOf (eraseHere H) Unsafe met) ns ≡ map eraseObject (map (copyOf H k met) ns)
+unfolding copyOf eraseHere erase eraseObject
+copies-erased H k met [] = refl
+copies-erased H k met (n ∷ ns) =
+    rw (here-erased H n, length-map (H .state .objects) eraseObject) (ap (eraseObject (copyOf H k met n) ∷_) (copies-erased H k met ns))
+
+sim-copy : (m : Mosts) (H : Here) (k : Cap) (s : ℕ) → Sim erase (copyLine m H k s) (copyLine m (eraseHere H) Unsafe s)
+unfolding copyLine eraseHere erase gives putThread putObjects eraseObject isForeign isLocal
+sim-copy m H k s =
+    sim-bind (sim-object _) λ n.
+    rw (met-erased (H .state .objects) (Obj n ∷ []), length-map (H .state .objects) eraseObject)
+    (sim-then (sim-permit _ _ _ (none-foreign H (metFrom (H .state .objects) (Obj n ∷ []))) refl refl)
+    (sim-then (sim-check _ _ refl)
+    (sim-ok (rw (map-append, copies-erased H k) refl))))
+
 returned-erased : (S : State) (t : ℕ) (fs : List Frame) (v : Value) → returned (erase S) t fs v ≡ erase (returned S t fs v)
 unfolding returned erase putThread
 returned-erased S t [] v = refl
@@ -266,6 +281,7 @@ sim-let m P H (cast k w) = sim-cast H k w
 sim-let m P H (spawn b) = sim-spawn m H b
 sim-let m P H (send s w) = sim-send H (H .sender) s w
 sim-let m P H (recv s) = sim-recv H s
+sim-let m P H (copy k s) = sim-copy m H k s
 
 -- ---- The line of the stripped script is the line of the script, stripped
 

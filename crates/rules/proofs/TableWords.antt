@@ -13,12 +13,12 @@ use Rattle.rules.specs.declared.Value.the-variants.{Absent, Obj, Chan}
 use Rattle.rules.specs.declared.Mosts.{Mosts}
 use Rattle.rules.specs.Mosts as Most
 use Rattle.rules.specs.Lists.{Every, pad, cells}
-use Rattle.rules.specs.Script.{Operand, reads, takes, Expr, value, field, swap, call, new, cast, spawn, send, recv, bind, Sort, thread, method, Kind, Form, kind, opens, line, Block, Program, rank, letLines, blockLines, kindLines, linesOf}
+use Rattle.rules.specs.Script.{Operand, reads, takes, Expr, value, field, swap, call, new, cast, spawn, send, recv, copy, bind, Sort, thread, method, Kind, Form, kind, opens, line, Block, Edition, edition1, edition2, Program, rank, letLines, blockLines, kindLines, linesOf}
 use Rattle.rules.specs.Reading.{slotOf}
 use Rattle.rules.specs.State.{Object, Frame, Sender, ready, waiting, Thread, noThread, Channel, emptyChannel, State}
 use Rattle.rules.specs.Valid.{OperandOk, ExprOk, LetsOk, BlockOk, KindOk, Valid}
 use Rattle.rules.specs.Fits.{InRange, IsObject, ObjectFits, FrameFits, SenderFits, ThreadFits, ChannelFits, Fits}
-use Rattle.rules.specs.Tables.{operandWord, operandItem, operandOf, capOf, lineWords, row, firstLines, usedProgramWords, programWords, word, unmade, noFrame, objectWords, frameWords, senderWord, outermostFirst, threadWords, channelWords, usedStateWords, stateWords}
+use Rattle.rules.specs.Tables.{operandWord, operandItem, operandOf, capOf, lineWords, editionWord, row, firstLines, usedProgramWords, programWords, word, unmade, noFrame, objectWords, frameWords, senderWord, outermostFirst, threadWords, channelWords, usedStateWords, stateWords}
 use Rattle.rules.proofs.ListLaws.{by-bool, every-map, every-append, every-snoc, every-image, every-pad, every-cells, append-cut, length-pad, length-cells, pad-front, pad-tells, length-records}
 use Rattle.rules.proofs.Accepted.{line-count, table-lines}
 use Rattle.rules.proofs.Keeps.{object-in-range, each-frame}
@@ -187,6 +187,7 @@ module _ {P : Program} (valid : Valid Most.mosts P) where
   let-small o k l (spawn b) h = omega (arith, h .there, valid .few-blocks)
   let-small o k l (send s w) h = omega (arith, h .0, operand-small o k l w (h .1))
   let-small o k l (recv s) h = omega arith
+  let-small o k l (copy c s) h = omega (arith, rank-small c, h .0)
 
   abbrev Rows : List Form → Type 0
   Rows = Every (λ F. AllIn16Bits (lineWords F))
@@ -226,6 +227,10 @@ module _ {P : Program} (valid : Valid Most.mosts P) where
   first-lines-small i (opens o ∷ Fs) h = (omega arith, first-lines-small (suc i) Fs (omega arith))
   first-lines-small i (line x ∷ Fs) h = first-lines-small (suc i) Fs (omega arith)
 
+  edition-small : (e : Edition) → editionWord e ≤ 2
+  edition-small edition1 = omega arith
+  edition-small edition2 = omega arith
+
   pub program-words-small : Every In16Bits (programWords P)
   unfolding programWords usedProgramWords linesOf row
   program-words-small = padded-small Most.words (usedProgramWords P) (used .each) .each
@@ -238,7 +243,7 @@ module _ {P : Program} (valid : Valid Most.mosts P) where
 
       used : AllIn16Bits (usedProgramWords P)
       used =
-          padded-small _ (length (P .kinds) ∷ length (P .blocks) ∷ length (linesOf P) ∷ []) (omega (arith, valid .few-kinds, valid .few-blocks, few))
+          padded-small _ (length (P .kinds) ∷ length (P .blocks) ∷ length (linesOf P) ∷ editionWord (P .edition) ∷ []) (omega (arith, valid .few-kinds, valid .few-blocks, few, edition-small (P .edition)))
           then padded-small _ (firstLines 0 (linesOf P)) (first-lines-small 0 (linesOf P) (omega (arith, few)))
           then words-small (cells row (linesOf P)) (every-cells In16Bits row (linesOf P) rows)
 

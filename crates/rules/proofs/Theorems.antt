@@ -1,29 +1,32 @@
 -- What is proved of every accepted script, gathered: each is a corollary of the file that proves it.
 use Prim.Native.Nat.{ℕ, _≤_}
 use native.Mathlib.Omega.{arith}
-use mathlib.Core.Path.{_≡_, sym}
-use mathlib.Core.List.{List, map}
+use mathlib.Core.Path.{_≡_}
+use mathlib.Core.List.{List, _++_, map}
 use lib.ListN.{length}
+use Rattle.rules.specs.declared.Cap.{Cap}
 use Rattle.rules.specs.Mosts as Most
 use Rattle.rules.specs.Mosts.{mosts}
 use Rattle.rules.specs.Lists.{Every}
 use Rattle.rules.specs.Text.{join}
 use Rattle.rules.specs.Script.{Program, linesOf}
-use Rattle.rules.specs.Templates.{show}
+use Rattle.rules.specs.Templates.{show, headOf}
 use Rattle.rules.specs.Reading.{accepted, script}
+use Rattle.rules.specs.State.{Frame, State}
 use Rattle.rules.specs.Run.{run}
 use Rattle.rules.specs.Tables.{programWords, stateWords}
 use Rattle.rules.specs.Stripped.{Matches}
 use Rattle.rules.specs.Valid.{Valid}
 use Rattle.rules.specs.Fits.{Fits}
 use Rattle.rules.specs.Reach.{roots, OneList, reachList}
+use Rattle.rules.specs.Copies.{AtCopy, CopyTurn}
 use Rattle.rules.specs.InFlight.{SendersKeep}
 use Rattle.rules.specs.Writer.{ComesBack}
-use Rattle.rules.proofs.Printing.{scan-prints}
-use Rattle.rules.proofs.Accepted.{accepted-valid, accepted-lines}
+use Rattle.rules.proofs.Accepted.{accepted-valid, accepted-prints}
 use Rattle.rules.proofs.Keeps.{keeps-run, moves-few, fits-run}
 use Rattle.rules.proofs.Demand3.{stripped-matches}
-use Rattle.rules.proofs.Walks.{reach-few, reach-lists}
+use Rattle.rules.proofs.Reports.{reach-few, reach-lists}
+use Rattle.rules.proofs.Copies.{copy-turn}
 use Rattle.rules.proofs.InFlight.{senders-keep}
 use Rattle.rules.proofs.TableWords.{In16Bits, program-words-small, state-words-small}
 use Rattle.rules.proofs.Writer.{comes-back}
@@ -34,8 +37,8 @@ module _ (text : List ℕ) (P : Program) (is-accepted : script mosts text ≡ ac
   valid = accepted-valid mosts text P is-accepted
 
   -- its text is the printing of what was read: nothing of it is lost
-  pub text-is-printed : text ≡ join (map show (linesOf P))
-  text-is-printed = sym (scan-prints mosts text (linesOf P) (accepted-lines mosts text P is-accepted))
+  pub text-is-printed : text ≡ headOf (P .edition) ++ join (map show (linesOf P))
+  text-is-printed = accepted-prints mosts text P is-accepted
 
   pub program-words-in-16-bits : Every In16Bits (programWords P)
   program-words-in-16-bits = program-words-small valid
@@ -70,3 +73,9 @@ module _ (text : List ℕ) (P : Program) (is-accepted : script mosts text ≡ ac
 -- Document 02, L2: "Every text that the reader accepts comes back byte for byte from its table."
 pub every-text-comes-back : ComesBack mosts
 every-text-comes-back = comes-back mosts
+
+-- Document 02, L6: at a copy, in any state, "the copy duplicates every object reached from slot S through fields, each once": the copied graph is the
+-- source's, its numbers renamed; or one of the four checks stops the turn.
+pub copies-are-renamed : (P : Program) (S : State) (t : ℕ) (f : Frame) (callers : List Frame) (k : Cap) (s : ℕ) → AtCopy P S t f callers k s
+    → CopyTurn mosts P S t f callers k s
+copies-are-renamed = copy-turn mosts

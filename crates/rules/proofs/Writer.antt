@@ -5,23 +5,23 @@ use native.Mathlib.Nat.{le-refl}
 use native.Mathlib.Omega.{arith}
 use mathlib.Core.Path.{_≡_, sym, _∙_}
 use mathlib.Core.Bool.{Bool, true, false}
-use mathlib.Core.List.{List, map}
+use mathlib.Core.List.{List, _++_, map}
 use mathlib.Core.Logic.{_⊎_, inl, inr}
 use lib.ListN.{length, take, drop, length-append}
 use lib.Seq.{take-append-seam, length-take-le, take-take}
 use borrow.Author.Tests.{ltb-false, le-ltb}
 use Rattle.rules.specs.declared.Mosts.{Mosts}
 use Rattle.rules.specs.Mosts as Most
-use Rattle.rules.specs.Text.{lines, join}
+use Rattle.rules.specs.Text.{join}
 use Rattle.rules.specs.Script.{Program, linesOf}
-use Rattle.rules.specs.Templates.{show}
-use Rattle.rules.specs.Reading.{nothing, scanned, scan, reading, accepted, script}
+use Rattle.rules.specs.Templates.{show, headOf}
+use Rattle.rules.specs.Reading.{nothing, reading, accepted, script}
 use Rattle.rules.specs.Valid.{Valid}
 use Rattle.rules.specs.Tables.{programWords}
 use Rattle.rules.specs.Calls.{longText, shortTable, readCall, programAfter}
 use Rattle.rules.specs.Writer.{ReadsTo, NoneReadsTo, Answer, Written, Writes, shortBuffer, WritesUnless, WriteCall, ComesBack}
-use Rattle.rules.proofs.Printing.{scan-prints}
-use Rattle.rules.proofs.Accepted.{accepted-valid, accepted-lines, reading-accepted}
+use Rattle.rules.proofs.Scanned.{Scanned}
+use Rattle.rules.proofs.Accepted.{accepted-valid, accepted-scanned, accepted-prints, reading-accepted}
 use Rattle.rules.proofs.TableWords.{program-words-length}
 
 -- a text in which reading meets none of 1 to 8 reads into every table that is long enough
@@ -41,11 +41,11 @@ module _ (m : Mosts) (text table : List ℕ) (P : Program) (read : readCall m te
   unfolding longText
   read-length = ltb-false _ _ (met-none .0)
 
-  pub read-lines : scan m nothing 0 (lines text) ≡ scanned (linesOf P)
-  read-lines = accepted-lines m text P (met-none .2)
+  pub read-scanned : Scanned m (nothing (P .edition)) (linesOf P)
+  read-scanned = accepted-scanned m text P (met-none .2)
 
-  pub read-prints : text ≡ join (map show (linesOf P))
-  read-prints = sym (scan-prints m text (linesOf P) read-lines)
+  pub read-prints : text ≡ headOf (P .edition) ++ join (map show (linesOf P))
+  read-prints = accepted-prints m text P (met-none .2)
 
   pub read-valid : Valid m P
   read-valid = accepted-valid m text P (met-none .2)

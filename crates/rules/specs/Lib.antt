@@ -10,8 +10,9 @@ pub mod Script
 pub mod Templates
 pub mod Reading
 pub mod Valid
--- "Machine": the state; one turn; a run and its end; what every state of a run is like
+-- "Machine": the state; the walk through fields; one turn; a run and its end; what every state of a run is like
 pub mod State
+pub mod Walk
 pub mod Turn
 pub mod Run
 pub mod Fits
@@ -19,8 +20,9 @@ pub mod Fits
 pub mod Tables
 -- "Guarded and stripped": demand 3
 pub mod Stripped
--- the reach report; messages that are sent and not yet received; what the calls answer and leave in what was lent; a script written back out
+-- the reach report; what a copy comes to; messages that are sent and not yet received; what the calls answer and leave in what was lent; a script written back out
 pub mod Reach
+pub mod Copies
 pub mod InFlight
 pub mod Calls
 pub mod Writer

@@ -17,6 +17,11 @@ unfoldable pub all : {A : Type 0} → (A → Bool) → List A → Bool
 all f [] = true
 all f (x ∷ xs) = f x && all f xs
 
+-- the place of a number in a list, or the list's length where it is not there
+unfoldable pub placeOf : ℕ → List ℕ → ℕ
+placeOf c [] = 0
+placeOf c (x ∷ xs) = cond (eqb c x) 0 (suc (placeOf c xs))
+
 -- the numbers below n of which f holds, in rising order
 unfoldable pub rising : ℕ → (ℕ → Bool) → List ℕ
 rising zero f = []

@@ -1,8 +1,8 @@
 -- The reach of a thread: "every object reached from the thread's slots, in all frames, and on through fields"; and, by document 02's L1, from the
 -- message that it put and that no thread has received yet.
-use Prim.Native.Nat.{ℕ, zero, suc, _+_, _≤_}
+use Prim.Native.Nat.{ℕ, suc, _+_, _≤_}
 use mathlib.Core.Path.{_≡_}
-use mathlib.Core.Bool.{Bool, true, false, cond}
+use mathlib.Core.Bool.{cond}
 use mathlib.Core.List.{List, [], _∷_, _++_}
 use mathlib.Core.Logic.{_↔_}
 use lib.Dec.{eqb}
@@ -10,8 +10,9 @@ use lib.ListN.{length}
 use Rattle.rules.specs.declared.Value.{Value}
 use Rattle.rules.specs.declared.Value.the-variants.{Absent, Obj, Chan}
 use Rattle.rules.specs.Lists.{among, rising}
-use Rattle.rules.specs.Script.{Program, value, field, swap, call, new, cast, spawn, send, recv, Line, bind, give, lineAt}
+use Rattle.rules.specs.Script.{Program, value, field, swap, call, new, cast, spawn, send, recv, copy, Line, bind, give, lineAt}
 use Rattle.rules.specs.State.{Object, Frame, Sender, ready, waiting, Channel, State, objectAt, threadAt, channelAt, slotAt}
+use Rattle.rules.specs.Walk.{metFrom}
 
 -- 1 where the value is object n; and how many of these values are
 abbrev pub countOne : ℕ → Value → ℕ
@@ -61,6 +62,7 @@ sendTarget (bind (cast k w)) vs = Absent
 sendTarget (bind (spawn b)) vs = Absent
 sendTarget (bind (send s w)) vs = slotAt vs s
 sendTarget (bind (recv s)) vs = Absent
+sendTarget (bind (copy k s)) vs = Absent
 sendTarget (give w) vs = Absent
 
 -- L1: "the report for a waiting sender also starts from the message that it put"
@@ -104,28 +106,6 @@ pub data Walked (os : List Object) : List ℕ → List Value → List ℕ → Ty
   skip : {met out : List ℕ} {v : Value} {vs : List Value} → ((x : ℕ) → countOne x v ≤ times x met) → Walked os met vs out → Walked os met (v ∷ vs) out
   meet : {met out : List ℕ} {n : ℕ} {vs : List Value}
       → times n met ≡ 0 → Walked os (met ++ (n ∷ [])) (objectAt os n .fields ++ vs) out → Walked os met (Obj n ∷ vs) out
-
--- One such walk: depth first, fields in order, each object as it is first met. `k` bounds the visits.
-unfoldable mutual
-  pub walk : (k : ℕ) → List Object → (met : List ℕ) → List Value → List ℕ
-  walk zero os met vs = met
-  walk (suc k) os met [] = met
-  walk (suc k) os met (Absent ∷ vs) = walk k os met vs
-  walk (suc k) os met (Chan c ∷ vs) = walk k os met vs
-  walk (suc k) os met (Obj n ∷ vs) = visit k (among n met) os met n vs
-
-  pub visit : (k : ℕ) → (isMet : Bool) → List Object → (met : List ℕ) → ℕ → List Value → List ℕ
-  visit zero b os met n vs = met
-  visit (suc k) true os met n vs = walk k os met vs
-  visit (suc k) false os met n vs = walk k os (met ++ (n ∷ [])) (objectAt os n .fields ++ vs)
-
--- visits that suffice from v values: two for each value and each field
-unfoldable pub visits : List Object → ℕ → ℕ
-visits [] v = v + v + 1
-visits (o ∷ os) v = length (o .fields) + length (o .fields) + visits os v
-
-unfoldable pub metFrom : List Object → List Value → List ℕ
-metFrom os vs = walk (visits os (length vs)) os [] vs
 
 -- What the report lists: the objects met, in rising order.
 unfoldable pub reachList : List Object → List Value → List ℕ

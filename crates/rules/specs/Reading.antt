@@ -4,13 +4,15 @@ use mathlib.Core.Bool.{Bool, true, false, not, _&&_, _||_, cond}
 use mathlib.Core.List.{List, [], _∷_, _++_, map}
 use lib.Dec.{ltb, leb, eqb}
 use lib.ListN.{length}
+use Rattle.rules.specs.declared.Cap.{Cap}
+use Rattle.rules.specs.declared.Cap.the-variants.{Imm, Iso, Local, Unsafe}
 use Rattle.rules.specs.declared.Mosts.{Mosts}
 use Rattle.rules.specs.Mosts as Most
 use Rattle.rules.specs.Numbers as No
 use Rattle.rules.specs.Lists.{any}
 use Rattle.rules.specs.Text.{stray, lines}
-use Rattle.rules.specs.Script.{Operand, reads, takes, value, field, swap, call, new, cast, spawn, send, recv, bind, give, Sort, thread, method, Form, kind, opens, line, Program, programOf, kindAt, blockAt}
-use Rattle.rules.specs.Templates.{Taken, took, unfit, decode}
+use Rattle.rules.specs.Script.{Operand, reads, takes, value, field, swap, call, new, cast, spawn, send, recv, copy, bind, give, Sort, thread, method, Line, Form, kind, opens, line, Edition, edition1, edition2, Program, programOf, kindAt, blockAt}
+use Rattle.rules.specs.Templates.{Taken, took, unfit, fit, scriptT, decode}
 
 -- ---- What a form names
 
@@ -32,6 +34,7 @@ targetsIn (line (bind (cast k w))) = []
 targetsIn (line (bind (spawn b))) = []
 targetsIn (line (bind (send s w))) = s ∷ []
 targetsIn (line (bind (recv s))) = s ∷ []
+targetsIn (line (bind (copy k s))) = s ∷ []
 
 -- its operands
 unfoldable pub operandsIn : Form → List Operand
@@ -47,6 +50,7 @@ operandsIn (line (bind (cast k w))) = w ∷ []
 operandsIn (line (bind (spawn b))) = []
 operandsIn (line (bind (send s w))) = w ∷ []
 operandsIn (line (bind (recv s))) = []
+operandsIn (line (bind (copy k s))) = []
 
 -- its other numbers: counts and places of fields, methods, kinds and blocks
 unfoldable pub numbersIn : Form → List ℕ
@@ -62,6 +66,7 @@ numbersIn (line (bind (cast k w))) = []
 numbersIn (line (bind (spawn b))) = b ∷ []
 numbersIn (line (bind (send s w))) = []
 numbersIn (line (bind (recv s))) = []
+numbersIn (line (bind (copy k s))) = []
 
 -- all slots that it names
 unfoldable pub slotsIn : Form → List ℕ
@@ -76,13 +81,14 @@ pub data Place : Type 0 where
 
 -- what has been read so far
 pub record Sofar : Type 0 where
+  pub edition : Edition
   pub kinds : ℕ
   pub blocks : ℕ
   pub lets : ℕ
   pub place : Place
 
-abbrev pub nothing : Sofar
-nothing = record { kinds = 0; blocks = 0; lets = 0; place = outside }
+abbrev pub nothing : Edition → Sofar
+nothing e = record { edition = e; kinds = 0; blocks = 0; lets = 0; place = outside }
 
 -- "In a method slot 0 is self and slot 1 the argument. In a thread slot 0 is its channel"
 abbrev pub firstSlots : Sort → ℕ
@@ -102,11 +108,33 @@ inMethod outside = false
 inMethod (within thread n) = false
 inMethod (within method n) = true
 
+-- document 02, L6: "A text whose first line is (script 2) may use (copy K S), where K is not iso."
+unfoldable pub mayCopy : Edition → Cap → Bool
+mayCopy edition1 k = false
+mayCopy edition2 Imm = true
+mayCopy edition2 Iso = false
+mayCopy edition2 Local = true
+mayCopy edition2 Unsafe = true
+
+-- so "copy in it is 3" and "a copy to iso is 3"; every other line may be used in both editions
+unfoldable pub inEdition : Edition → Line → Bool
+inEdition e (give w) = true
+inEdition e (bind (value w)) = true
+inEdition e (bind (field s f)) = true
+inEdition e (bind (swap s f w)) = true
+inEdition e (bind (call s i w)) = true
+inEdition e (bind (new k n ws)) = true
+inEdition e (bind (cast k w)) = true
+inEdition e (bind (spawn b)) = true
+inEdition e (bind (send s w)) = true
+inEdition e (bind (recv s)) = true
+inEdition e (bind (copy k s)) = mayCopy e k
+
 -- 3: "Kinds come before all blocks. (thread) or (method) opens a block; (let E) lines follow; (give W) closes it."
 unfoldable pub inPlace : Sofar → Form → Bool
 inPlace r (kind K) = eqb (r .blocks) 0
 inPlace r (opens o) = isOutside (r .place)
-inPlace r (line x) = not (isOutside (r .place))
+inPlace r (line x) = not (isOutside (r .place)) && inEdition (r .edition) x
 
 -- 4: a most exceeded by what the line makes
 unfoldable pub overMost : Mosts → Sofar → Form → Bool
@@ -138,10 +166,10 @@ oneMore outside = outside
 oneMore (within o n) = within o (n + 1)
 
 unfoldable pub readOn : Sofar → Form → Sofar
-readOn r (kind K) = record { kinds = r .kinds + 1; blocks = r .blocks; lets = r .lets; place = r .place }
-readOn r (opens o) = record { kinds = r .kinds; blocks = r .blocks + 1; lets = r .lets; place = within o (firstSlots o) }
-readOn r (line (give w)) = record { kinds = r .kinds; blocks = r .blocks; lets = r .lets; place = outside }
-readOn r (line (bind e)) = record { kinds = r .kinds; blocks = r .blocks; lets = r .lets + 1; place = oneMore (r .place) }
+readOn r (kind K) = record { edition = r .edition; kinds = r .kinds + 1; blocks = r .blocks; lets = r .lets; place = r .place }
+readOn r (opens o) = record { edition = r .edition; kinds = r .kinds; blocks = r .blocks + 1; lets = r .lets; place = within o (firstSlots o) }
+readOn r (line (give w)) = record { edition = r .edition; kinds = r .kinds; blocks = r .blocks; lets = r .lets; place = outside }
+readOn r (line (bind e)) = record { edition = r .edition; kinds = r .kinds; blocks = r .blocks; lets = r .lets + 1; place = oneMore (r .place) }
 
 -- "then line by line 2 to 6 (lowest within a line)"
 pub data Step : Type 0 where
@@ -206,6 +234,7 @@ dangles P b (line (bind (cast k w))) = false
 dangles P b (line (bind (spawn i))) = not (isSort P thread i)
 dangles P b (line (bind (send s w))) = false
 dangles P b (line (bind (recv s))) = false
+dangles P b (line (bind (copy k s))) = false
 
 unfoldable pub opened : Form → ℕ → ℕ
 opened (kind K) b = b
@@ -222,13 +251,27 @@ unfoldable pub link : Program → ℕ → ℕ → List Form → Reading
 link P b n [] = accepted P
 link P b n (F ∷ Fs) = cond (dangles P b F) (turnedAway No.dangling n) (link P (opened F b) (suc n) Fs)
 
-abbrev pub linked : Scan → Reading
-linked (faulty k n) = turnedAway k n
-linked (scanned Fs) = link (programOf Fs) 0 0 Fs
+-- Place: "the line from 0"; the line that names the edition counts
+abbrev pub linesBefore : Edition → ℕ
+linesBefore edition1 = 0
+linesBefore edition2 = 1
 
--- 2 to 8
+abbrev pub linked : Edition → Scan → Reading
+linked e (faulty k n) = turnedAway k n
+linked e (scanned Fs) = link (programOf e Fs) 0 (linesBefore e) Fs
+
+-- 2 to 8, in the lines of a text of this edition
+unfoldable pub scriptOf : Mosts → Edition → List ℕ → Reading
+scriptOf m e text = linked e (scan m (nothing e) (linesBefore e) (lines text))
+
+-- document 02, L6: "A text whose first line is (script 2)". That line ends in LF, so that what is left are the lines after it. "A text without that
+-- line reads as today .. and (script 2) anywhere else is 3": there it is no form.
+abbrev pub headed : Mosts → List ℕ → Taken (Unit {0}) → Reading
+headed m text (took _ left) = scriptOf m edition2 left
+headed m text unfit = scriptOf m edition1 text
+
 unfoldable pub script : Mosts → List ℕ → Reading
-script m text = linked (scan m nothing 0 (lines text))
+script m text = headed m text (fit scriptT text)
 
 -- "Order: 1, 9, then line by line 2 to 6 .., then 7, then 8 in line order. Place: the line from 0; .. for 1, 9, .. zero."
 -- `long`: the text or the turns are too long; `short`: a lent table or list is under its length

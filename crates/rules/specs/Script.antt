@@ -27,6 +27,8 @@ pub data Expr : Type 0 where
   spawn : (block : ℕ) → Expr
   send : (slot : ℕ) → Operand → Expr
   recv : (slot : ℕ) → Expr
+  -- document 02, L6
+  copy : Cap → (slot : ℕ) → Expr
 
 -- "(let E) lines follow; (give W) closes it."
 pub data Line : Type 0 where
@@ -53,7 +55,12 @@ pub record Block : Type 0 where
   pub lets : List Expr
   pub result : Operand
 
+-- Document 02, L6: "script form 2"; a text without the line that names it is of the first edition.
+pub data Edition : Type 0 where
+  edition1 edition2 : Edition
+
 pub record Program : Type 0 where
+  pub edition : Edition
   pub kinds : List Kind
   pub blocks : List Block
 
@@ -85,8 +92,8 @@ blocksOf (kind K ∷ fs) = blocksOf fs
 blocksOf (opens o ∷ fs) = record { sort = o; lets = letsOf fs; result = resultOf fs } ∷ blocksOf fs
 blocksOf (line x ∷ fs) = blocksOf fs
 
-unfoldable pub programOf : List Form → Program
-programOf fs = record { kinds = kindsOf fs; blocks = blocksOf fs }
+unfoldable pub programOf : Edition → List Form → Program
+programOf e fs = record { edition = e; kinds = kindsOf fs; blocks = blocksOf fs }
 
 -- and back: the lines of a program
 unfoldable pub letLines : List Expr → List Form → List Form

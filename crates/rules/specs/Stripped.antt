@@ -8,7 +8,7 @@ use lib.ListN.{length, take}
 use Rattle.rules.specs.declared.Cap.the-variants.{Unsafe}
 use Rattle.rules.specs.declared.Mosts.{Mosts}
 use Rattle.rules.specs.Numbers as No
-use Rattle.rules.specs.Script.{Expr, value, field, swap, call, new, cast, spawn, send, recv, Block, Program}
+use Rattle.rules.specs.Script.{Expr, value, field, swap, call, new, cast, spawn, send, recv, copy, Block, Program}
 use Rattle.rules.specs.State.{Object, State}
 use Rattle.rules.specs.Run.{Run, none, stopped, run, stuck, endOf, allFinished}
 use Rattle.rules.specs.Tables.{stateWords}
@@ -24,12 +24,13 @@ stripExpr (cast k w) = cast Unsafe w
 stripExpr (spawn b) = spawn b
 stripExpr (send s w) = send s w
 stripExpr (recv s) = recv s
+stripExpr (copy k s) = copy Unsafe s
 
 unfoldable pub stripBlock : Block → Block
 stripBlock B = record { sort = B .sort; lets = map stripExpr (B .lets); result = B .result }
 
 unfoldable pub strip : Program → Program
-strip P = record { kinds = P .kinds; blocks = map stripBlock (P .blocks) }
+strip P = record { edition = P .edition; kinds = P .kinds; blocks = map stripBlock (P .blocks) }
 
 -- "the guarded state with every object made unsafe"
 unfoldable pub eraseObject : Object → Object

@@ -11,7 +11,7 @@ use Rattle.rules.specs.declared.Value.the-variants.{Absent, Obj, Chan}
 use Rattle.rules.specs.Mosts as Most
 use Rattle.rules.specs.Mosts.{mosts}
 use Rattle.rules.specs.Lists.{pad, cells}
-use Rattle.rules.specs.Script.{Operand, reads, takes, value, field, swap, call, new, cast, spawn, send, recv, bind, give, thread, method, Form, kind, opens, line, Program, rank, linesOf}
+use Rattle.rules.specs.Script.{Operand, reads, takes, value, field, swap, call, new, cast, spawn, send, recv, copy, bind, give, thread, method, Form, kind, opens, line, Edition, edition1, edition2, Program, rank, linesOf}
 use Rattle.rules.specs.State.{Object, Frame, Sender, ready, waiting, Thread, noThread, Channel, emptyChannel, State}
 
 -- ---- The program table
@@ -50,6 +50,7 @@ lineWords (line (bind (cast k w))) = 10 ∷ rank k ∷ operandWord w ∷ []
 lineWords (line (bind (spawn b))) = 11 ∷ b ∷ []
 lineWords (line (bind (send s w))) = 12 ∷ s ∷ operandWord w ∷ []
 lineWords (line (bind (recv s))) = 13 ∷ s ∷ []
+lineWords (line (bind (copy k s))) = 14 ∷ rank k ∷ s ∷ []
 
 unfoldable pub row : Form → List ℕ
 row F = pad 8 0 (lineWords F)
@@ -61,10 +62,15 @@ firstLines n (kind K ∷ Fs) = firstLines (suc n) Fs
 firstLines n (opens o ∷ Fs) = suc n ∷ firstLines (suc n) Fs
 firstLines n (line x ∷ Fs) = firstLines (suc n) Fs
 
--- words 0 to 2 count kinds, blocks and lines; a first line for each block from 8; lines of 8 words from 72
+-- 2 where the text's first line names the edition; that line has no words of its own
+abbrev pub editionWord : Edition → ℕ
+editionWord edition1 = 0
+editionWord edition2 = 2
+
+-- words 0 to 2 count kinds, blocks and lines, word 3 is the edition; a first line for each block from 8; lines of 8 words from 72
 unfoldable pub usedProgramWords : Program → List ℕ
 usedProgramWords P =
-    pad 8 0 (length (P .kinds) ∷ length (P .blocks) ∷ length (linesOf P) ∷ [])
+    pad 8 0 (length (P .kinds) ∷ length (P .blocks) ∷ length (linesOf P) ∷ editionWord (P .edition) ∷ [])
     ++ (pad (mosts .blocks) 0 (firstLines 0 (linesOf P)) ++ cells row (linesOf P))
 
 unfoldable pub programWords : Program → List ℕ

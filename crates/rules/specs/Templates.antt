@@ -8,9 +8,9 @@ use lib.Dec.{ltb, leb, eqb}
 use lib.ListN.{length, getD}
 use Rattle.rules.specs.declared.Cap.{Cap}
 use Rattle.rules.specs.declared.Cap.the-variants.{Imm, Iso, Local, Unsafe}
-use Rattle.rules.specs.Lists.{among}
+use Rattle.rules.specs.Lists.{among, placeOf}
 use Rattle.rules.specs.Text.{bytes, space}
-use Rattle.rules.specs.Script.{Operand, reads, takes, value, field, swap, call, new, cast, spawn, send, recv, bind, give, thread, method, Form, kind, opens, line}
+use Rattle.rules.specs.Script.{Operand, reads, takes, value, field, swap, call, new, cast, spawn, send, recv, copy, bind, give, thread, method, Form, kind, opens, line, Edition, edition1, edition2}
 
 -- What a part of a form takes from the front of a text: its value and the text that is left; or it does not fit.
 pub data Taken (A : Type 0) : Type 0 where
@@ -37,11 +37,6 @@ literal (c ∷ w) (x ∷ l) = cond (eqb x c) (literal w l) unfit
 
 abbrev pub digits : List ℕ
 digits = bytes "0123456789"
-
--- the place of a character in a text, or the text's length where it is not there
-unfoldable pub placeOf : ℕ → List ℕ → ℕ
-placeOf c [] = 0
-placeOf c (x ∷ xs) = cond (eqb c x) 0 (suc (placeOf c xs))
 
 -- the value of a digit, or 10 where the character is none
 abbrev pub digitOf : ℕ → ℕ
@@ -206,6 +201,10 @@ sendT = template "(let (send S W))\n"
 abbrev pub recvT : List Part
 recvT = template "(let (recv S))\n"
 
+-- document 02, L6: "(copy K S)"
+abbrev pub copyT : List Part
+copyT = template "(let (copy K S))\n"
+
 -- a form's template, and the decoded form that its parts make
 pub record Rule : Type 0 where
   pub template : List Part
@@ -226,6 +225,7 @@ forms =
     ∷ record { template = spawnT; make = λ (b, _). line (bind (spawn b)) }
     ∷ record { template = sendT; make = λ (s, (w, _)). line (bind (send s w)) }
     ∷ record { template = recvT; make = λ (s, _). line (bind (recv s)) }
+    ∷ record { template = copyT; make = λ (k, (s, _)). line (bind (copy k s)) }
     ∷ []
 
 -- the i-th form; what stands past the last is never asked for
@@ -255,3 +255,13 @@ show (line (bind (cast k w))) = print castT (k, (w, tt))
 show (line (bind (spawn b))) = print spawnT (b, tt)
 show (line (bind (send s w))) = print sendT (s, (w, tt))
 show (line (bind (recv s))) = print recvT (s, tt)
+show (line (bind (copy k s))) = print copyT (k, (s, tt))
+
+-- Document 02, L6: the first line of a text in script form 2. No form of a line is written so.
+abbrev pub scriptT : List Part
+scriptT = template "(script 2)\n"
+
+-- what stands before the lines of a script
+abbrev pub headOf : Edition → List ℕ
+headOf edition1 = []
+headOf edition2 = print scriptT tt

@@ -2,7 +2,7 @@
 -- Where document 02, L5, puts 19 or 20 in the place of a 14, the sentence is quoted with that number.
 use Prim.Native.Nat.{ℕ, suc, _+_}
 use mathlib.Core.Bool.{Bool, true, false, not, _&&_, _||_}
-use mathlib.Core.List.{List, [], _∷_, _++_}
+use mathlib.Core.List.{List, [], _∷_, _++_, map}
 use lib.Dec.{leb, ltb, eqb}
 use lib.ListN.{getD, set, length}
 use Rattle.rules.specs.declared.Cap.{Cap}
@@ -13,9 +13,10 @@ use Rattle.rules.specs.declared.Ground.the-variants.{Foreign, Alias, Oth
 use Rattle.rules.specs.declared.Mosts.{Mosts}
 use Rattle.rules.specs.Mosts as Most
 use Rattle.rules.specs.Numbers as No
-use Rattle.rules.specs.Lists.{any}
-use Rattle.rules.specs.Script.{Program, Operand, reads, takes, Expr, value, field, swap, call, new, cast, spawn, send, recv, Line, bind, give, rank, kindAt, lineAt}
+use Rattle.rules.specs.Lists.{placeOf, any}
+use Rattle.rules.specs.Script.{Program, Operand, reads, takes, Expr, value, field, swap, call, new, cast, spawn, send, recv, copy, Line, bind, give, rank, kindAt, lineAt}
 use Rattle.rules.specs.State.{Object, Frame, Sender, ready, waiting, Channel, State, emptyChannel, objectAt, threadAt, channelAt, slotAt}
+use Rattle.rules.specs.Walk.{metFrom}
 
 -- ---- What a part of a turn comes to: it goes on with a value, it waits (or idles), or it stops with a number.
 
@@ -303,6 +304,27 @@ recvLine H s = do
   let S = putChannel (H .state) c (record { message = Absent; number = channelAt (H .state) c .number })
   ok (gives S H (H .frame .slots) v)
 
+-- Document 02, L6, copies: "the next numbers as first met". Of the objects met, the one at place i gets number b + i.
+unfoldable pub renamed : ℕ → List ℕ → Value → Value
+renamed b met Absent = Absent
+renamed b met (Obj n) = Obj (b + placeOf n met)
+renamed b met (Chan c) = Chan c
+
+-- "all copies have capability K and this thread as creator"; fields that name one object name one copy: "Sharing and cycles are kept"
+unfoldable pub copyOf : Here → Cap → List ℕ → ℕ → Object
+copyOf H k met n =
+    record { cap = k; kind = object H n .kind; creator = H .self; fields = map (renamed (length (objectsOf H)) met) (object H n .fields) }
+
+-- "The copy duplicates every object reached from slot S through fields, each once .. as first met, depth first, fields in order. The slot keeps its
+-- value, even an iso. Checks: slot absent 10, a channel 13, any object met local to another thread 20, too few objects left for all copies 16."
+unfoldable pub copyLine : Mosts → Here → Cap → ℕ → Res State
+copyLine m H k s = do
+  n ← asObject (slotAt (H .frame .slots) s)
+  let met = metFrom (objectsOf H) (Obj n ∷ [])
+  permit (any (λ i. isForeign (H .self) (object H i)) met) false false
+  check (leb (length (objectsOf H) + length met) (m .objects)) No.usedUp
+  ok (gives (putObjects (H .state) (objectsOf H ++ map (copyOf H k met) met)) H (H .frame .slots) (Obj (length (objectsOf H))))
+
 -- "A give ends the frame and fills the caller's slot. From the outermost frame it finishes the thread."
 unfoldable pub returned : State → ℕ → List Frame → Value → State
 returned S t [] v = putThread S t [] ready
@@ -325,6 +347,7 @@ letLine m P H (cast k w) = castLine H k w
 letLine m P H (spawn b) = spawnLine m H b
 letLine m P H (send s w) = sendLine H (H .sender) s w
 letLine m P H (recv s) = recvLine H s
+letLine m P H (copy k s) = copyLine m H k s
 
 unfoldable pub perform : Mosts → Program → Here → Line → Res State
 perform m P H (bind e) = letLine m P H e

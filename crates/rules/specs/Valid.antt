@@ -3,10 +3,12 @@ use Prim.Native.Nat.{ℕ, suc, _+_, _≤_, _<_}
 use mathlib.Core.Path.{_≡_}
 use mathlib.Core.List.{List, [], _∷_}
 use lib.ListN.{length}
+use Rattle.rules.specs.declared.Cap.{Cap}
+use Rattle.rules.specs.declared.Cap.the-variants.{Imm, Iso, Local, Unsafe}
 use Rattle.rules.specs.declared.Mosts.{Mosts}
 use Rattle.rules.specs.Mosts as Most
 use Rattle.rules.specs.Lists.{Every}
-use Rattle.rules.specs.Script.{Operand, reads, takes, Expr, value, field, swap, call, new, cast, spawn, send, recv, Sort, thread, method, Kind, Block, Program, kindAt, blockAt}
+use Rattle.rules.specs.Script.{Operand, reads, takes, Expr, value, field, swap, call, new, cast, spawn, send, recv, copy, Sort, thread, method, Kind, Block, Program, kindAt, blockAt}
 use Rattle.rules.specs.Reading.{firstSlots}
 
 -- slot s of a block of this sort may be taken
@@ -18,6 +20,13 @@ NotSelf method s = 1 ≤ s
 abbrev pub OperandOk : Sort → ℕ → Operand → Type 0
 OperandOk o n (reads s) = s < n
 OperandOk o n (takes s) = (s < n) × NotSelf o s
+
+-- a copy may have this capability
+abbrev pub NotIso : Cap → Type 0
+NotIso Imm = Unit {0}
+NotIso Iso = ⊥
+NotIso Local = Unit {0}
+NotIso Unsafe = Unit {0}
 
 -- block b is there and of sort o
 pub record IsBlock (P : Program) (o : Sort) (b : ℕ) : Type 0 where
@@ -38,6 +47,7 @@ ExprOk P o n (cast k w) = OperandOk o n w
 ExprOk P o n (spawn b) = IsBlock P thread b
 ExprOk P o n (send s w) = (s < n) × OperandOk o n w
 ExprOk P o n (recv s) = s < n
+ExprOk P o n (copy k s) = (s < n) × NotIso k
 
 -- each let fills the next slot
 abbrev pub LetsOk : Program → Sort → ℕ → List Expr → Type 0

@@ -11,7 +11,7 @@ use Rattle.rules.specs.Mosts as Most
 use Rattle.rules.specs.Mosts.{mosts}
 use Rattle.rules.specs.Lists.{pad, cells}
 use Rattle.rules.specs.Script.{Sort, thread, method, Form, kind, opens, line, blocksOf, Program, linesOf}
-use Rattle.rules.specs.Tables.{lineWords, row, firstLines, usedProgramWords, programWords}
+use Rattle.rules.specs.Tables.{lineWords, row, firstLines, editionWord, usedProgramWords, programWords}
 use Rattle.rules.proofs.ListLaws.{length-snoc, length-pad, length-cells, get-past, set-past, get-cell, cells-snoc, get-pad, set-pad, pad-more, pad-snoc}
 use Rattle.table.specs.Program.{lineTable, Filled, noForm, sortNumber}
 
@@ -50,7 +50,7 @@ table-is counts Fs = refl
 table-words : {t counts rest : List ℕ} {Fs : List Form} → Filled t counts Fs rest → t ≡ pad Most.words 0 (usedWords counts Fs) ++ rest
 table-words {counts} {rest} {Fs} filled = filled .words ∙ ap (λ l. l ++ rest) (table-is counts Fs)
 
-pub program-words-by-lines : (P : Program) → programWords P ≡ lineTable (length (P .kinds) ∷ length (P .blocks) ∷ length (linesOf P) ∷ []) (linesOf P)
+pub program-words-by-lines : (P : Program) → programWords P ≡ lineTable (length (P .kinds) ∷ length (P .blocks) ∷ length (linesOf P) ∷ editionWord (P .edition) ∷ []) (linesOf P)
 unfolding programWords usedProgramWords lineTable
 program-words-by-lines P = refl
 
@@ -142,9 +142,10 @@ used-set : (us rest : List ℕ) (i v : ℕ) → length us ≤ Most.words → i <
 used-set us rest i v few h =
     set-append-left (pad Most.words 0 us) rest i v (omega (arith, length-pad Most.words 0 us)) ∙ ap (λ l. l ++ rest) (set-pad Most.words 0 us i v h (omega arith))
 
-counts-more : (Fs : List Form) (kinds blocks lines : ℕ) → set (set (set (usedWords [] Fs) 0 kinds) 1 blocks) 2 lines ≡ usedWords (kinds ∷ blocks ∷ lines ∷ []) Fs
+counts-more : (Fs : List Form) (kinds blocks lines edition : ℕ)
+    → set (set (set (set (usedWords [] Fs) 0 kinds) 1 blocks) 2 lines) 3 edition ≡ usedWords (kinds ∷ blocks ∷ lines ∷ edition ∷ []) Fs
 unfolding usedWords pad
-counts-more Fs kinds blocks lines = refl
+counts-more Fs kinds blocks lines edition = refl
 
 module _ {t counts rest : List ℕ} {Fs : List Form} (filled : Filled t counts Fs rest) (n : ℕ) (here : n ≡ length Fs) (room : n < 672) where
   line-written : (F : Form) (words : List ℕ) → words ≡ row F
@@ -180,19 +181,20 @@ module _ {t counts rest : List ℕ} {Fs : List Form} (filled : Filled t counts F
         blocks = omega (arith, blocks-more Fs (opens o));
       }
 
-pub counts-added : {t rest : List ℕ} {Fs : List Form} → Filled t [] Fs rest → (kinds blocks lines : ℕ) (t′ : List ℕ)
-    → t′ ≡ set (set (set t 0 kinds) 1 blocks) 2 lines → Filled t′ (kinds ∷ blocks ∷ lines ∷ []) Fs rest
-counts-added {t} {rest} {Fs} filled kinds blocks lines t′ e =
+pub counts-added : {t rest : List ℕ} {Fs : List Form} → Filled t [] Fs rest → (kinds blocks lines edition : ℕ) (t′ : List ℕ)
+    → t′ ≡ set (set (set (set t 0 kinds) 1 blocks) 2 lines) 3 edition → Filled t′ (kinds ∷ blocks ∷ lines ∷ edition ∷ []) Fs rest
+counts-added {t} {rest} {Fs} filled kinds blocks lines edition t′ e =
     let used : List ℕ = usedWords [] Fs in
     let long : length used ≡ 72 + length Fs * 8 = used-length [] Fs in
     let few = filled .lines in
     record {
       words =
-          e ∙ ap (λ l. set (set (set l 0 kinds) 1 blocks) 2 lines) (table-words filled)
-          ∙ ap (λ l. set (set l 1 blocks) 2 lines) (used-set used rest 0 kinds (omega arith) (omega arith))
-          ∙ ap (λ l. set l 2 lines) (used-set (set used 0 kinds) rest 1 blocks (simp length-set (omega arith)) (simp length-set (omega arith)))
-          ∙ used-set (set (set used 0 kinds) 1 blocks) rest 2 lines (simp length-set (omega arith)) (simp length-set (omega arith))
-          ∙ rw (counts-more Fs kinds blocks lines, table-is (kinds ∷ blocks ∷ lines ∷ []) Fs);
+          e ∙ ap (λ l. set (set (set (set l 0 kinds) 1 blocks) 2 lines) 3 edition) (table-words filled)
+          ∙ ap (λ l. set (set (set l 1 blocks) 2 lines) 3 edition) (used-set used rest 0 kinds (omega arith) (omega arith))
+          ∙ ap (λ l. set (set l 2 lines) 3 edition) (used-set (set used 0 kinds) rest 1 blocks (simp length-set (omega arith)) (simp length-set (omega arith)))
+          ∙ ap (λ l. set l 3 edition) (used-set (set (set used 0 kinds) 1 blocks) rest 2 lines (simp length-set (omega arith)) (simp length-set (omega arith)))
+          ∙ used-set (set (set (set used 0 kinds) 1 blocks) 2 lines) rest 3 edition (simp length-set (omega arith)) (simp length-set (omega arith))
+          ∙ rw (counts-more Fs kinds blocks lines edition, table-is (kinds ∷ blocks ∷ lines ∷ edition ∷ []) Fs);
       lines = filled .lines;
       blocks = filled .blocks;
     }

@@ -87,26 +87,30 @@ module _ {l rest : List ℕ} {S : State} (held : Held l S rest) where
       rw (eqb·suc-zero (operandWord w)) (ap (λ i. getD l (h .frame + 3 + i) 0) (item-slot w (low .0)) ∙ slot-here held h placed (slotOf w) (low .0)) in
       rw (first, item-words h placed ws (low .1))
 
-  -- object n, with the words of the items as its fields
-  pub object-added : (h : Here) → Placed h → {wa wb wc wd : ℕ} (n capWord kind a b c d : ℕ) (k : Cap) (ws : List Operand) → n < 256 → capWord ≡ rank k
+  -- the words of four items
+  pub item-fields : (h : Here) → Placed h → {wa wb wc wd : ℕ} (a b c d : ℕ) (ws : List Operand)
       → wa ≡ itemWord l (h .frame) a → wb ≡ itemWord l (h .frame) b → wc ≡ itemWord l (h .frame) c → wd ≡ itemWord l (h .frame) d
-      → a ∷ b ∷ c ∷ d ∷ [] ≡ pad 4 0 (map operandItem ws)
-      → Every (λ w. slotOf w < Most.slots) ws → n ≡ length (S .objects)
-      → (let at = 8 + n * 8 in
-      let new : Object = record { cap = k; kind = kind; creator = h .thread; fields = map (λ w. slotAt (frameAt S (h .thread) (h .depth) .slots) (slotOf w)) ws } in
-      Held (set (set (set (set (set (set (set (set l at capWord) (at + 1) kind) (at + 2) (h .thread)) (at + 4) wa) (at + 5) wb) (at + 6) wc) (at + 7) wd) 0 (n + 1)) (made new S) rest)
-  unfolding made objectWords pad
-  object-added h placed {wa} {wb} {wc} {wd} n capWord kind a b c d k ws n< cap≡ wa≡ wb≡ wc≡ wd≡ items low next =
+      → a ∷ b ∷ c ∷ d ∷ [] ≡ pad 4 0 (map operandItem ws) → Every (λ w. slotOf w < Most.slots) ws
+      → wa ∷ wb ∷ wc ∷ wd ∷ [] ≡ map word (pad 4 Absent (map (λ w. slotAt (frameAt S (h .thread) (h .depth) .slots) (slotOf w)) ws))
+  item-fields h placed a b c d ws wa≡ wb≡ wc≡ wd≡ items low =
       let fields = map (λ w. slotAt (frameAt S (h .thread) (h .depth) .slots) (slotOf w)) ws in
-      let at : ℕ = 8 + n * 8 in
-      let four : wa ∷ wb ∷ wc ∷ wd ∷ [] ≡ map word (pad 4 Absent fields) =
       rw (wa≡, wb≡, wc≡, wd≡)
-      (ap (map (itemWord l (h .frame))) items ∙ map-pad (itemWord l (h .frame)) 4 0 (map operandItem ws) ∙ ap (pad 4 0) (item-words h placed ws low) ∙ sym (map-pad word 4 Absent fields)) in
+      (ap (map (itemWord l (h .frame))) items ∙ map-pad (itemWord l (h .frame)) 4 0 (map operandItem ws) ∙ ap (pad 4 0) (item-words h placed ws low) ∙ sym (map-pad word 4 Absent fields))
+
+  -- object n, with these words as its fields
+  pub object-added : (t n capWord kind a b c d : ℕ) (k : Cap) (fields : List Value) → n < 256 → capWord ≡ rank k
+      → a ∷ b ∷ c ∷ d ∷ [] ≡ map word (pad 4 Absent fields) → n ≡ length (S .objects)
+      → (let at = 8 + n * 8 in
+      let new : Object = record { cap = k; kind = kind; creator = t; fields = fields } in
+      Held (set (set (set (set (set (set (set (set l at capWord) (at + 1) kind) (at + 2) t) (at + 4) a) (at + 5) b) (at + 6) c) (at + 7) d) 0 (n + 1)) (made new S) rest)
+  unfolding made objectWords pad
+  object-added t n capWord kind a b c d k fields n< cap≡ four next =
+      let at : ℕ = 8 + n * 8 in
       let none : getD (S .objects) n unmade ≡ unmade = List·getD-eq-default (S .objects) unmade (omega arith) in
       let empty : Part l at 8 (objectWords unmade) l = rw none at (object-part held n n<) in
-      let head = part-set (part-set (part-set empty 0 at capWord (omega arith) (omega arith)) 1 (at + 1) kind refl (omega arith)) 2 (at + 2) (h .thread) refl (omega arith) in
-      let half = part-set (part-set head 4 (at + 4) wa refl (omega arith)) 5 (at + 5) wb refl (omega arith) in
-      let whole = part-set (part-set half 6 (at + 6) wc refl (omega arith)) 7 (at + 7) wd refl (omega arith) in
+      let head = part-set (part-set (part-set empty 0 at capWord (omega arith) (omega arith)) 1 (at + 1) kind refl (omega arith)) 2 (at + 2) t refl (omega arith) in
+      let half = part-set (part-set head 4 (at + 4) a refl (omega arith)) 5 (at + 5) b refl (omega arith) in
+      let whole = part-set (part-set half 6 (at + 6) c refl (omega arith)) 7 (at + 7) d refl (omega arith) in
       held-by
       (ap (λ t. set t 0 (n + 1)) (whole .is) ∙ rw (add-one n, cap≡, four))
       (object-made held n _ n< next)

@@ -10,7 +10,7 @@ use Rattle.rules.specs.Lists.{pad, cells}
 use Rattle.rules.specs.Script.{Sort, thread, method, Form, opens, blocksOf, Program, linesOf, kindAt, noBlock}
 use Rattle.rules.specs.Tables.{row, firstLines}
 
--- counts, first lines of blocks, lines; `programWords P` has its counts and the lines of P
+-- counts and the edition, first lines of blocks, lines; `programWords P` has those of P
 unfoldable pub lineTable : (counts : List ℕ) → List Form → List ℕ
 lineTable counts Fs = pad Most.words 0 (pad 8 0 counts ++ (pad (mosts .blocks) 0 (firstLines 0 Fs) ++ cells row Fs))
 
@@ -38,9 +38,9 @@ pub record OpenerAdded (n b form : ℕ) (t t′ : List ℕ) : Type 0 where
   pub added : (counts rest : List ℕ) (Fs : List Form) (o : Sort) → Filled t counts Fs rest → n ≡ length Fs → n < 672
       → b ≡ length (blocksOf Fs) → b < mosts .blocks → form ≡ sortNumber o → Filled t′ counts (Fs ++ (opens o ∷ [])) rest
 
--- the counts are written
-pub record Counted (kinds blocks lines : ℕ) (t t′ : List ℕ) : Type 0 where
-  pub counted : (rest : List ℕ) (Fs : List Form) → Filled t [] Fs rest → Filled t′ (kinds ∷ blocks ∷ lines ∷ []) Fs rest
+-- the counts are written, and the edition's word after them
+pub record Counted (kinds blocks lines edition : ℕ) (t t′ : List ℕ) : Type 0 where
+  pub counted : (rest : List ℕ) (Fs : List Form) → Filled t [] Fs rest → Filled t′ (kinds ∷ blocks ∷ lines ∷ edition ∷ []) Fs rest
 
 -- the first words of the table are these, or they are not
 pub record Same (t words : List ℕ) (r : Bool) : Type 0 where
@@ -50,6 +50,10 @@ pub record Same (t words : List ℕ) (r : Bool) : Type 0 where
 -- by lines of the text
 pub record LineCount (t : List ℕ) (r : ℕ) : Type 0 where
   pub is : (counts rest : List ℕ) (Fs : List Form) → Filled t counts Fs rest → r ≡ getD counts 2 0
+
+-- `editionWord` of its edition, where the table is a program's
+pub record EditionIs (t : List ℕ) (r : ℕ) : Type 0 where
+  pub is : (counts rest : List ℕ) (Fs : List Form) → Filled t counts Fs rest → r ≡ getD counts 3 0
 
 pub record LineWord (t : List ℕ) (n k r : ℕ) : Type 0 where
   pub is : (counts rest : List ℕ) (Fs : List Form) → Filled t counts Fs rest → n < length Fs → r ≡ getD (row (getD Fs n noForm)) k 0

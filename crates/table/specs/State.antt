@@ -154,15 +154,24 @@ left t S = putThread S t (innerLess (threadAt S t .frames)) ready
 pub record Pushes (t k x : ℕ) (e e₁ : List ℕ) : Type 0 where
   pub pushes : (v : Value) → x ≡ word v → Becomes e (HasRoom t k) (given t k v) e₁
 
--- n is the next thread; the next object, made of the operands' slots
+-- n is the next thread
 pub record Next (n : ℕ) (S : State) : Type 0 where
   pub next : n ≡ length (S .threads)
   pub channels : length (S .channels) ≡ length (S .threads)
+
+-- n is the next object: made of these words; of the operands' slots; of these values
+pub record MadeOf (t n cap kind : ℕ) (words : List ℕ) (e e₁ : List ℕ) : Type 0 where
+  pub makes : (c : Cap) (vs : List Value) → cap ≡ rank c → words ≡ map word (pad Most.fields Absent vs)
+      → Becomes e (λ S. n ≡ length (S .objects)) (made (record { cap = c; kind = kind; creator = t; fields = vs })) e₁
 
 pub record Makes (t k n cap kind : ℕ) (items : List ℕ) (e e₁ : List ℕ) : Type 0 where
   pub makes : (c : Cap) (ws : List Operand) → cap ≡ rank c → items ≡ pad Most.operands 0 (map operandItem ws)
       → Every (λ w. slotOf w < Most.slots) ws
       → Becomes e (λ S. n ≡ length (S .objects)) (λ S. made (record { cap = c; kind = kind; creator = t; fields = map (λ w. slotAt (frameAt S t k .slots) (slotOf w)) ws }) S) e₁
+
+pub record Copies (t n cap kind : ℕ) (fields : List Value) (e e₁ : List ℕ) : Type 0 where
+  pub makes : (c : Cap) (vs : List Value) → cap ≡ rank c → fields ≡ pad Most.fields Absent vs
+      → Becomes e (λ S. n ≡ length (S .objects)) (made (record { cap = c; kind = kind; creator = t; fields = vs })) e₁
 
 -- ---- The line where a thread stands
 

@@ -1,9 +1,9 @@
-// The program table: eight words of counts, the first line of each block, lines of eight words in the text's order.
+// The program table: eight words of counts and the edition, the first line of each block, lines of eight words in the text's order.
 ghost use mathlib.Core.Path.{_≡_};
 ghost use mathlib.Core.List.{[], _∷_, _++_};
 ghost use Prim.Native.Nat.{_+_, _*_, _%_, _≤_, _<_};
 ghost use lib.ListN.{length, take, drop, getD, set};
-ghost use Rattle.table.specs.Program.{LineAdded, OpenerAdded, Counted, Same, LineCount, LineWord, BlockForm, FirstLine, KindFields, KindMethod};
+ghost use Rattle.table.specs.Program.{LineAdded, OpenerAdded, Counted, Same, LineCount, EditionIs, LineWord, BlockForm, FirstLine, KindFields, KindMethod};
 
 // Line n of the text: the number of its form, and its parts.
 pub fn add_line(t: &mut [u16], n: usize, form: u16, a: u16, b: u16, c: u16, d: u16, e: u16, f: u16)
@@ -32,15 +32,16 @@ pub fn add_opener(t: &mut [u16], n: usize, b: usize, form: u16)
     t[8 + b] = (n + 1) as u16;
 }
 
-// How many kinds, blocks and lines there are.
-pub fn put_counts(t: &mut [u16], kinds: usize, blocks: usize, lines: usize)
+// How many kinds, blocks and lines there are, and which edition they are of.
+pub fn put_counts(t: &mut [u16], kinds: usize, blocks: usize, lines: usize, edition: u16)
     requires { ⌜ (8192 ≤ length (now t)) × (kinds ≤ 32) × (blocks ≤ 64) × (lines ≤ 672) ⌝ }
-    ensures { λ _. ⌜ now (t .exit) ≡ (kinds ∷ blocks ∷ lines ∷ []) ++ drop 3 (now (t .entry)) ⌝ }
-    ensures { λ _. ⌜ Counted kinds blocks lines (now (t .entry)) (now (t .exit)) ⌝ }
+    ensures { λ _. ⌜ now (t .exit) ≡ (kinds ∷ blocks ∷ lines ∷ edition ∷ []) ++ drop 4 (now (t .entry)) ⌝ }
+    ensures { λ _. ⌜ Counted kinds blocks lines edition (now (t .entry)) (now (t .exit)) ⌝ }
 {
     t[0] = kinds as u16;
     t[1] = blocks as u16;
     t[2] = lines as u16;
+    t[3] = edition;
 }
 
 // All words of a table into another.
@@ -77,6 +78,15 @@ pub fn line_count(t: &[u16]) -> usize
     ensures { λ r. ⌜ LineCount (now (t .entry)) r ⌝ }
 {
     t[2] as usize
+}
+
+// The word that tells the edition.
+pub fn edition(t: &[u16]) -> u16
+    requires { ⌜ 8192 ≤ length (now t) ⌝ }
+    ensures { λ r. ⌜ r ≡ getD (now (t .entry)) 3 0 ⌝ }
+    ensures { λ r. ⌜ EditionIs (now (t .entry)) r ⌝ }
+{
+    t[3] // 0 or 2 where a text was read
 }
 
 // Word k of line n of the text.

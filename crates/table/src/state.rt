@@ -12,7 +12,7 @@ ghost use Rattle.rules.specs.declared.Value.the-variants.{Absent};
 ghost use Rattle.rules.specs.State.{objectAt, threadAt, channelAt, slotAt, start};
 ghost use Rattle.rules.specs.Tables.{capOf, word, senderWord, stateWords};
 ghost use Rattle.rules.specs.Turn.{started};
-ghost use Rattle.table.specs.State.{valueOf, InTable, Sees, Becomes, Any, Placed, Stands, frameAt, given, cleared, HasRoom, HasSlot, FieldIn, HasField, stored, channelled, Puts, sending, Pushes, Makes, Next, Innermost, callee, called, left};
+ghost use Rattle.table.specs.State.{valueOf, InTable, Sees, Becomes, Any, Placed, Stands, frameAt, given, cleared, HasRoom, HasSlot, FieldIn, HasField, stored, channelled, Puts, sending, Pushes, MadeOf, Makes, Copies, Next, Innermost, callee, called, left};
 
 // Where a thread stands: its number, its innermost frame's number from the outermost, and the places of that frame's words and of its line's.
 pub struct Here {
@@ -351,6 +351,32 @@ fn item_word(s: &[u16], h: Here, e: u16) -> u16
     s[at + 3 + (e - 1) as usize / 2 % 16]
 }
 
+// The words of object n, and the count.
+fn put_object(
+    s: &mut [u16],
+    creator: u16,
+    n: u16,
+    cap: u16,
+    kind: u16,
+    a: u16,
+    b: u16,
+    c: u16,
+    d: u16,
+)
+    requires { ⌜ (8192 ≤ length (now s)) × (n < 256) ⌝ }
+    ensures { λ _. ⌜ MadeOf creator n cap kind (a ∷ b ∷ c ∷ d ∷ []) (now (s .entry)) (now (s .exit)) ⌝ }
+{
+    let at = 8 + n as usize * 8;
+    s[at] = cap;
+    s[at + 1] = kind;
+    s[at + 2] = creator;
+    s[at + 4] = a;
+    s[at + 5] = b;
+    s[at + 6] = c;
+    s[at + 7] = d;
+    s[0] = n + 1;
+}
+
 // Object n is made, with the values of the items' slots as its fields.
 pub fn add_object(
     s: &mut [u16],
@@ -370,15 +396,25 @@ pub fn add_object(
     let wb = item_word(s, h, b);
     let wc = item_word(s, h, c);
     let wd = item_word(s, h, d);
-    let at = 8 + n as usize * 8;
-    s[at] = cap;
-    s[at + 1] = kind;
-    s[at + 2] = h.thread as u16;
-    s[at + 4] = wa;
-    s[at + 5] = wb;
-    s[at + 6] = wc;
-    s[at + 7] = wd;
-    s[0] = n + 1;
+    put_object(s, h.thread as u16, n, cap, kind, wa, wb, wc, wd);
+}
+
+// Object n is made, with these values as its fields: Absent for each that its kind does not have.
+pub fn add_copy(
+    s: &mut [u16],
+    creator: u16,
+    n: u16,
+    cap: u16,
+    kind: u16,
+    a: Value,
+    b: Value,
+    c: Value,
+    d: Value,
+)
+    requires { ⌜ (8192 ≤ length (now s)) × (n < 256) × InTable a × InTable b × InTable c × InTable d ⌝ }
+    ensures { λ _. ⌜ Copies creator n cap kind (a ∷ b ∷ c ∷ d ∷ []) (now (s .entry)) (now (s .exit)) ⌝ }
+{
+    put_object(s, creator, n, cap, kind, pack(a), pack(b), pack(c), pack(d));
 }
 
 // Thread n is started before the first line of block b, with its channel in slot 0.

@@ -1,12 +1,12 @@
 -- The words of a line's row tell the line: the first is the number of its form, the others are its parts, each of which reads back.
 use Prim.Native.Nat.{ℕ, _+_, _%_, _≤_, _<_}
 use native.Mathlib.Omega.{arith}
-use mathlib.Core.Path.{_≡_, refl, sym, ap, ap₂, _∙_}
+use mathlib.Core.Path.{_≡_, sym, ap, ap₂, _∙_}
 use mathlib.Core.List.{List, [], _∷_, map}
 use lib.ListN.{getD}
 use Rattle.rules.specs.declared.Cap.{Cap}
 use Rattle.rules.specs.Lists.{pad}
-use Rattle.rules.specs.Script.{Operand, reads, value, field, swap, call, new, cast, spawn, send, recv, Line, bind, give, line, rank, Program, lineAt}
+use Rattle.rules.specs.Script.{Operand, reads, value, field, swap, call, new, cast, spawn, send, recv, copy, Line, bind, give, line, rank, Program, lineAt}
 use Rattle.rules.specs.State.{Frame, State}
 use Rattle.rules.specs.Tables.{operandWord, operandItem, operandOf, capOf, lineWords, row}
 use Rattle.rules.proofs.ListLaws.{get-pad}
@@ -17,7 +17,7 @@ use Rattle.checks.specs.Checked.{Stand}
 use Rattle.checks.proofs.Standing.{slot-place}
 use Rattle.checks.specs.declared.lines.Step.{Step}
 use Rattle.turn.specs.Performed.{Always, Loaded, Performs, PerformsNew, PerformsHere}
-use Rattle.turn.proofs.Steps.{let-names}
+use Rattle.turn.proofs.Steps.{four-by-place, let-names}
 
 -- ---- The parts read back
 
@@ -27,23 +27,14 @@ operand-read {u} e = sym (operand-of-word u) ∙ ap operandOf (sym e)
 cap-read : {c : Cap} {n : ℕ} → n ≡ rank c → c ≡ capOf n
 cap-read {c} e = sym (cap-of-rank c) ∙ ap capOf (sym e)
 
--- four items by their places
-four-items : (xs : List ℕ) → getD xs 0 0 ∷ getD xs 1 0 ∷ getD xs 2 0 ∷ getD xs 3 0 ∷ [] ≡ pad 4 0 xs
-unfolding pad
-four-items [] = refl
-four-items (a ∷ []) = refl
-four-items (a ∷ b ∷ []) = refl
-four-items (a ∷ b ∷ c ∷ []) = refl
-four-items (a ∷ b ∷ c ∷ d ∷ xs) = refl
-
 -- ---- What the words of a line say of it
 
--- the lines in the order of their forms' numbers, 4 to 13; w k is word k, ws are the operands of a new
+-- the lines in the order of their forms' numbers, 4 to 14; w k is word k, ws are the operands of a new
 abbrev lineByPlace : (w : ℕ → ℕ) → List Operand → ℕ → Line
 lineByPlace w ws n =
     getD
     (give (operandOf (w 1)) ∷ bind (value (operandOf (w 1))) ∷ bind (field (w 1) (w 2)) ∷ bind (swap (w 1) (w 2) (operandOf (w 3))) ∷ bind (call (w 1) (w 2) (operandOf (w 3)))
-    ∷ bind (new (capOf (w 1)) (w 2) ws) ∷ bind (cast (capOf (w 1)) (operandOf (w 2))) ∷ bind (spawn (w 1)) ∷ bind (send (w 1) (operandOf (w 2))) ∷ bind (recv (w 1)) ∷ [])
+    ∷ bind (new (capOf (w 1)) (w 2) ws) ∷ bind (cast (capOf (w 1)) (operandOf (w 2))) ∷ bind (spawn (w 1)) ∷ bind (send (w 1) (operandOf (w 2))) ∷ bind (recv (w 1)) ∷ bind (copy (capOf (w 1)) (w 2)) ∷ [])
     n
     (give (reads 0))
 
@@ -51,7 +42,7 @@ lineByPlace w ws n =
 record Says (w : ℕ → ℕ) (x : Line) : Type 0 where
   operands : List Operand
   place : ℕ
-  few : place < 10
+  few : place < 11
   form : w 0 ≡ 4 + place
   items : w 0 ≡ 9 → w 3 ∷ w 4 ∷ w 5 ∷ w 6 ∷ [] ≡ pad 4 0 (map operandItem operands)
   is : x ≡ lineByPlace w operands place
@@ -61,7 +52,7 @@ record WordsOf (w : ℕ → ℕ) (x : Line) : Type 0 where
 
 module _ {w : ℕ → ℕ} where
   -- a line that is no new
-  plain : {x : Line} (n : ℕ) → n < 10 → (n ≡ 5 → ⊥) → w 0 ≡ 4 + n → x ≡ lineByPlace w [] n → Says w x
+  plain : {x : Line} (n : ℕ) → n < 11 → (n ≡ 5 → ⊥) → w 0 ≡ 4 + n → x ≡ lineByPlace w [] n → Says w x
   plain n few other form is = record { operands = []; place = n; few = few; form = form; items = λ is-new. absurd (other (omega arith)); is = is }
 
   new-items : (c : Cap) (kind : ℕ) (ws : List Operand) → WordsOf w (bind (new c kind ws)) → w 3 ∷ w 4 ∷ w 5 ∷ w 6 ∷ [] ≡ pad 4 0 (map operandItem ws)
@@ -69,7 +60,7 @@ module _ {w : ℕ → ℕ} where
   new-items c kind ws words =
       let xs = map operandItem ws in
       let at : (k : ℕ) → k < 8 → w k ≡ getD (9 ∷ rank c ∷ kind ∷ xs) k 0 = λ k there. words .word k there ∙ get-pad 8 0 (9 ∷ rank c ∷ kind ∷ xs) k there in
-      rw (at 3 (omega arith), at 4 (omega arith), at 5 (omega arith), at 6 (omega arith)) (four-items xs)
+      rw (at 3 (omega arith), at 4 (omega arith), at 5 (omega arith), at 6 (omega arith)) (four-by-place 0 xs)
 
   says : (x : Line) → WordsOf w x → Says w x
   unfolding row lineWords pad
@@ -98,6 +89,8 @@ module _ {w : ℕ → ℕ} where
   says (bind (send s u)) words =
       plain 8 (omega arith) (λ e. omega arith) (words .word 0 (omega arith)) (ap₂ (λ a b. bind (send a b)) (sym (words .word 1 (omega arith))) (operand-read (words .word 2 (omega arith))))
   says (bind (recv s)) words = plain 9 (omega arith) (λ e. omega arith) (words .word 0 (omega arith)) (ap (λ a. bind (recv a)) (sym (words .word 1 (omega arith))))
+  says (bind (copy c s)) words =
+      plain 10 (omega arith) (λ e. omega arith) (words .word 0 (omega arith)) (ap₂ (λ a b. bind (copy a b)) (cap-read (words .word 1 (omega arith))) (sym (words .word 2 (omega arith))))
 
 -- ---- The line where a thread stands
 
@@ -143,6 +136,9 @@ module _ {p : List ℕ} {h : Here} {form : ℕ} (first : form ≡ wordAt p h 0) 
       pub tells-cast : {k : Cap} → k ≡ capOf a → form ≡ 10 → Tells p s h (bind (cast k (operandOf b)))
       tells-cast is-cap number = record { at-line = λ P n S f fs rest st on. rw (is-cap, second, third) (line-is 6 number on) }
 
+      pub tells-copy : {k : Cap} → k ≡ capOf a → form ≡ 14 → Tells p s h (bind (copy k b))
+      tells-copy is-cap number = record { at-line = λ P n S f fs rest st on. rw (is-cap, second, third) (line-is 10 number on) }
+
       pub tells-send : form ≡ 12 → Tells p s h (bind (send (a % 16) (operandOf b)))
       tells-send number =
           record {
@@ -174,8 +170,8 @@ module _ {p : List ℕ} {h : Here} {form : ℕ} (first : form ≡ wordAt p h 0) 
 none-to-eight : (n : ℕ) → (n ≡ 4 → ⊥) → (n ≡ 5 → ⊥) → (n ≡ 6 → ⊥) → (n ≡ 7 → ⊥) → (n ≡ 8 → ⊥) → 4 ≤ n → 9 ≤ n
 none-to-eight n f4 f5 f6 f7 f8 least = omega arith
 
-none-to-thirteen : (n : ℕ) → (n ≡ 9 → ⊥) → (n ≡ 10 → ⊥) → (n ≡ 11 → ⊥) → (n ≡ 12 → ⊥) → (n ≡ 13 → ⊥) → 9 ≤ n → n ≤ 13 → ⊥
-none-to-thirteen n f9 f10 f11 f12 f13 least most = omega arith
+none-to-fourteen : (n : ℕ) → (n ≡ 9 → ⊥) → (n ≡ 10 → ⊥) → (n ≡ 11 → ⊥) → (n ≡ 12 → ⊥) → (n ≡ 13 → ⊥) → (n ≡ 14 → ⊥) → 9 ≤ n → n ≤ 14 → ⊥
+none-to-fourteen n f9 f10 f11 f12 f13 f14 least most = omega arith
 
 module _ {p s s₁ : List ℕ} {h : Here} {r : Step} where
   -- Q is asked of a program that is loaded
@@ -205,7 +201,7 @@ module _ {p s s₁ : List ℕ} {h : Here} {r : Step} where
       }
 
   -- no line has another number
-  pub no-other-form : {form : ℕ} → form ≡ wordAt p h 0 → (4 ≤ form → form ≤ 13 → ⊥) → PerformsHere p s h r s₁
+  pub no-other-form : {form : ℕ} → form ≡ wordAt p h 0 → (4 ≤ form → form ≤ 14 → ⊥) → PerformsHere p s h r s₁
   no-other-form first other =
       record {
         performs = λ P n S f fs rest loaded st few on.
@@ -214,6 +210,6 @@ module _ {p s s₁ : List ℕ} {h : Here} {r : Step} where
       }
 
   pub no-form-left : {form : ℕ} → form ≡ wordAt p h 0 → (form ≡ 4 → ⊥) → (form ≡ 5 → ⊥) → (form ≡ 6 → ⊥) → (form ≡ 7 → ⊥) → (form ≡ 8 → ⊥)
-      → (form ≡ 9 → ⊥) → (form ≡ 10 → ⊥) → (form ≡ 11 → ⊥) → (form ≡ 12 → ⊥) → (form ≡ 13 → ⊥) → PerformsHere p s h r s₁
-  no-form-left first f4 f5 f6 f7 f8 f9 f10 f11 f12 f13 =
-      no-other-form first λ least most. none-to-thirteen _ f9 f10 f11 f12 f13 (none-to-eight _ f4 f5 f6 f7 f8 least) most
+      → (form ≡ 9 → ⊥) → (form ≡ 10 → ⊥) → (form ≡ 11 → ⊥) → (form ≡ 12 → ⊥) → (form ≡ 13 → ⊥) → (form ≡ 14 → ⊥) → PerformsHere p s h r s₁
+  no-form-left first f4 f5 f6 f7 f8 f9 f10 f11 f12 f13 f14 =
+      no-other-form first λ least most. none-to-fourteen _ f9 f10 f11 f12 f13 f14 (none-to-eight _ f4 f5 f6 f7 f8 least) most

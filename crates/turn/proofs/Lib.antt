@@ -7,6 +7,8 @@ mod Frames
 mod SlotLines
 mod ObjectLines
 mod NewLines
+mod CopiesMade
+mod CopyLines
 mod CallLines
 mod ChannelLines
 mod SendLines

@@ -3,10 +3,11 @@ use Prim.Native.Nat.{ℕ, _/_, _<_}
 use native.Mathlib.Omega.{arith}
 use mathlib.Core.Path.{_≡_, refl, ap}
 use mathlib.Core.Bool.{true, false}
-use mathlib.Core.List.{List}
-use lib.ListN.{length}
+use mathlib.Core.List.{List, [], _∷_}
+use lib.ListN.{length, getD}
 use Rattle.rules.specs.Mosts as Most
 use Rattle.rules.specs.Mosts.{mosts}
+use Rattle.rules.specs.Lists.{pad}
 use Rattle.rules.specs.Script.{Operand, reads, takes, Expr, Line, bind, give, Sort, Program, blockAt, lineAt}
 use Rattle.rules.specs.Reading.{slotOf}
 use Rattle.rules.specs.Valid.{OperandOk, ExprOk}
@@ -85,6 +86,16 @@ module _ {Q : Program → State → Type 0} {s : List ℕ} {h : Here} {x : Line}
 pub always-performs : {Q : Program → State → Type 0} {s s₁ : List ℕ} {h : Here} {x : Line} {r : C.Step} → ((P : Program) (S : State) (rest : List ℕ) → Held s S rest → Q P S)
     → Performs Q s h x r s₁ → Performs Always s h x r s₁
 always-performs holds does = record { performs = λ P n S f fs rest q st few at-line. does .performs P n S f fs rest (holds P S rest (st .held)) st few at-line }
+
+-- ---- Four of a list, by their places
+
+pub four-by-place : {A : Type 0} (d : A) (xs : List A) → getD xs 0 d ∷ getD xs 1 d ∷ getD xs 2 d ∷ getD xs 3 d ∷ [] ≡ pad 4 d xs
+unfolding pad
+four-by-place d [] = refl
+four-by-place d (a ∷ []) = refl
+four-by-place d (a ∷ b ∷ []) = refl
+four-by-place d (a ∷ b ∷ c ∷ []) = refl
+four-by-place d (a ∷ b ∷ c ∷ e ∷ xs) = refl
 
 -- ---- What a line says of the slots that are filled
 

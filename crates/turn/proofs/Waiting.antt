@@ -9,11 +9,11 @@ use Rattle.rules.specs.declared.Value.{Value}
 use Rattle.rules.specs.declared.Value.the-variants.{Absent, Obj, Chan}
 use Rattle.rules.specs.Mosts.{mosts}
 use Rattle.rules.specs.Lists.{pad}
-use Rattle.rules.specs.Script.{Operand, reads, takes, value, field, swap, call, new, cast, spawn, send, recv, Line, bind, give, line, Program}
+use Rattle.rules.specs.Script.{Operand, reads, takes, value, field, swap, call, new, cast, spawn, send, recv, copy, Line, bind, give, line, Program}
 use Rattle.rules.specs.State.{Object, State, threadAt}
 use Rattle.rules.specs.Tables.{operandOf, senderWord, lineWords, row}
 use Rattle.rules.specs.Turn as R
-use Rattle.rules.specs.Turn.{Res, ok, wait, stop, _>>=_, _>>_, check, permit, present, asObject, operand, operands, allObjects, permitSwap, valueLine, fieldLine, swapLine, callLine, newLine, castLine, spawnLine, putLine, sentLine, recvLine, giveLine, letLine, perform}
+use Rattle.rules.specs.Turn.{Res, ok, wait, stop, _>>=_, _>>_, check, permit, present, asObject, operand, operands, allObjects, permitSwap, valueLine, fieldLine, swapLine, callLine, newLine, castLine, spawnLine, putLine, sentLine, recvLine, copyLine, giveLine, letLine, perform}
 use Rattle.rules.specs.Run.{waits}
 use Rattle.table.specs.declared.state.Here.{Here}
 use Rattle.table.specs.State.{Held, Sees, Any}
@@ -105,7 +105,7 @@ objects-decide (v ∷ vs) = object-decides v then λ n. objects-decide vs then �
 
 module _ (P : Program) (H : R.Here) where
   only-channels-wait : (x : Line) → (getD (row (line x)) 0 0 ≡ 12 → ⊥) → (getD (row (line x)) 0 0 ≡ 13 → ⊥) → Decides (R.perform mosts P H x)
-  unfolding row lineWords pad perform letLine valueLine fieldLine swapLine permitSwap callLine newLine castLine spawnLine giveLine
+  unfolding row lineWords pad perform letLine valueLine fieldLine swapLine permitSwap callLine newLine castLine spawnLine copyLine giveLine
   only-channels-wait (give w) no-send no-recv = operand-decides _ _ w then λ v. goes _
   only-channels-wait (bind (value w)) no-send no-recv = operand-decides _ _ w then λ v. goes _
   only-channels-wait (bind (field s f)) no-send no-recv = object-decides _ then λ n. check-decides _ _ before (permit-decides _ _ _ before goes _)
@@ -119,6 +119,7 @@ module _ (P : Program) (H : R.Here) where
   only-channels-wait (bind (spawn b)) no-send no-recv = check-decides _ _ before goes _
   only-channels-wait (bind (send s w)) no-send no-recv = absurd (no-send refl)
   only-channels-wait (bind (recv s)) no-send no-recv = absurd (no-recv refl)
+  only-channels-wait (bind (copy k s)) no-send no-recv = object-decides _ then λ n. permit-decides _ _ _ before (check-decides _ _ before goes _)
 
 decided : {x : Res State} → Decides x → false ≡ waits x
 unfolding waits

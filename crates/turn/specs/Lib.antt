@@ -1,2 +1,4 @@
 -- What a turn on the tables does.
 pub mod Performed
+-- what a copy makes
+pub mod Copied

@@ -1,4 +1,5 @@
 // One turn of one thread on the tables.
+mod copies;
 mod lines;
 mod turns;
 

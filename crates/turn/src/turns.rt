@@ -55,6 +55,12 @@ pub fn perform(p: &[u16], s: &mut [u16], h: Here) -> Step
         11 => super::lines::spawn_line(s, h, table::part(p, h, 1)),
         12 => super::lines::send_line(s, h, table::part(p, h, 1) % 16, table::part(p, h, 2)),
         13 => super::lines::recv_line(s, h, table::part(p, h, 1)),
+        14 => super::copies::copy_line(
+            s,
+            h,
+            table::cap_of(table::part(p, h, 1)),
+            table::part(p, h, 2),
+        ),
         _ => Step::Waits,
     }
 }

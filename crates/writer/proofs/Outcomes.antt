@@ -1,4 +1,4 @@
--- From what was written beside the buffer to the writer's answer. A text that reads to the table is what the table's lines say, so it is the one
+-- From what was written beside the buffer to the writer's answer. A text that reads to the table is what the table's words say, so it is the one
 -- that was written; read again it is accepted and gives the table's words. Where that fails, there is no such text.
 use Prim.Native.Nat.{ℕ, _+_, _≤_, _<_}
 use native.Mathlib.Nat.{zero-add}
@@ -18,15 +18,15 @@ use Rattle.rules.specs.Numbers as No
 use Rattle.rules.specs.Lists.{Every}
 use Rattle.rules.specs.Text.{join}
 use Rattle.rules.specs.Script.{bind, give, Form, kind, opens, line, Program, linesOf}
-use Rattle.rules.specs.Templates.{show}
-use Rattle.rules.specs.Reading.{operandsIn, Sofar, nothing, slotsFilled, overMost, Reading, turnedAway, accepted}
-use Rattle.rules.specs.Tables.{programWords}
+use Rattle.rules.specs.Templates.{show, headOf}
+use Rattle.rules.specs.Reading.{operandsIn, Sofar, slotsFilled, overMost, Reading, turnedAway, accepted}
+use Rattle.rules.specs.Tables.{editionWord, programWords}
 use Rattle.rules.specs.Calls.{shortTable, readCall, programAfter}
 use Rattle.rules.specs.Writer.{ReadsTo, NoneReadsTo, refused, wrote, Written, shortBuffer, WriteCall}
 use Rattle.rules.proofs.ListLaws.{impossible, or-false₃}
-use Rattle.rules.proofs.Scanned.{Scanned, ended, passed, scan-passed}
+use Rattle.rules.proofs.Scanned.{Scanned, ended, passed}
 use Rattle.rules.proofs.Accepted.{table-lines}
-use Rattle.rules.proofs.Writer.{read-length, read-prints, read-lines, read-valid, read-again}
+use Rattle.rules.proofs.Writer.{read-length, read-scanned, read-prints, read-valid, read-again}
 use Rattle.texts.specs.Writing.{over, Wrote}
 use Rattle.table.specs.Program.{Filled, Same}
 use Rattle.table.proofs.ProgramTable.{program-words-by-lines}
@@ -34,7 +34,7 @@ use Rattle.table.proofs.ProgramLines.{blocks-of-lines}
 use Rattle.reader.specs.Answers.{answerOf}
 use Rattle.reader.specs.declared.Answer.{Answer}
 use Rattle.reader.specs.declared.Answer.the-variants.{Read, Refused}
-use Rattle.writer.specs.Lines.{FewParts, WritesLines}
+use Rattle.writer.specs.Lines.{FewParts, WritesScript}
 
 -- ---- Lists of at most four
 
@@ -50,13 +50,13 @@ every-few : {m : Mosts} {s : Sofar} {Fs : List Form} → Scanned m s Fs → Ever
 every-few (ended some closed) = tt
 every-few {m} {s} (passed {F} p rest) = (few-parts m s F (p .in-mosts), every-few rest)
 
--- ---- What the table's lines say
+-- ---- What the table's words say
 
 module _ {table text : List ℕ} (it : ReadsTo mosts table text) where
   abbrev P : Program
   P = it .program
 
-  its-lines : Filled table (length (P .kinds) ∷ length (P .blocks) ∷ length (linesOf P) ∷ []) (linesOf P) (drop Most.words table)
+  its-lines : Filled table (length (P .kinds) ∷ length (P .blocks) ∷ length (linesOf P) ∷ editionWord (P .edition) ∷ []) (linesOf P) (drop Most.words table)
   its-lines =
       let valid = read-valid mosts text table P (it .reads) in
       record {
@@ -66,9 +66,9 @@ module _ {table text : List ℕ} (it : ReadsTo mosts table text) where
       }
 
   few : Every FewParts (linesOf P)
-  few = every-few (scan-passed mosts _ nothing 0 (linesOf P) (read-lines mosts text table P (it .reads)))
+  few = every-few (read-scanned mosts text table P (it .reads))
 
-  no-longer : length (join (map show (linesOf P))) ≤ Most.text
+  no-longer : length (headOf (P .edition) ++ join (map show (linesOf P))) ≤ Most.text
   no-longer = rw (← read-prints mosts text table P (it .reads)) (read-length mosts text table P (it .reads))
 
 -- the text at the front of a buffer, and its end
@@ -77,11 +77,11 @@ unfolding over
 front-is {text} w = (rw (zero-add (length text)) at (w .is), rw (zero-add (length text)) at (w .end))
 
 -- a text that reads to the table is the one that was written
-pub is-written : {table l l₁ text : List ℕ} {r : ℕ} → WritesLines table l l₁ r → ReadsTo mosts table text → take r l₁ ≡ text
+pub is-written : {table l l₁ text : List ℕ} {r : ℕ} → WritesScript table l l₁ r → ReadsTo mosts table text → take r l₁ ≡ text
 is-written {table} {l} {l₁} {text} {r} written it =
-    let w = written .writes _ _ (drop Most.words table) (linesOf (it .program)) (its-lines it) (few it) (no-longer it) in
+    let w = written .writes _ _ (it .program .edition) (drop Most.words table) (linesOf (it .program)) (its-lines it) (few it) (no-longer it) in
     let f = front-is w in
-    let same : join (map show (linesOf (it .program))) ≡ text = sym (read-prints mosts text table (it .program) (it .reads)) in
+    let same : headOf (it .program .edition) ++ join (map show (linesOf (it .program))) ≡ text = sym (read-prints mosts text table (it .program) (it .reads)) in
     rw (f .0, f .1, same) (take-append-seam text (drop (length text) l))
 
 -- ---- What reading it again tells

@@ -1,4 +1,5 @@
--- The text of a form from the words of its line: what the calls of a function write one after the other is what the form's template says.
+-- The text of a form from the words of its line: what the calls of a function write one after the other is what the form's template says. And the
+-- line that names the edition, from its word.
 use Prim.{Unit}
 use Prim.Native.Nat.{ℕ, zero, suc, _-_, _/_, _%_, _≤_}
 use native.Mathlib.Omega.{arith}
@@ -8,13 +9,13 @@ use lib.ListN.{length, getD, List·getD-eq-default}
 use borrow.Author.Tests.{eq-eqb, ne-eqb}
 use Rattle.rules.specs.Lists.{pad}
 use Rattle.rules.specs.Text.{bytes, space}
-use Rattle.rules.specs.Script.{Operand, value, field, swap, call, new, cast, spawn, send, recv, bind, give, thread, method, Form, kind, opens, line, rank}
-use Rattle.rules.specs.Templates.{decimal, printOperand, capWord, printMany, print, show}
-use Rattle.rules.specs.Tables.{operandItem, operandOf, capOf, lineWords, row}
+use Rattle.rules.specs.Script.{Operand, value, field, swap, call, new, cast, spawn, send, recv, copy, bind, give, thread, method, Form, kind, opens, line, Edition, edition1, edition2, rank}
+use Rattle.rules.specs.Templates.{decimal, printOperand, capWord, printMany, print, show, headOf}
+use Rattle.rules.specs.Tables.{operandItem, operandOf, capOf, lineWords, row, editionWord}
 use Rattle.rules.specs.Reading.{operandsIn}
 use Rattle.rules.proofs.TableWords.{cap-of-rank, operand-of-word}
 use Rattle.texts.specs.Writing.{numberPart}
-use Rattle.writer.specs.Lines.{operandPart, itemPart, itemsOf, formsOf, lineText, FewParts}
+use Rattle.writer.specs.Lines.{operandPart, itemPart, itemsOf, formsOf, lineText, FewParts, headText}
 
 -- ---- Parts
 
@@ -108,6 +109,10 @@ module _ {form : ℕ} (a b c d e f : ℕ) where
   unfolding lineText show print
   recv-text is = rw is refl
 
+  pub copy-text : form ≡ 14 → bytes "(let (copy" ++ ((space ∷ capWord (capOf a)) ++ (numberPart b ++ bytes "))\n")) ≡ lineText form a b c d e f
+  unfolding lineText show print
+  copy-text is = rw is refl
+
 -- the number is none of 1 to k
 abbrev NoneUpTo : ℕ → ℕ → Type 0
 NoneUpTo form zero = Unit {0}
@@ -120,10 +125,10 @@ past-all form (suc k) none =
     let other : form ≡ k → ⊥ = λ e. none .1 (ap suc e) in
     omega (arith, past, other)
 
-pub no-text : (form a b c d e f : ℕ) → NoneUpTo form 13 → [] ≡ lineText form a b c d e f
+pub no-text : (form a b c d e f : ℕ) → NoneUpTo form 14 → [] ≡ lineText form a b c d e f
 unfolding lineText
 no-text zero a b c d e f none = refl
-no-text (suc i) a b c d e f none = sym (List·getD-eq-default (map show (formsOf a b c d e f)) [] (past-all i 13 none))
+no-text (suc i) a b c d e f none = sym (List·getD-eq-default (map show (formsOf a b c d e f)) [] (past-all i 14 none))
 
 -- ---- The words of a form tell it
 
@@ -166,3 +171,19 @@ form-told (line (bind (cast k w))) few = rw (cap-of-rank k, operand-of-word w) r
 form-told (line (bind (spawn b))) few = refl
 form-told (line (bind (send s w))) few = rw (operand-of-word w) refl
 form-told (line (bind (recv s))) few = refl
+form-told (line (bind (copy k s))) few = rw (cap-of-rank k) refl
+
+-- ---- The line that names the edition
+
+pub head-text : (w : ℕ) → w ≡ 2 → bytes "(script 2)\n" ≡ headText w
+unfolding headText print
+head-text w names = rw (eq-eqb w 2 names) refl
+
+pub no-head-text : (w : ℕ) → (w ≡ 2 → ⊥) → [] ≡ headText w
+unfolding headText
+no-head-text w other = rw (ne-eqb w 2 other) refl
+
+pub head-told : (d : Edition) → headText (editionWord d) ≡ headOf d
+unfolding headText
+head-told edition1 = refl
+head-told edition2 = refl

@@ -1,15 +1,18 @@
--- The text of a form from the words of its line in the table, whatever words they are; and the lines that a table holds, written.
+-- The text of a form from the words of its line in the table, whatever words they are; and the lines and the script that a table holds, written.
 use Prim.{Unit}
 use Prim.Native.Nat.{ℕ, zero, suc, _+_, _≤_, _<_}
-use mathlib.Core.List.{List, [], _∷_, map}
+use mathlib.Core.Path.{_≡_}
+use mathlib.Core.Bool.{cond}
+use mathlib.Core.List.{List, [], _∷_, _++_, map}
+use lib.Dec.{eqb}
 use lib.ListN.{length, getD}
 use Rattle.rules.specs.Lists.{Every}
 use Rattle.rules.specs.Mosts as Most
 use Rattle.rules.specs.Text.{space, join}
-use Rattle.rules.specs.Script.{value, field, swap, call, new, cast, spawn, send, recv, bind, give, thread, method, Form, kind, opens, line}
-use Rattle.rules.specs.Templates.{printOperand, show}
+use Rattle.rules.specs.Script.{value, field, swap, call, new, cast, spawn, send, recv, copy, bind, give, thread, method, Form, kind, opens, line, Edition, edition1, edition2}
+use Rattle.rules.specs.Templates.{printOperand, show, headOf}
 use Rattle.rules.specs.Reading.{operandsIn}
-use Rattle.rules.specs.Tables.{operandOf, capOf}
+use Rattle.rules.specs.Tables.{operandOf, capOf, editionWord}
 use Rattle.texts.specs.Writing.{Wrote}
 use Rattle.table.specs.Program.{Filled, noForm}
 
@@ -45,6 +48,7 @@ formsOf a b c d e f =
     ∷ line (bind (spawn a))
     ∷ line (bind (send a (operandOf b)))
     ∷ line (bind (recv a))
+    ∷ line (bind (copy (capOf a) b))
     ∷ []
 
 -- nothing where no form has the number
@@ -70,8 +74,20 @@ pub record WritesLine (t : List ℕ) (n : ℕ) (l l₁ : List ℕ) (at r : ℕ) 
       → Wrote lineBytes l l₁ at r (show (getD Fs n noForm))
   pub most : r ≤ at + lineBytes
 
--- all lines, where they are no longer than a text may be
-pub record WritesLines (t l l₁ : List ℕ) (r : ℕ) : Type 0 where
-  pub writes : (kinds blocks : ℕ) (rest : List ℕ) (Fs : List Form) → Filled t (kinds ∷ blocks ∷ length Fs ∷ []) Fs rest → Every FewParts Fs
-      → length (join (map show Fs)) ≤ Most.text → Wrote (Most.text + lineBytes) l l₁ 0 r (join (map show Fs))
+-- all lines, where they end no later than a text may
+pub record WritesLines (t l l₁ : List ℕ) (at r : ℕ) : Type 0 where
+  pub writes : (counts rest : List ℕ) (Fs : List Form) → Filled t counts Fs rest → getD counts 2 0 ≡ length Fs → Every FewParts Fs
+      → at + length (join (map show Fs)) ≤ Most.text → Wrote (Most.text + lineBytes) l l₁ at r (join (map show Fs))
+  pub most : r ≤ Most.text + lineBytes
+
+-- ---- The script of a table
+
+-- what stands before the lines, by the edition's word; every other word names no edition
+unfoldable pub headText : ℕ → List ℕ
+headText w = cond (eqb w (editionWord edition2)) (headOf edition2) (headOf edition1)
+
+-- the line that names the edition and all lines, where they are no longer than a text may be
+pub record WritesScript (t l l₁ : List ℕ) (r : ℕ) : Type 0 where
+  pub writes : (kinds blocks : ℕ) (d : Edition) (rest : List ℕ) (Fs : List Form) → Filled t (kinds ∷ blocks ∷ length Fs ∷ editionWord d ∷ []) Fs rest → Every FewParts Fs
+      → length (headOf d ++ join (map show Fs)) ≤ Most.text → Wrote (Most.text + lineBytes) l l₁ 0 r (headOf d ++ join (map show Fs))
   pub most : r ≤ Most.text + lineBytes

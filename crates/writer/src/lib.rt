@@ -1,7 +1,7 @@
 // A script written back out from its program table.
 mod lines;
 
-use lines::put_lines;
+use lines::put_script;
 ghost use Rattle.rules.specs.Mosts.{mosts};
 ghost use Rattle.rules.specs.Writer.{WriteCall};
 ghost use Rattle.writer.specs.Answers.{answerOf};
@@ -12,7 +12,7 @@ pub enum Answer {
     Written(usize),
 }
 
-// Writes the text that reads to a program table. What its lines say is written beside the buffer and read again: where that is refused, or gives
+// Writes the text that reads to a program table. What its words say is written beside the buffer and read again: where that is refused, or gives
 // other words, no text reads to the table. A refusal changes no byte.
 pub fn write(table: &[u16], buffer: &mut [u8]) -> Answer
     ensures { λ r. ⌜ WriteCall mosts (now (table .entry)) (now (buffer .entry)) (answerOf r) (now (buffer .exit)) ⌝ }
@@ -24,7 +24,7 @@ pub fn write(table: &[u16], buffer: &mut [u8]) -> Answer
         return Answer::Refused(rules::numbers::SHORT_TABLE);
     }
     let mut text = [0u8; 16461]; // a line more than a text may have
-    let length = put_lines(&mut text, table);
+    let length = put_script(&mut text, table);
     let mut words = [0u16; 8192];
     let answer = reader::read(&text[..length], &mut words);
     match answer {

@@ -1,4 +1,4 @@
-// The lines of a program table as text. Each function writes at a place and answers the place after its text; a form is written by its number
+// The script of a program table as text. Each function writes at a place and answers the place after its text; a form is written by its number
 // and its words, whatever they are.
 use texts::put_byte;
 use texts::put_cap;
@@ -11,7 +11,7 @@ ghost use Rattle.rules.specs.Text.{bytes, space};
 ghost use Rattle.rules.specs.Templates.{decimal, capWord, printOperand, printMany};
 ghost use Rattle.rules.specs.Tables.{operandOf, capOf};
 ghost use Rattle.texts.specs.Writing.{Wrote, numberPart};
-ghost use Rattle.writer.specs.Lines.{operandPart, itemPart, itemsOf, lineText, WritesLine, WritesLines};
+ghost use Rattle.writer.specs.Lines.{operandPart, itemPart, itemsOf, lineText, WritesLine, WritesLines, WritesScript};
 
 // ---- Parts
 
@@ -157,6 +157,16 @@ fn put_send(buf: &mut [u8], at: usize, slot: u16, w: u16) -> usize
     put_text(buf, k, b"))\n")
 }
 
+fn put_copy(buf: &mut [u8], at: usize, cap: u16, slot: u16) -> usize
+    requires { ⌜ at + 26 ≤ length (now buf) ⌝ }
+    ensures { λ r. ⌜ Wrote 26 (now (buf .entry)) (now (buf .exit)) at r (bytes "(let (copy" ++ ((space ∷ capWord (capOf cap)) ++ (numberPart slot ++ bytes "))\n"))) ⌝ }
+{
+    let i = put_text(buf, at, b"(let (copy");
+    let j = put_cap(buf, i, table::cap_of(cap));
+    let k = put_number(buf, j, slot as usize);
+    put_text(buf, k, b"))\n")
+}
+
 // A form by its number and its words; nothing where there is no such form.
 fn put_form(
     buf: &mut [u8],
@@ -186,6 +196,7 @@ fn put_form(
         11 => put_one(buf, at, b"(let (spawn", a),
         12 => put_send(buf, at, a, b),
         13 => put_one(buf, at, b"(let (recv", a),
+        14 => put_copy(buf, at, a, b),
         _ => at,
     }
 }
@@ -207,13 +218,13 @@ fn put_line(buf: &mut [u8], at: usize, t: &[u16], n: usize) -> usize
     put_form(buf, at, form, a, b, c, d, e, f)
 }
 
-// All lines, until they are longer than a text may be.
-pub fn put_lines(buf: &mut [u8], t: &[u16]) -> usize
-    requires { ⌜ (16461 ≤ length (now buf)) × (8192 ≤ length (now t)) ⌝ }
-    ensures { λ r. ⌜ WritesLines (now (t .entry)) (now (buf .entry)) (now (buf .exit)) r ⌝ }
+// All lines, until the text is longer than it may be.
+fn put_lines(buf: &mut [u8], from: usize, t: &[u16]) -> usize
+    requires { ⌜ (16461 ≤ length (now buf)) × (from ≤ 16461) × (8192 ≤ length (now t)) ⌝ }
+    ensures { λ r. ⌜ WritesLines (now (t .entry)) (now (buf .entry)) (now (buf .exit)) from r ⌝ }
 {
     let lines = table::line_count(t) % 673;
-    let mut at: usize = 0;
+    let mut at = from;
     let mut n: usize = 0;
     while n < lines {
         if 16384 < at {
@@ -223,4 +234,18 @@ pub fn put_lines(buf: &mut [u8], t: &[u16]) -> usize
         n += 1;
     }
     at
+}
+
+// ---- The script
+
+// All lines, after the line that names the edition where the table's word does.
+pub fn put_script(buf: &mut [u8], t: &[u16]) -> usize
+    requires { ⌜ (16461 ≤ length (now buf)) × (8192 ≤ length (now t)) ⌝ }
+    ensures { λ r. ⌜ WritesScript (now (t .entry)) (now (buf .entry)) (now (buf .exit)) r ⌝ }
+{
+    if table::edition(t) == 2 {
+        let at = put_text(buf, 0, b"(script 2)\n");
+        return put_lines(buf, at, t);
+    }
+    put_lines(buf, 0, t)
 }

@@ -43,6 +43,9 @@ send-at-requires c κs = search needs
 recv-at-requires : tie.Need-recv-at-requires
 recv-at-requires c κs = search needs
 
+copy-at-requires : tie.Need-copy-at-requires
+copy-at-requires c κs = search needs
+
 give-or-value-at-requires : tie.Need-give-or-value-at-requires
 give-or-value-at-requires c κs = search needs
 
@@ -80,24 +83,27 @@ returns-10 : tie.Need-returns-10
 returns-10 c = line-by-form 12 (omega arith) (sym (c .before .before .form-at .ensures) ∙ c .before .match .keys9) (c .recv-at .ensures)
 
 returns-11 : tie.Need-returns-11
-returns-11 c =
-    let told = c .before .before .before in
-    let low = past-all 3 _ (told .match .rest .0 .0 .0 .0 .0 .0) (c .before .before .if2 .left) in
-    line-by-either 3 (omega arith) (told .before .form-at .ensures) low (c .before .if3 .taken) (c .give-or-value-at .ensures)
+returns-11 c = line-by-form 13 (omega arith) (sym (c .before .before .form-at .ensures) ∙ c .before .match .keys10) (c .copy-at .ensures)
 
 returns-12 : tie.Need-returns-12
 returns-12 c =
-    let told = c .before .before .before .before in
-    line-by-either 6 (omega arith) (told .before .form-at .ensures) (one-past _ 6 (told .match .rest .0 .0 .0 .0 .0 .1) (c .before .before .if3 .left)) (c .before .if4 .taken) (c .swap-or-call-at .ensures)
+    let told = c .before .before .before in
+    let low = past-all 3 _ (told .match .rest .0 .0 .0 .0 .0 .0 .0) (c .before .before .if2 .left) in
+    line-by-either 3 (omega arith) (told .before .form-at .ensures) low (c .before .if3 .taken) (c .give-or-value-at .ensures)
 
 returns-13 : tie.Need-returns-13
 returns-13 c =
+    let told = c .before .before .before .before in
+    line-by-either 6 (omega arith) (told .before .form-at .ensures) (one-past _ 6 (told .match .rest .0 .0 .0 .0 .0 .0 .1) (c .before .before .if3 .left)) (c .before .if4 .taken) (c .swap-or-call-at .ensures)
+
+returns-14 : tie.Need-returns-14
+returns-14 c =
     let told = c .before .before in
     let others = told .match .rest in
     line-by-none _ _ _ _ (c .short-line2 .ensures .0 .0) (told .before .form-at .ensures)
     (⊎-elim
-    (λ w. let low = w .taken in not-up-to 13 _ (λ j h e. omega arith))
-    (λ w. let high = w .2 .left in (((((not-up-to 8 _ (λ j h e. omega arith), others .0 .0 .0 .0 .1), others .0 .0 .0 .1), others .0 .0 .1), others .0 .1), others .1))
+    (λ w. let low = w .taken in not-up-to 14 _ (λ j h e. omega arith))
+    (λ w. let high = w .2 .left in ((((((not-up-to 8 _ (λ j h e. omega arith), others .0 .0 .0 .0 .0 .1), others .0 .0 .0 .0 .1), others .0 .0 .0 .1), others .0 .0 .1), others .0 .1), others .1))
     (c .before .if2 .came))
 
 pub line-at-spec : {M : Type 1} → statement M
@@ -116,6 +122,7 @@ line-at-spec =
     spawn-at-requires
     send-at-requires
     recv-at-requires
+    copy-at-requires
     give-or-value-at-requires
     swap-or-call-at-requires
     short-line-requires-2
@@ -130,4 +137,5 @@ line-at-spec =
     returns-10
     returns-11
     returns-12
-    returns-13)
+    returns-13
+    returns-14)

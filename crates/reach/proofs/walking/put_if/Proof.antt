@@ -1,4 +1,4 @@
--- `reach::walking::put_if` meets its contract, whether the number is marked or not.
+-- `reach::walking::put_if` meets its contract, whether the number is met or not.
 use mathlib.Core.Path.{refl}
 use borrow.Author.Needs.{needs}
 use Rattle.reach.proofs.walking.put_if.Statement.{statement}

@@ -4,29 +4,39 @@ use native.Mathlib.Omega.{arith}
 use mathlib.Core.Path.{_≡_, refl, _∙_}
 use lib.ListN.{length, take}
 use Rattle.table.specs.State.{Any, frameAt}
-use Rattle.reach.specs.Walking.{Walks}
-use Rattle.reach.proofs.Steps.{slot-seen, row-begins, row-next, frame-walked}
+use Rattle.walk.specs.Walking.{tally, Grows, Walks}
+use Rattle.walk.proofs.Numbers.{same-tally, grows-then}
+use Rattle.walk.proofs.Steps.{row-begins, row-next}
+use Rattle.reach.proofs.Steps.{slot-seen, frame-walked}
 use borrow.Author.Needs.{needs}
 use Rattle.reach.proofs.walking.walk_frame.Statement.{statement}
 use Rattle.reach.proofs.walking.walk_frame.Tie as tie
 
 abbrev Inv-loop : tie.InvT-loop
-Inv-loop s marks₀ t k i₀ marks i = (i ≤ 16) × (length marks ≡ length marks₀) × Walks s marks₀ Any (λ S. take i (frameAt S t k .slots)) marks
+Inv-loop s places₀ order₀ n t k met₀ i₀ places order met i =
+    (i ≤ 16) × (length places ≡ length places₀) × (length order ≡ length order₀)
+    × Walks s (tally places₀ order₀ n) Any (λ S. take i (frameAt S t k .slots)) (tally places order met)
+    × Grows (tally places₀ order₀ n) (tally places order met)
 
 abbrev μ-loop : tie.MeasureT-loop
-μ-loop s marks₀ t k i₀ marks i = 16 - i
+μ-loop s places₀ order₀ n t k met₀ i₀ places order met i = 16 - i
 
 loop-holds : tie.Need-loop-holds Inv-loop μ-loop
-loop-holds c =
-    let a = c .before .before .args in (search needs, refl, row-begins (λ S. frameAt S (a .t) (a .k) .slots))
+loop-holds c = let a = c .before .before .before .args in (omega arith, refl, refl, row-begins (λ S. frameAt S (a .t) (a .k) .slots), same-tally)
 
 frame-slot-requires : tie.Need-frame-slot-requires Inv-loop μ-loop
-frame-slot-requires c κs =
-    let pre = c .before .before .before .before .before .pre in (pre .0, pre .2, pre .3, c .before .loop-test .taken)
+frame-slot-requires c κs = let pre = c .before .before .before .before .before .before .before .pre in (pre .0, pre .4, pre .5, c .before .before .loop-test .taken)
 
 walk-requires : tie.Need-walk-requires Inv-loop μ-loop
 walk-requires c κs =
-    let pre = c .before .before .before .before .before .before .pre in (pre .0, omega (arith, c .before .before .before .loop .inv .1, pre .1), c .frame-slot .ensures .0 .1)
+    let pre = c .before .before .before .before .before .before .before .before .pre in
+    let inv = c .before .before .before .before .loop .inv in (
+      pre .0,
+      omega (arith, inv .1, pre .1),
+      omega (arith, inv .2, pre .2),
+      c .frame-slot .ensures .0 .1,
+      omega (arith, inv .4 .room, pre .3),
+    )
 
 add-i : tie.Need-add-i Inv-loop μ-loop
 add-i c = search needs
@@ -36,20 +46,25 @@ loop-less c = search needs
 
 loop-again : tie.Need-loop-again Inv-loop μ-loop
 loop-again c =
-    let a = c .before .before .before .before .before .before .before .before .before .args in
-    let loop = c .before .before .before .before .before .before .loop in
-    let walk = c .before .before .walk in (
+    let a = c .before .before .before .before .before .before .before .before .before .before .before .before .before .args in
+    let loop = c .before .before .before .before .before .before .before .before .before .loop in
+    let walk = c .before .before .before .before .walk in (
       omega arith,
       walk .kept .1 .0 ∙ loop .inv .1,
-      row-next (λ S. frameAt S (a .t) (a .k) .slots) (loop .i) (slot-seen (a .t) (a .k) (loop .i) (c .before .before .before .frame-slot .ensures .1)) (loop .inv .2) (walk .ensures .0),
+      walk .kept .1 .1 .0 ∙ loop .inv .2,
+      row-next (λ S. frameAt S (a .t) (a .k) .slots) (loop .i) (slot-seen (a .t) (a .k) (loop .i) (c .before .before .before .before .before .frame-slot .ensures .1)) (loop .inv .3) (walk .ensures .0),
+      grows-then (loop .inv .4) (walk .ensures .1),
     )
 
 same-length : tie.Need-same-length Inv-loop μ-loop
 same-length c = c .before .loop .inv .1
 
+same-length-2 : tie.Need-same-length-2 Inv-loop μ-loop
+same-length-2 c = c .before .loop .inv .2
+
 returns : tie.Need-returns Inv-loop μ-loop
 returns c =
-    let a = c .before .before .before .before .args in frame-walked (a .t) (a .k) (c .before .loop .i) (c .loop-test .left) (c .before .loop .inv .2)
+    let a = c .before .before .before .before .before .args in (frame-walked (a .t) (a .k) (c .before .loop .i) (c .loop-test .left) (c .before .loop .inv .3), c .before .loop .inv .4)
 
 pub walk-frame-spec : {M : Type 1} → statement M
 walk-frame-spec =
@@ -64,4 +79,5 @@ walk-frame-spec =
     loop-less
     loop-again
     same-length
+    same-length-2
     returns)

@@ -3,31 +3,43 @@ use Prim.Native.Nat.{_-_, _≤_}
 use native.Mathlib.Omega.{arith}
 use mathlib.Core.Path.{_≡_, refl, _∙_}
 use lib.ListN.{length}
+use denote.Ref.{now}
 use Rattle.table.specs.State.{Any}
-use Rattle.reach.specs.Walking.{Walks}
+use Rattle.walk.specs.Walking.{tally, Grows, Walks}
+use Rattle.walk.proofs.Numbers.{few-unmet, same-tally, grows-then}
 use Rattle.reach.proofs.Steps.{slotsTo, no-frame-yet, frame-next, thread-walked}
 use borrow.Author.Needs.{needs}
 use Rattle.reach.proofs.walking.walk_thread.Statement.{statement}
 use Rattle.reach.proofs.walking.walk_thread.Tie as tie
 
 abbrev Inv-loop : tie.InvT-loop
-Inv-loop s marks₀ t n k₀ marks k = (k ≤ n) × (length marks ≡ length marks₀) × Walks s marks₀ Any (slotsTo t k) marks
+Inv-loop s places₀ order₀ t n met₀ k₀ places order met k =
+    (k ≤ n) × (length places ≡ length places₀) × (length order ≡ length order₀) × Walks s (tally places₀ order₀ 0) Any (slotsTo t k) (tally places order met)
+    × Grows (tally places₀ order₀ 0) (tally places order met)
 
 abbrev μ-loop : tie.MeasureT-loop
-μ-loop s marks₀ t n k₀ marks k = n - k
+μ-loop s places₀ order₀ t n met₀ k₀ places order met k = n - k
 
 frame-count-requires : tie.Need-frame-count-requires Inv-loop μ-loop
-frame-count-requires c κs = let pre = c .before .before .pre in (pre .0, pre .2)
+frame-count-requires c κs = let pre = c .before .before .before .pre in (pre .0, pre .3)
 
 cast-n : tie.Need-cast-n Inv-loop μ-loop
 cast-n c = search needs
 
 loop-holds : tie.Need-loop-holds Inv-loop μ-loop
-loop-holds c = (search needs, refl, no-frame-yet (c .before .before .before .args .t))
+loop-holds c = (omega arith, refl, refl, no-frame-yet (c .before .before .before .before .args .t), same-tally)
 
 walk-frame-requires : tie.Need-walk-frame-requires Inv-loop μ-loop
 walk-frame-requires c κs =
-    let pre = c .before .before .before .before .before .before .pre in (pre .0, omega (arith, c .before .before .loop .inv .1, pre .1), pre .2, omega arith)
+    let pre = c .before .before .before .before .before .before .before .before .pre in
+    let inv = c .before .before .before .loop .inv in (
+      pre .0,
+      omega (arith, inv .1, pre .1),
+      omega (arith, inv .2, pre .2),
+      omega (arith, inv .4 .room, few-unmet 256 (now (c .before .before .before .before .before .before .before .before .args .places))),
+      pre .3,
+      omega arith,
+    )
 
 add-k : tie.Need-add-k Inv-loop μ-loop
 add-k c = search needs
@@ -37,21 +49,24 @@ loop-less c = search needs
 
 loop-again : tie.Need-loop-again Inv-loop μ-loop
 loop-again c =
-    let loop = c .before .before .before .before .before .loop in
-    let walk = c .before .before .walk-frame in (
+    let loop = c .before .before .before .before .before .before .before .before .loop in
+    let walk = c .before .before .before .before .walk-frame in (
       omega arith,
       walk .kept .1 .0 ∙ loop .inv .1,
-      frame-next (c .before .before .before .before .before .before .before .before .before .args .t)
-          (c .before .before .before .before .before .before .frame-count .ensures .1) (loop .k) (c .before .before .before .before .loop-test .taken) (loop .inv .2) (walk .ensures),
+      walk .kept .1 .1 .0 ∙ loop .inv .2,
+      frame-next (c .before .before .before .before .before .before .before .before .before .before .before .before .before .args .t) (c .before .before .before .before .before .before .before .before .before .frame-count .ensures .1) (loop .k) (c .before .before .before .before .before .before .before .loop-test .taken) (loop .inv .3) (walk .ensures .0),
+      grows-then (loop .inv .4) (walk .ensures .1),
     )
 
 same-length : tie.Need-same-length Inv-loop μ-loop
 same-length c = c .before .loop .inv .1
 
+same-length-2 : tie.Need-same-length-2 Inv-loop μ-loop
+same-length-2 c = c .before .loop .inv .2
+
 returns : tie.Need-returns Inv-loop μ-loop
 returns c =
-    let loop = c .before .loop in
-    thread-walked (c .before .before .before .before .before .args .t) (c .before .before .frame-count .ensures .1) (loop .k) (c .loop-test .left) (loop .inv .2)
+    let loop = c .before .loop in (thread-walked (c .before .before .before .before .before .before .args .t) (c .before .before .frame-count .ensures .1) (loop .k) (c .loop-test .left) (loop .inv .3), loop .inv .4)
 
 pub walk-thread-spec : {M : Type 1} → statement M
 walk-thread-spec =
@@ -67,4 +82,5 @@ walk-thread-spec =
     loop-less
     loop-again
     same-length
+    same-length-2
     returns)

@@ -132,10 +132,17 @@ returns-14 : tie.Need-returns-14
 returns-14 c =
     let a = c .before .before .before .args in
     let word = c .before .line-word in
+    let is-14 = c .match .keys14 in
+    record { is = λ P b table k l h o. other-line P b (formAt P (a .n)) (word .result) (line-word-is table (word .ensures .1) h) (λ e. omega arith) (λ e. omega arith) (λ e. omega arith) (λ e. omega arith) }
+
+returns-15 : tie.Need-returns-15
+returns-15 c =
+    let a = c .before .before .before .args in
+    let word = c .before .line-word in
     let others = c .match .rest in
     record {
       is = λ P b table k l h o.
-          other-line P b (formAt P (a .n)) (word .result) (line-word-is table (word .ensures .1) h) (others .0 .0 .0 .0 .0 .0 .0 .0 .0 .0 .0 .0 .1) (others .0 .0 .0 .0 .0 .0 .0 .0 .0 .0 .1) (others .0 .0 .0 .0 .1) (others .0 .0 .1);
+          other-line P b (formAt P (a .n)) (word .result) (line-word-is table (word .ensures .1) h) (others .0 .0 .0 .0 .0 .0 .0 .0 .0 .0 .0 .0 .0 .1) (others .0 .0 .0 .0 .0 .0 .0 .0 .0 .0 .0 .1) (others .0 .0 .0 .0 .0 .1) (others .0 .0 .0 .1);
     }
 
 pub line-dangles-spec : {M : Type 1} → statement M
@@ -161,4 +168,5 @@ line-dangles-spec =
     returns-11
     returns-12
     returns-13
-    returns-14)
+    returns-14
+    returns-15)

@@ -4,21 +4,22 @@ use Prim.Native.Nat.{_-_}
 use lib.ListN.{length}
 use denote.Ref.{now}
 use borrow.Author.Tests.{not-true, not-false}
-use Rattle.reader.proofs.Scan.{Scanning, at-start, at-end, unfit-line, refused-line, Passes, passes, small, room, further, next-line}
+use Rattle.reader.specs.Sofar.{editionOf}
+use Rattle.reader.proofs.Scan.{Scanning, at-start, at-end, unfit-line, refused-line, Passes, passes, few-lines, small, room, further, next-line}
 use Rattle.reader.proofs.scanning.scan_lines.Statement.{statement}
 use Rattle.reader.proofs.scanning.scan_lines.Tie as tie
 
 abbrev Inv-loop : tie.InvT-loop
-Inv-loop m text words₀ r₀ n₀ at₀ words r n at = Scanning m text words₀ words r n at
+Inv-loop m second text words₀ r₀ n₀ at₀ words r n at = Scanning m (editionOf second) text words₀ words r n at
 
 abbrev μ-loop : tie.MeasureT-loop
-μ-loop m text words₀ r₀ n₀ at₀ words r n at = length text - at
+μ-loop m second text words₀ r₀ n₀ at₀ words r n at = length text - at
 
 loop-holds : tie.Need-loop-holds Inv-loop μ-loop
 loop-holds c =
     let a = c .before .before .args in
     let h = c .before .before .pre in
-    at-start (now (a .text)) (now (a .words)) (record { kinds = h .0; blocks = h .1; lets = h .2 })
+    at-start (a .second) (now (a .text)) (now (a .words)) (record { kinds = h .0; blocks = h .1; lets = h .2 })
 
 line-at-requires : tie.Need-line-at-requires Inv-loop μ-loop
 line-at-requires c κs = (omega arith, omega arith)
@@ -32,7 +33,7 @@ same-length c = c .before .before .before .before .before .loop .inv .same-lengt
 returns : tie.Need-returns Inv-loop μ-loop
 returns c =
     let s = c .before .before .before .before .before .loop .inv in
-    unfit-line s (c .before .before .before .line-at .ensures) (c .before .before .before .before .loop-test .taken) (not-true _ (c .before .if1 .taken)) (c .unfit-fault .ensures)
+    (unfit-line s (c .before .before .before .line-at .ensures) (c .before .before .before .before .loop-test .taken) (not-true _ (c .before .if1 .taken)) (c .unfit-fault .ensures), few-lines s)
 
 fault-requires : tie.Need-fault-requires Inv-loop μ-loop
 fault-requires c κs = tt
@@ -43,7 +44,7 @@ same-length-2 c = c .before .before .before .before .before .before .loop .inv .
 returns-2 : tie.Need-returns-2 Inv-loop μ-loop
 returns-2 c =
     let s = c .before .before .before .before .before .before .loop .inv in
-    refused-line s (c .before .before .before .before .line-at .ensures) (not-false _ (c .before .before .if1 .left)) (c .before .fault .ensures) (c .if2 .taken)
+    (refused-line s (c .before .before .before .before .line-at .ensures) (not-false _ (c .before .before .if1 .left)) (c .before .fault .ensures) (c .if2 .taken), few-lines s)
 
 -- past its checks
 line-passes : (c : tie.Else2 Inv-loop μ-loop)
@@ -87,7 +88,9 @@ same-length-3 : tie.Need-same-length-3 Inv-loop μ-loop
 same-length-3 c = c .before .before .loop .inv .same-length
 
 returns-3 : tie.Need-returns-3 Inv-loop μ-loop
-returns-3 c = at-end (c .before .before .loop .inv) (c .before .loop-test .left) (c .finish .ensures)
+returns-3 c =
+    let s = c .before .before .loop .inv in
+    (at-end s (c .before .loop-test .left) (c .finish .ensures .0), omega (arith, c .finish .ensures .1, few-lines s))
 
 pub scan-lines-spec : {M : Type 1} → statement M
 scan-lines-spec =

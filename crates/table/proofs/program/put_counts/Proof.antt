@@ -1,4 +1,4 @@
--- `table::program::put_counts` meets its contract: the first three words are written, where a table without counts has zeros.
+-- `table::program::put_counts` meets its contract: the first four words are written, where a table without counts has zeros.
 use native.Mathlib.Omega.{arith}
 use mathlib.Core.Path.{refl}
 use mathlib.Core.List.{[], _∷_}
@@ -28,14 +28,17 @@ cast-t-3 c = search needs
 slice-write-t-3 : tie.Need-slice-write-t-3
 slice-write-t-3 c = simp length-set (omega arith)
 
+slice-write-t-4 : tie.Need-slice-write-t-4
+slice-write-t-4 c = simp length-set (omega arith)
+
 same-length : tie.Need-same-length
 same-length c = search needs
 
 returns : tie.Need-returns
 returns c =
     let a = c .args in (
-      sets-eq (a .kinds ∷ a .blocks ∷ a .lines ∷ []) (now (a .t)) 0 (omega arith),
-      record { counted = λ rest Fs filled. counts-added filled (a .kinds) (a .blocks) (a .lines) _ refl },
+      sets-eq (a .kinds ∷ a .blocks ∷ a .lines ∷ a .edition ∷ []) (now (a .t)) 0 (omega arith),
+      record { counted = λ rest Fs filled. counts-added filled (a .kinds) (a .blocks) (a .lines) (a .edition) _ refl },
     )
 
 pub put-counts-spec : {M : Type 1} → statement M
@@ -48,5 +51,6 @@ put-counts-spec =
     slice-write-t-2
     cast-t-3
     slice-write-t-3
+    slice-write-t-4
     same-length
     returns)

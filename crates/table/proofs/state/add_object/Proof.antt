@@ -1,7 +1,5 @@
--- `table::state::add_object` meets its contract: the words of a place that is not used are zero, the object's are written over them, and then the count.
-use native.Mathlib.Omega.{arith}
-use lib.ListN.{length-set}
-use Rattle.table.proofs.StateRecords.{object-added}
+-- `table::state::add_object` meets its contract: the words that are put are those of the items' slots.
+use Rattle.table.proofs.StateRecords.{item-fields}
 use borrow.Author.Needs.{needs}
 use Rattle.table.proofs.state.add_object.Statement.{statement}
 use Rattle.table.proofs.state.add_object.Tie as tie
@@ -18,97 +16,30 @@ item-word-requires-3 c κs = search needs
 item-word-requires-4 : tie.Need-item-word-requires-4
 item-word-requires-4 c κs = search needs
 
-mul-at : tie.Need-mul-at
-mul-at c = search needs
+cast-put-object : tie.Need-cast-put-object
+cast-put-object c = search needs
 
-add-at : tie.Need-add-at
-add-at c = search needs
-
-mul-s : tie.Need-mul-s
-mul-s c = search needs
-
-slice-write-s : tie.Need-slice-write-s
-slice-write-s c = search needs
-
-add-s : tie.Need-add-s
-add-s c = search needs
-
-mul-s-2 : tie.Need-mul-s-2
-mul-s-2 c = search needs
-
-slice-write-s-2 : tie.Need-slice-write-s-2
-slice-write-s-2 c = simp length-set (omega arith)
-
-cast-s : tie.Need-cast-s
-cast-s c = search needs
-
-add-s-2 : tie.Need-add-s-2
-add-s-2 c = search needs
-
-mul-s-3 : tie.Need-mul-s-3
-mul-s-3 c = search needs
-
-slice-write-s-3 : tie.Need-slice-write-s-3
-slice-write-s-3 c = simp length-set (omega arith)
-
-add-s-3 : tie.Need-add-s-3
-add-s-3 c = search needs
-
-mul-s-4 : tie.Need-mul-s-4
-mul-s-4 c = search needs
-
-slice-write-s-4 : tie.Need-slice-write-s-4
-slice-write-s-4 c = simp length-set (omega arith)
-
-add-s-4 : tie.Need-add-s-4
-add-s-4 c = search needs
-
-mul-s-5 : tie.Need-mul-s-5
-mul-s-5 c = search needs
-
-slice-write-s-5 : tie.Need-slice-write-s-5
-slice-write-s-5 c = simp length-set (omega arith)
-
-add-s-5 : tie.Need-add-s-5
-add-s-5 c = search needs
-
-mul-s-6 : tie.Need-mul-s-6
-mul-s-6 c = search needs
-
-slice-write-s-6 : tie.Need-slice-write-s-6
-slice-write-s-6 c = simp length-set (omega arith)
-
-add-s-6 : tie.Need-add-s-6
-add-s-6 c = search needs
-
-mul-s-7 : tie.Need-mul-s-7
-mul-s-7 c = search needs
-
-slice-write-s-7 : tie.Need-slice-write-s-7
-slice-write-s-7 c = simp length-set (omega arith)
-
-add-s-7 : tie.Need-add-s-7
-add-s-7 c = search needs
-
-slice-write-s-8 : tie.Need-slice-write-s-8
-slice-write-s-8 c = simp length-set (omega arith)
+put-object-requires : tie.Need-put-object-requires
+put-object-requires c κs = search needs
 
 same-length : tie.Need-same-length
-same-length c = simp length-set
+same-length c = search needs
 
 returns : tie.Need-returns
 returns c =
-    let s = c .before .before .before .before .before .before .before .before .before .before in
+    let at-word4 = c .before .before .before .before .before in
+    let at-word3 = at-word4 .before .before in
+    let at-word2 = at-word3 .before .before in
+    let at-word = at-word2 .before .before in
+    let s = at-word .before .before .before in
     let a = s .args in
     record {
       makes = λ k ws cap≡ items low. record {
         becomes = λ S rest held next.
-            object-added held (a .h) (s .pre .1) (a .n) (a .cap) (a .kind) (a .a) (a .b) (a .c) (a .d) k ws (omega arith) cap≡
-            (c .before .before .before .before .before .before .before .item-word .ensures)
-            (c .before .before .before .before .before .item-word2 .ensures)
-            (c .before .before .before .item-word3 .ensures)
-            (c .before .item-word4 .ensures)
-            items low next;
+            c .before .before .put-object .ensures .makes k _ cap≡
+            (item-fields held (a .h) (s .pre .1) (a .a) (a .b) (a .c) (a .d) ws (at-word .item-word .ensures) (at-word2 .item-word2 .ensures)
+            (at-word3 .item-word3 .ensures) (at-word4 .item-word4 .ensures) items low)
+            .becomes S rest held next;
       };
     }
 
@@ -120,30 +51,7 @@ add-object-spec =
     item-word-requires-2
     item-word-requires-3
     item-word-requires-4
-    mul-at
-    add-at
-    mul-s
-    slice-write-s
-    add-s
-    mul-s-2
-    slice-write-s-2
-    cast-s
-    add-s-2
-    mul-s-3
-    slice-write-s-3
-    add-s-3
-    mul-s-4
-    slice-write-s-4
-    add-s-4
-    mul-s-5
-    slice-write-s-5
-    add-s-5
-    mul-s-6
-    slice-write-s-6
-    add-s-6
-    mul-s-7
-    slice-write-s-7
-    add-s-7
-    slice-write-s-8
+    cast-put-object
+    put-object-requires
     same-length
     returns)

@@ -1,6 +1,6 @@
 -- `turn::turns::perform` meets its contract: the words at the thread's place tell its line, which is the one that is called; no line has another number.
 use native.Mathlib.Omega.{arith}
-use Rattle.turn.proofs.Dispatch.{tells-give, tells-value, tells-field, tells-swap, tells-call, tells-cast, tells-spawn, tells-send, tells-recv, performs-loaded, performs-here, performs-new, no-other-form, no-form-left}
+use Rattle.turn.proofs.Dispatch.{tells-give, tells-value, tells-field, tells-swap, tells-call, tells-cast, tells-spawn, tells-send, tells-recv, tells-copy, performs-loaded, performs-here, performs-new, no-other-form, no-form-left}
 use borrow.Author.Needs.{needs}
 use Rattle.turn.proofs.turns.perform.Statement.{statement}
 use Rattle.turn.proofs.turns.perform.Tie as tie
@@ -110,6 +110,18 @@ part-requires-23 c κs = search needs
 recv-line-requires : tie.Need-recv-line-requires
 recv-line-requires c κs = search needs
 
+part-requires-24 : tie.Need-part-requires-24
+part-requires-24 c κs = search needs
+
+cap-of-requires-3 : tie.Need-cap-of-requires-3
+cap-of-requires-3 c κs = search needs
+
+part-requires-25 : tie.Need-part-requires-25
+part-requires-25 c κs = search needs
+
+copy-line-requires : tie.Need-copy-line-requires
+copy-line-requires c κs = search needs
+
 returns : tie.Need-returns
 returns c = no-other-form (c .before .part .ensures) λ least most. omega (arith, c .match .keys1, least)
 
@@ -215,12 +227,22 @@ returns-13 c =
     let at-part = at-part23 .before .before .before in
     performs-here (tells-recv (at-part .part .ensures) (at-part23 .part23 .ensures) (at-part23 .before .before .match .keys13)) (c .before .before .recv-line .ensures)
 
+same-length-11 : tie.Need-same-length-11
+same-length-11 c = search needs
+
 returns-14 : tie.Need-returns-14
 returns-14 c =
+    let at-part25 = c .before .before .before in
+    let at-match = at-part25 .before .before .before .before in
+    performs-here (tells-copy (at-match .before .part .ensures) (at-part25 .before .before .part24 .ensures) (at-part25 .part25 .ensures) (at-part25 .before .cap-of3 .ensures)
+    (at-match .match .keys14)) (c .before .before .copy-line .ensures)
+
+returns-15 : tie.Need-returns-15
+returns-15 c =
     let left = c .match .rest in
     no-form-left (c .before .part .ensures)
-    (left .0 .0 .0 .0 .0 .0 .0 .0 .0 .1) (left .0 .0 .0 .0 .0 .0 .0 .0 .1) (left .0 .0 .0 .0 .0 .0 .0 .1) (left .0 .0 .0 .0 .0 .0 .1) (left .0 .0 .0 .0 .0 .1)
-    (left .0 .0 .0 .0 .1) (left .0 .0 .0 .1) (left .0 .0 .1) (left .0 .1) (left .1)
+    (left .0 .0 .0 .0 .0 .0 .0 .0 .0 .0 .1) (left .0 .0 .0 .0 .0 .0 .0 .0 .0 .1) (left .0 .0 .0 .0 .0 .0 .0 .0 .1) (left .0 .0 .0 .0 .0 .0 .0 .1) (left .0 .0 .0 .0 .0 .0 .1)
+    (left .0 .0 .0 .0 .0 .1) (left .0 .0 .0 .0 .1) (left .0 .0 .0 .1) (left .0 .0 .1) (left .0 .1) (left .1)
 
 pub perform-spec : {M : Type 1} → statement M
 perform-spec =
@@ -261,6 +283,10 @@ perform-spec =
     send-line-requires
     part-requires-23
     recv-line-requires
+    part-requires-24
+    cap-of-requires-3
+    part-requires-25
+    copy-line-requires
     returns
     returns-2
     returns-3
@@ -284,4 +310,6 @@ perform-spec =
     returns-12
     same-length-10
     returns-13
-    returns-14)
+    same-length-11
+    returns-14
+    returns-15)

@@ -1,7 +1,7 @@
 -- `writer::lines::put_form` meets its contract: each number has its own text, and no form has another number.
 use native.Mathlib.Omega.{arith}
 use Rattle.texts.proofs.Appends.{nothing, same-text}
-use Rattle.writer.proofs.Texts.{kind-text, thread-text, method-text, give-text, value-text, field-text, swap-text, call-text, new-text, cast-text, spawn-text, send-text, recv-text, no-text}
+use Rattle.writer.proofs.Texts.{kind-text, thread-text, method-text, give-text, value-text, field-text, swap-text, call-text, new-text, cast-text, spawn-text, send-text, recv-text, copy-text, no-text}
 use borrow.Author.Needs.{needs}
 use Rattle.writer.proofs.lines.put_form.Statement.{statement}
 use Rattle.writer.proofs.lines.put_form.Tie as tie
@@ -68,6 +68,9 @@ slice-aggregate-put-one-2 c = search needs
 
 put-one-requires-2 : tie.Need-put-one-requires-2
 put-one-requires-2 c κs = search needs
+
+put-copy-requires : tie.Need-put-copy-requires
+put-copy-requires c κs = search needs
 
 same-length : tie.Need-same-length
 same-length c = search needs
@@ -186,8 +189,17 @@ returns-13 c =
     let x = at-match .before .before .args in
     same-text 77 (recv-text (x .a) (x .b) (x .c) (x .d) (x .e) (x .f) (at-match .match .keys13)) (omega arith) (c .before .before .put-one2 .ensures)
 
+same-length-14 : tie.Need-same-length-14
+same-length-14 c = search needs
+
 returns-14 : tie.Need-returns-14
 returns-14 c =
+    let at-match = c .before .before .before .before in
+    let x = at-match .before .before .args in
+    same-text 77 (copy-text (x .a) (x .b) (x .c) (x .d) (x .e) (x .f) (at-match .match .keys14)) (omega arith) (c .before .before .put-copy .ensures)
+
+returns-15 : tie.Need-returns-15
+returns-15 c =
     let x = c .before .before .args in
     same-text 77 (no-text (x .form) (x .a) (x .b) (x .c) (x .d) (x .e) (x .f) (c .match .rest)) (omega arith) (nothing 0 (search needs))
 
@@ -216,6 +228,7 @@ put-form-spec =
     put-send-requires
     slice-aggregate-put-one-2
     put-one-requires-2
+    put-copy-requires
     same-length
     returns
     same-length-2
@@ -242,4 +255,6 @@ put-form-spec =
     returns-12
     same-length-13
     returns-13
-    returns-14)
+    same-length-14
+    returns-14
+    returns-15)

@@ -8,16 +8,16 @@ use Rattle.writer.proofs.lines.put_lines.Statement.{statement}
 use Rattle.writer.proofs.lines.put_lines.Tie as tie
 
 abbrev Inv-loop : tie.InvT-loop
-Inv-loop buf₀ t lines at₀ n₀ buf at n = (n ≤ lines) × (at ≤ 16461) × (length buf ≡ length buf₀) × SoFar t buf₀ buf at n
+Inv-loop buf₀ from t lines at₀ n₀ buf at n = (n ≤ lines) × (at ≤ 16461) × (length buf ≡ length buf₀) × SoFar t buf₀ buf from at n
 
 abbrev μ-loop : tie.MeasureT-loop
-μ-loop buf₀ t lines at₀ n₀ buf at n = lines - n
+μ-loop buf₀ from t lines at₀ n₀ buf at n = lines - n
 
 line-count-requires : tie.Need-line-count-requires Inv-loop μ-loop
 line-count-requires c κs = search needs
 
 loop-holds : tie.Need-loop-holds Inv-loop μ-loop
-loop-holds c = (search needs, search needs, refl, none-yet)
+loop-holds c = (search needs, search needs, refl, none-yet (search needs))
 
 same-length : tie.Need-same-length Inv-loop μ-loop
 same-length c = search needs

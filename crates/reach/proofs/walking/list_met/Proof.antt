@@ -1,4 +1,4 @@
--- `reach::walking::list_marked` meets its contract: before turn i the numbers below i that are marked stand in the list.
+-- `reach::walking::list_met` meets its contract: before turn i the objects below i that are met stand in the list.
 use Prim.Native.Nat.{_-_, _≤_}
 use native.Mathlib.Omega.{arith}
 use mathlib.Core.Path.{_≡_, refl, _∙_}
@@ -6,14 +6,14 @@ use lib.ListN.{length}
 use denote.Ref.{now}
 use Rattle.reach.proofs.Listed.{Listing, none-listed, number-next, all-listed}
 use borrow.Author.Needs.{needs}
-use Rattle.reach.proofs.walking.list_marked.Statement.{statement}
-use Rattle.reach.proofs.walking.list_marked.Tie as tie
+use Rattle.reach.proofs.walking.list_met.Statement.{statement}
+use Rattle.reach.proofs.walking.list_met.Tie as tie
 
 abbrev Inv-loop : tie.InvT-loop
-Inv-loop marks list₀ n₀ i₀ list n i = (i ≤ 256) × (length list ≡ length list₀) × Listing marks list₀ i n list
+Inv-loop places list₀ n₀ i₀ list n i = (i ≤ 256) × (length list ≡ length list₀) × Listing places list₀ i n list
 
 abbrev μ-loop : tie.MeasureT-loop
-μ-loop marks list₀ n₀ i₀ list n i = 256 - i
+μ-loop places list₀ n₀ i₀ list n i = 256 - i
 
 clear-requires : tie.Need-clear-requires Inv-loop μ-loop
 clear-requires c κs = c .before .before .before .pre .1
@@ -24,6 +24,9 @@ loop-holds c =
 
 cast-put-if : tie.Need-cast-put-if Inv-loop μ-loop
 cast-put-if c = search needs
+
+mul-put-if : tie.Need-mul-put-if Inv-loop μ-loop
+mul-put-if c = search needs
 
 shared-slice-read-put-if : tie.Need-shared-slice-read-put-if Inv-loop μ-loop
 shared-slice-read-put-if c = search needs
@@ -62,8 +65,8 @@ returns c =
     let loop = c .before .loop in
     all-listed (now (at-args .args .list)) (at-clear .clear .ensures) (c .loop-test .left) (loop .inv .0) (loop .inv .2)
 
-pub list-marked-spec : {M : Type 1} → statement M
-list-marked-spec =
+pub list-met-spec : {M : Type 1} → statement M
+list-met-spec =
     tie.close
     (tie.spec
     Inv-loop
@@ -71,6 +74,7 @@ list-marked-spec =
     clear-requires
     loop-holds
     cast-put-if
+    mul-put-if
     shared-slice-read-put-if
     put-if-requires
     add-i

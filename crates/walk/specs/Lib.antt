@@ -1,0 +1,2 @@
+-- What the walk through fields meets, and in which words.
+pub mod Walking
