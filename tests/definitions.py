@@ -11,8 +11,11 @@ import tempfile
 
 ROOT = os.path.dirname(os.path.dirname(os.path.abspath(__file__)))
 SECOND = os.path.join(ROOT, 'tests/target/release/second')
-INPUTS = 120   # inputs drawn for each seed
-LONGEST = 900  # longer ones take the prover long
+INPUTS = 120           # inputs drawn for each seed
+LONGEST = 900          # longer ones take the prover long
+LONGEST_OUTPUT = 2000  # and so do longer outputs: copies make many objects from a short input
+LEAST = 20             # fewer inputs compare too little
+LEAST_COPIES = 5       # and so do fewer accepted ones with a copy in them
 
 HEAD = '''-- What the definitions print for random inputs, computed.
 use mathlib.Core.Path.{_≡_, refl}
@@ -43,12 +46,18 @@ def quoted(text):
     return text.decode().replace('\n', '\\n')
 
 
+def has_copy(text, printed):
+    """An input with a copy in it that is accepted."""
+    return b'(copy ' in text and not printed.startswith(b'(refused')
+
+
 def main():
     inputs = [second(['one', seed, str(n)]) for seed in sys.argv[1:] for n in range(INPUTS)]
-    inputs = [i for i in inputs if quotable(i)]
-    if len(inputs) < 20:
+    pairs = [(i, second([], i)) for i in inputs if quotable(i)]
+    pairs = [(i, o) for i, o in pairs if len(o) <= LONGEST_OUTPUT]
+    if len(pairs) < LEAST or sum(has_copy(i, o) for i, o in pairs) < LEAST_COPIES:
         sys.exit('definitions.py: too few inputs to compare')
-    cases = [CASE % (n, quoted(i), quoted(second([], i)), n) for n, i in enumerate(inputs)]
+    cases = [CASE % (n, quoted(i), quoted(o), n) for n, (i, o) in enumerate(pairs)]
     with tempfile.TemporaryDirectory() as folder:
         shutil.copytree(os.path.join(ROOT, 'crates/rules'), os.path.join(folder, 'crates/rules'), ignore=shutil.ignore_patterns('must-fail'))
         proofs = os.path.join(folder, 'crates/rules/proofs')
@@ -61,11 +70,11 @@ def main():
         check = subprocess.run(['rt', 'check', 'rules'], cwd=folder, stdout=subprocess.PIPE, stderr=subprocess.STDOUT, text=True)
     failed = sorted(set(int(n) for n in re.findall(r'error: `case-(\d+)`', check.stdout)))
     for n in failed:
-        print('the definitions print something else for\n' + inputs[n].decode())
+        print('the definitions print something else for\n' + pairs[n][0].decode())
     if check.returncode != 0 and not failed:
         print(check.stdout[-3000:])
         failed = [0]
-    print('%d passed, %d failed' % (len(inputs) - len(failed), len(failed)))
+    print('%d passed, %d failed' % (len(pairs) - len(failed), len(failed)))
     sys.exit(1 if failed else 0)
 
 

@@ -1,12 +1,13 @@
 //! What a turn would do, decided without writing anything: idle, wait, stop, or move with one
 //! action. The checks of each line form stand in the order of document 01, "Machine", with 19 and
-//! 20 where document 02, L5, puts them.
+//! 20 where document 02, L5, puts them, and copy's as L6 has them.
 
+use crate::copying::met;
 use crate::numbers::*;
 use crate::script::{Cap, Expr, Mode, Operand, Program};
 use crate::state::{Frame, Object, Sending, State, Value};
 
-#[derive(Clone, Copy, Debug, PartialEq, Eq)]
+#[derive(Clone, Debug, PartialEq, Eq)]
 pub enum Decision {
     Idle,
     Wait,
@@ -15,13 +16,13 @@ pub enum Decision {
 }
 
 /// The slots that the operands took, one bit each, and what is written besides.
-#[derive(Clone, Copy, Debug, PartialEq, Eq)]
+#[derive(Clone, Debug, PartialEq, Eq)]
 pub struct Move {
     pub taken: u16,
     pub action: Action,
 }
 
-#[derive(Clone, Copy, Debug, PartialEq, Eq)]
+#[derive(Clone, Debug, PartialEq, Eq)]
 pub enum Action {
     Fill(Value),
     Store {
@@ -51,6 +52,11 @@ pub enum Action {
     },
     Receive {
         channel: u16,
+    },
+    /// The objects met, in the order of their copies.
+    Copy {
+        cap: Cap,
+        met: Vec<u16>,
     },
     Give(Value),
 }
@@ -146,6 +152,7 @@ impl<'a> Turn<'a> {
             Expr::Spawn { block } => self.spawn(*block),
             Expr::Send { target, value } => self.send(*target, value),
             Expr::Recv { target } => self.recv(*target),
+            Expr::Copy { cap, target } => self.copy(*cap, *target),
         }
     }
 
@@ -329,5 +336,17 @@ impl<'a> Turn<'a> {
             return Err(Halt::Wait);
         }
         Ok(Action::Receive { channel })
+    }
+
+    /// copy: slot absent 10; a channel 13; any object met local to another thread 20; too few objects
+    /// left for all copies 16.
+    fn copy(&self, cap: Cap, target: u8) -> Result<Action, Halt> {
+        let (number, _) = self.target_object(target)?;
+        let met = met(self.state, number);
+        let foreign = |number: &u16| self.is_foreign(self.state.object(*number));
+        stop_if(met.iter().any(foreign), FOREIGN)?;
+        let left = MOST_OBJECTS - self.state.objects.len();
+        stop_if(met.len() > left, USED_UP)?;
+        Ok(Action::Copy { cap, met })
     }
 }

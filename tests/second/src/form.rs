@@ -223,6 +223,11 @@ impl<'a> Cursor<'a> {
             Expr::Recv {
                 target: self.next_number()?,
             }
+        } else if self.skip("(copy") {
+            Expr::Copy {
+                cap: self.next_cap().filter(|cap| *cap != Cap::Iso)?,
+                target: self.next_number()?,
+            }
         } else {
             return self.operand().map(Expr::Value);
         };

@@ -4,7 +4,7 @@
 use crate::damage::{change_number, damage};
 use crate::plain;
 use crate::random::Random;
-use crate::shapes::{long_script, long_turns, shape, Shape};
+use crate::shapes::{in_some_edition, long_script, long_turns, shape, Shape};
 use crate::turns;
 
 /// The n-th input of a seed.
@@ -26,12 +26,13 @@ pub fn input(seed: u64, n: u64) -> Vec<u8> {
 }
 
 fn whole(random: &mut Random) -> Shape {
-    match random.weighted(&[780, 215, 3, 2]) {
-        0 => (plain::script(random), turns::list(random)),
+    let shape = match random.weighted(&[780, 215, 3, 2]) {
+        0 => return (plain::script(random), turns::list(random)),
         1 => shape(random),
         2 => long_script(random),
         _ => long_turns(random),
-    }
+    };
+    in_some_edition(random, shape)
 }
 
 pub fn turns_text(turns: &[u8]) -> Vec<u8> {

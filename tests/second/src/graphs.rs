@@ -1,32 +1,43 @@
 //! Shapes of many objects: methods make nodes that hold each other, in chains, webs and rings, so
-//! that a thread reaches far and through many frames.
+//! that a thread reaches far and through many frames. In the second edition they copy some too.
 
 use crate::numbers::{MOST_FIELDS, MOST_FRAMES};
 use crate::random::Random;
+use crate::script::Edition;
 use crate::shapes::Shape;
 use crate::turns::rounds;
 
-/// All objects of a script have one capability: which, how many fields a node has, and how often a
-/// line is a swap.
+/// All objects of a script have one capability, but for copies: which, how many fields a node has,
+/// and how often a line is a swap or a copy.
 struct Nodes {
+    edition: Edition,
     cap: &'static str,
     fields: usize,
     swaps: usize,
+    copies: usize,
 }
 
 fn nodes(random: &mut Random) -> Nodes {
     let cap = ["unsafe", "local", "imm"][random.weighted(&[70, 15, 15])];
     let swaps = [0, 10, 40][random.below(3)];
+    let (edition, copies) = if random.chance(35) {
+        (Edition::Two, [2, 10, 30][random.below(3)])
+    } else {
+        (Edition::One, 0)
+    };
     Nodes {
+        edition,
         cap,
         fields: random.between(1, MOST_FIELDS),
         swaps: if cap == "imm" { 0 } else { swaps },
+        copies,
     }
 }
 
 impl Nodes {
     /// Lines of a method, and the slot of the last node: each node holds the one before it, the
-    /// first the argument, and whatever else there is; swaps close rings.
+    /// first the argument, and whatever else there is; swaps close rings. A copy, also of self, is
+    /// imm or as the nodes are, so that a node may hold it.
     fn knots(&self, random: &mut Random, lines: usize) -> (String, usize) {
         let (mut text, mut last, mut made) = (String::new(), 1, Vec::new());
         for slot in 2..2 + lines {
@@ -35,6 +46,10 @@ impl Nodes {
                 Some(node) if random.chance(self.swaps) => {
                     let field = random.below(self.fields);
                     text.push_str(&format!("(let (swap {} {}{}))\n", node, field, any(random)));
+                }
+                _ if random.chance(self.copies) => {
+                    let cap = ["imm", self.cap][random.below(2)];
+                    text.push_str(&format!("(let (copy {} {}))\n", cap, random.below(slot)));
                 }
                 _ => {
                     let others: String = (1..self.fields).map(|_| any(random)).collect();
@@ -48,11 +63,13 @@ impl Nodes {
         (text, last)
     }
 
-    /// The first kind does the methods, and the second is the nodes'.
-    fn kinds(&self, does: &str) -> String {
+    /// The edition's line and both kinds: the first does the methods, and the second is the nodes'.
+    fn head(&self, does: &str) -> String {
         format!(
-            "(kind (fields 0) (does {}))\n(kind (fields {}) (does))\n",
-            does, self.fields
+            "{}(kind (fields 0) (does {}))\n(kind (fields {}) (does))\n",
+            self.edition.first_line(),
+            does,
+            self.fields
         )
     }
 }
@@ -91,7 +108,7 @@ pub fn woven(random: &mut Random) -> Shape {
         last
     );
     let length = if most { 700 } else { random.between(20, 500) };
-    let text = [nodes.kinds("2 3"), first, second, methods].concat();
+    let text = [nodes.head("2 3"), first, second, methods].concat();
     (text, rounds(threads, length))
 }
 
@@ -110,5 +127,5 @@ pub fn deep(random: &mut Random) -> Shape {
         knots, word, last
     );
     let turns = rounds(1, random.between(3, (lines + 1) * MOST_FRAMES + 6));
-    ([nodes.kinds("1"), first, method].concat(), turns)
+    ([nodes.head("1"), first, method].concat(), turns)
 }

@@ -1,15 +1,21 @@
 //! What random inputs reach: every line form read and performed, every refusal, stop and end that
-//! boxrun can show. A row of 0 means that the inputs are too poor.
+//! boxrun can show, and the ways of copies. A row of 0 means that the inputs are too poor.
+
+mod copies;
 
 use crate::generate;
 use crate::input::parts;
 use crate::machine::{End, Machine, Outcome, Stop};
 use crate::numbers::*;
 use crate::reading::read_lent;
-use crate::script::{Expr, Program};
+use crate::script::{Edition, Expr, Program};
 use crate::state::State;
 
+use copies::{malformed, Copying};
+
 const ROWS: &[&str] = &[
+    "edition 1",
+    "edition 2",
     "read value",
     "read field",
     "read swap",
@@ -19,6 +25,7 @@ const ROWS: &[&str] = &[
     "read spawn",
     "read send",
     "read recv",
+    "read copy",
     "read give",
     "moved value",
     "moved field",
@@ -30,6 +37,7 @@ const ROWS: &[&str] = &[
     "moved send put",
     "moved send moved on",
     "moved recv",
+    "moved copy",
     "moved give to a caller",
     "moved give that finishes",
     "waited send full",
@@ -54,6 +62,7 @@ const ROWS: &[&str] = &[
     "stopped 14",
     "stopped 15",
     "stopped 16 objects",
+    "stopped 16 copies",
     "stopped 16 threads",
     "stopped 16 frames",
     "stopped 19",
@@ -71,7 +80,7 @@ pub struct Histogram {
 impl Histogram {
     pub fn empty() -> Self {
         Histogram {
-            counts: vec![0; ROWS.len()],
+            counts: vec![0; names().count()],
         }
     }
 
@@ -85,15 +94,12 @@ impl Histogram {
     }
 
     pub fn rows(&self) -> Vec<(&'static str, u64)> {
-        ROWS.iter()
-            .copied()
-            .zip(self.counts.iter().copied())
-            .collect()
+        names().zip(self.counts.iter().copied()).collect()
     }
 
     pub fn count(&self, name: &str) -> u64 {
-        ROWS.iter()
-            .position(|row| *row == name)
+        names()
+            .position(|row| row == name)
             .map_or(0, |place| self.counts[place])
     }
 
@@ -118,18 +124,31 @@ impl Histogram {
                 self.forms(&program);
                 self.turns(&program, &parts.turns);
             }
-            Err(refusal) => self.one(&format!("script refused {}", refusal.number)),
+            Err(refusal) => {
+                self.one(&format!("script refused {}", refusal.number));
+                if refusal.number == MALFORMED {
+                    self.all(malformed(parts.script, refusal.line));
+                }
+            }
         }
     }
 
     /// Counts one in a row. Every name given here is a row.
     fn one(&mut self, name: &str) {
-        if let Some(place) = ROWS.iter().position(|row| *row == name) {
+        if let Some(place) = names().position(|row| row == name) {
             self.counts[place] += 1;
         }
     }
 
+    fn all(&mut self, names: impl IntoIterator<Item = &'static str>) {
+        names.into_iter().for_each(|name| self.one(name));
+    }
+
     fn forms(&mut self, program: &Program) {
+        self.one(match program.edition {
+            Edition::One => "edition 1",
+            Edition::Two => "edition 2",
+        });
         for block in &program.blocks {
             for expr in &block.lets {
                 self.one(&format!("read {}", form_word(expr)));
@@ -140,19 +159,40 @@ impl Histogram {
 
     fn turns(&mut self, program: &Program, turns: &[u8]) {
         let mut machine = Machine::fresh(program);
+        let mut copies = Vec::new();
         for thread in turns {
             let line = line_of(program, &machine.state, *thread);
-            match machine.turn(*thread) {
-                Outcome::Moved => self.one(moved_row(line)),
-                Outcome::Waited => self.one(waited_row(line)),
-                Outcome::Idle => self.one("idle"),
-                Outcome::Stopped(stop) => {
-                    self.one(stopped_row(stop, line));
-                    return;
-                }
+            let outcome = machine.turn(*thread);
+            self.one(outcome_row(outcome, line));
+            if let Some(copying) = copying(&machine, *thread, line) {
+                self.all(copying.rows(outcome, &mut copies));
+            }
+            if machine.stop.is_some() {
+                return;
             }
         }
         self.one(end_row(machine.end()));
+    }
+}
+
+fn names() -> impl Iterator<Item = &'static str> {
+    ROWS.iter().chain(copies::ROWS).copied()
+}
+
+/// The line that a thread stood on, if it is a copy.
+fn copying<'a>(machine: &'a Machine, thread: u8, line: Line) -> Option<Copying<'a>> {
+    match line {
+        Line::Let {
+            expr: Expr::Copy { cap, target },
+            ..
+        } => Some(Copying {
+            program: machine.program,
+            state: &machine.state,
+            thread,
+            cap: *cap,
+            target: *target,
+        }),
+        _ => None,
     }
 }
 
@@ -198,6 +238,16 @@ fn form_word(expr: &Expr) -> &'static str {
         Expr::Spawn { .. } => "spawn",
         Expr::Send { .. } => "send",
         Expr::Recv { .. } => "recv",
+        Expr::Copy { .. } => "copy",
+    }
+}
+
+fn outcome_row(outcome: Outcome, line: Line) -> &'static str {
+    match outcome {
+        Outcome::Moved => moved_row(line),
+        Outcome::Waited => waited_row(line),
+        Outcome::Idle => "idle",
+        Outcome::Stopped(stop) => stopped_row(stop, line),
     }
 }
 
@@ -217,6 +267,7 @@ fn moved_row(line: Line) -> &'static str {
             Expr::Send { .. } if sending => "moved send moved on",
             Expr::Send { .. } => "moved send put",
             Expr::Recv { .. } => "moved recv",
+            Expr::Copy { .. } => "moved copy",
         },
     }
 }
@@ -247,6 +298,10 @@ fn stopped_row(stop: Stop, line: Line) -> &'static str {
                 expr: Expr::New { .. },
                 ..
             } => "stopped 16 objects",
+            Line::Let {
+                expr: Expr::Copy { .. },
+                ..
+            } => "stopped 16 copies",
             Line::Let {
                 expr: Expr::Spawn { .. },
                 ..

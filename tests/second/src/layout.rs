@@ -1,12 +1,13 @@
 //! The words of both tables, once more, from docs/LAYOUT.md alone.
 
 use crate::numbers::TABLE_WORDS;
-use crate::script::{Block, Cap, Expr, Kind, Mode, Operand, Program, Sort};
+use crate::script::{Block, Cap, Edition, Expr, Kind, Mode, Operand, Program, Sort};
 use crate::state::{Channel, Frame, Object, State, Thread, Value};
 
 pub const KIND_COUNT: usize = 0;
 pub const BLOCK_COUNT: usize = 1;
 pub const LINE_COUNT: usize = 2;
+pub const EDITION: usize = 3;
 pub const FIRST_LINES: usize = 8;
 pub const LINES: usize = 72;
 pub const LINE: usize = 8;
@@ -65,6 +66,7 @@ fn expression(value: &Expr) -> Vec<u16> {
         Expr::Spawn { block } => vec![11, u16::from(*block)],
         Expr::Send { target, value } => vec![12, u16::from(*target), operand(value)],
         Expr::Recv { target } => vec![13, u16::from(*target)],
+        Expr::Copy { cap: k, target } => vec![14, cap(*k), u16::from(*target)],
     }
 }
 
@@ -79,6 +81,14 @@ fn block(value: &Block) -> Vec<Vec<u16>> {
     lines
 }
 
+/// The word of an edition; the line that says it has no row.
+pub fn edition(value: Edition) -> u16 {
+    match value {
+        Edition::One => 0,
+        Edition::Two => 2,
+    }
+}
+
 /// The 8,192 words of a program.
 pub fn program(value: &Program) -> Vec<u16> {
     let mut words = vec![0; TABLE_WORDS];
@@ -90,6 +100,7 @@ pub fn program(value: &Program) -> Vec<u16> {
     words[KIND_COUNT] = value.kinds.len() as u16;
     words[BLOCK_COUNT] = value.blocks.len() as u16;
     words[LINE_COUNT] = lines.len() as u16;
+    words[EDITION] = edition(value.edition);
     for (number, line) in lines.iter().enumerate() {
         let place = LINES + number * LINE;
         words[place..place + line.len()].copy_from_slice(line);

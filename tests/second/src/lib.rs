@@ -1,5 +1,5 @@
-//! The second interpreter: the script machine of document 01 once more, in plain Rust, written from
-//! the paper alone. Points that can be read in two ways follow docs/DECISIONS.md.
+//! The second interpreter: the script machine of document 01, with the changes of document 02, once
+//! more, in plain Rust, written from the papers alone. Points that can be read in two ways follow docs/DECISIONS.md.
 
 #![forbid(unsafe_code)]
 
@@ -10,6 +10,7 @@ pub mod form;
 pub mod reading;
 
 pub mod checks;
+pub mod copying;
 pub mod machine;
 pub mod state;
 
@@ -19,6 +20,7 @@ pub mod writing;
 pub mod lines;
 pub mod listing;
 pub mod reach;
+pub mod rings;
 
 pub mod console;
 pub mod input;
@@ -26,6 +28,7 @@ pub mod input;
 pub mod demand3;
 pub mod stripped;
 
+pub mod copy_shapes;
 pub mod damage;
 pub mod generate;
 pub mod graphs;

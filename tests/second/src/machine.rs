@@ -2,6 +2,7 @@
 //! leaves the state as it was.
 
 use crate::checks::{decide, Action, Decision, Move};
+use crate::copying::add_copies;
 use crate::script::Program;
 use crate::state::{Channel, Frame, Object, Sending, State, Thread, Value};
 
@@ -182,6 +183,10 @@ fn perform(state: &mut State, thread: u8, step: Move) {
             let place = &mut state.channel_mut(channel).message;
             let message = std::mem::replace(place, Value::Absent);
             fill(&mut state.threads[own], message);
+        }
+        Action::Copy { cap, met } => {
+            let copy = add_copies(state, &met, cap, thread);
+            fill(&mut state.threads[own], copy);
         }
         Action::Give(value) => give(&mut state.threads[own], value),
     }

@@ -3,7 +3,7 @@
 
 use crate::numbers::{MOST_FIELDS, MOST_METHODS, MOST_SLOTS};
 use crate::random::Random;
-use crate::script::{Cap, Sort};
+use crate::script::{Cap, Edition, Sort};
 
 /// What a slot should hold at its line.
 #[derive(Clone, Copy, Debug, PartialEq, Eq)]
@@ -17,8 +17,10 @@ enum Guess {
     Unknown,
 }
 
-/// The place of `new` among the forms.
+/// The places of `new` and of `copy` among the forms.
 const NEW: usize = 4;
+const COPY: usize = 9;
+const FORMS: usize = 10;
 
 const ANY_OBJECT: Guess = Guess::Object {
     cap: None,
@@ -30,8 +32,9 @@ struct PlannedKind {
     does: Vec<usize>,
 }
 
-/// The kinds and the sorts of the blocks, settled before any line is written.
+/// The edition, the kinds and the sorts of the blocks, settled before any line is written.
 struct Plan {
+    edition: Edition,
     kinds: Vec<PlannedKind>,
     sorts: Vec<Sort>,
     slips: usize,
@@ -39,7 +42,7 @@ struct Plan {
 
 pub fn script(random: &mut Random) -> String {
     let plan = plan(random);
-    let mut text = String::new();
+    let mut text = plan.edition.first_line().to_string();
     for kind in &plan.kinds {
         let does: String = kind
             .does
@@ -66,7 +69,9 @@ fn plan(random: &mut Random) -> Plan {
         .map(|place| planned_kind(random, &sorts, place))
         .collect();
     let slips = [0, 0, 1, 3, 10][random.below(5)];
+    let edition = [Edition::One, Edition::Two][random.weighted(&[65, 35])];
     Plan {
+        edition,
         kinds,
         sorts,
         slips,
@@ -137,6 +142,13 @@ fn doer(plan: &Plan, block: usize) -> Option<usize> {
         .position(|kind| kind.does.contains(&block))
 }
 
+fn kind_in(guess: Guess) -> Option<usize> {
+    match guess {
+        Guess::Object { kind, .. } => kind,
+        _ => None,
+    }
+}
+
 struct Writer<'a> {
     random: &'a mut Random,
     plan: &'a Plan,
@@ -160,13 +172,17 @@ impl<'a> Writer<'a> {
     }
 
     /// How often each form is tried. A thread opens with a spawn or a recv more often than not.
-    fn weights(&self, place: usize) -> [usize; 9] {
-        match (self.sort, place) {
-            (Sort::Thread, 0) if self.block == 0 => [0, 0, 0, 0, 40, 0, 60, 0, 0],
-            (Sort::Thread, 0) => [5, 0, 0, 0, 35, 0, 10, 0, 50],
-            (Sort::Thread, _) => [6, 9, 11, 14, 22, 8, 6, 14, 10],
-            (Sort::Method, _) => [10, 14, 14, 6, 24, 8, 2, 12, 10],
+    fn weights(&self, place: usize) -> [usize; FORMS] {
+        let mut weights = match (self.sort, place) {
+            (Sort::Thread, 0) if self.block == 0 => [0, 0, 0, 0, 40, 0, 60, 0, 0, 0],
+            (Sort::Thread, 0) => [5, 0, 0, 0, 35, 0, 10, 0, 50, 1],
+            (Sort::Thread, _) => [6, 9, 11, 14, 22, 8, 6, 14, 10, 14],
+            (Sort::Method, _) => [10, 14, 14, 6, 24, 8, 2, 12, 10, 14],
+        };
+        if self.plan.edition == Edition::One {
+            weights[COPY] = 0;
         }
+        weights
     }
 
     /// A line of the form, if there is a slot for each of its parts; else all guesses stand.
@@ -181,6 +197,7 @@ impl<'a> Writer<'a> {
             5 => self.cast(),
             6 => self.spawn(),
             7 => self.send(),
+            COPY => self.copy(),
             _ => self.recv(),
         };
         if line.is_none() {
@@ -284,12 +301,7 @@ impl<'a> Writer<'a> {
     }
 
     fn kind_of(&self, slot: usize) -> Option<&'a PlannedKind> {
-        match self.guess(slot) {
-            Guess::Object {
-                kind: Some(kind), ..
-            } => self.plan.kinds.get(kind),
-            _ => None,
-        }
+        kind_in(self.guess(slot)).and_then(|kind| self.plan.kinds.get(kind))
     }
 
     /// A number under the count, or by a slip one that is not.
@@ -367,15 +379,11 @@ impl<'a> Writer<'a> {
             _ => self.cap(),
         };
         let (value, guess) = self.operand(slot);
-        let kind = match guess {
-            Guess::Object { kind, .. } => kind,
-            _ => None,
-        };
         Some((
             format!("(cast {} {})", cap.word(), value),
             Guess::Object {
                 cap: Some(cap),
-                kind,
+                kind: kind_in(guess),
             },
         ))
     }
@@ -413,5 +421,18 @@ impl<'a> Writer<'a> {
     fn recv(&mut self) -> Option<(String, Guess)> {
         let target = self.channel_slot()?;
         Some((format!("(recv {})", target), ANY_OBJECT))
+    }
+
+    /// The slot keeps what it holds, and its copy is of the same kind. A copy to iso is malformed.
+    fn copy(&mut self) -> Option<(String, Guess)> {
+        let target = self.object_slot()?;
+        let cap = Cap::ALL[self.random.weighted(&[30, 1, 24, 45])];
+        Some((
+            format!("(copy {} {})", cap.word(), target),
+            Guess::Object {
+                cap: Some(cap),
+                kind: kind_in(self.guess(target)),
+            },
+        ))
     }
 }

@@ -3,7 +3,7 @@
 
 use crate::form::{script_line, Form};
 use crate::numbers::*;
-use crate::script::{Block, Expr, Kind, Mode, Operand, Program, Sort};
+use crate::script::{Block, Edition, Expr, Kind, Mode, Operand, Program, Sort};
 
 /// Reads a script when no table is lent.
 pub fn read(text: &[u8]) -> Result<Program, Refusal> {
@@ -34,11 +34,23 @@ pub fn lengths(text: usize, turns: usize, lent: &[(usize, usize)]) -> Result<(),
     Ok(())
 }
 
+/// The edition that a text's first line says.
+pub fn edition(text: &[u8]) -> Edition {
+    if text.starts_with(Edition::Two.first_line().as_bytes()) {
+        Edition::Two
+    } else {
+        Edition::One
+    }
+}
+
 /// 2 to 8, of a text whose length is already judged.
 pub fn read_lines(text: &[u8]) -> Result<Program, Refusal> {
-    let mut reader = Reader::new();
-    let mut lines = 0;
-    for line in text.split_inclusive(|byte| *byte == b'\n') {
+    let edition = edition(text);
+    let first_line = edition.first_line();
+    let mut reader = Reader::new(edition);
+    let first = first_line.lines().count();
+    let mut lines = first;
+    for line in text[first_line.len()..].split_inclusive(|byte| *byte == b'\n') {
         reader.line(line).map_err(|number| Refusal {
             number,
             line: lines,
@@ -54,7 +66,7 @@ pub fn read_lines(text: &[u8]) -> Result<Program, Refusal> {
     match dangling_line(&reader.program) {
         Some(line) => Err(Refusal {
             number: DANGLING,
-            line,
+            line: first + line,
         }),
         None => Ok(reader.program),
     }
@@ -89,8 +101,9 @@ struct Reader {
 }
 
 impl Reader {
-    fn new() -> Self {
+    fn new(edition: Edition) -> Self {
         let program = Program {
+            edition,
             kinds: Vec::new(),
             blocks: Vec::new(),
         };
@@ -119,11 +132,15 @@ impl Reader {
         Ok(())
     }
 
-    /// Kinds come before all blocks; lets and a give stand in an open block, openers outside.
+    /// Kinds come before all blocks; lets and a give stand in an open block, openers outside; a copy
+    /// stands in a script of the second edition.
     fn in_its_place(&self, form: &Form) -> bool {
         match form {
             Form::Kind { .. } => self.open.is_none() && self.program.blocks.is_empty(),
             Form::Open(_) => self.open.is_none(),
+            Form::Let(Expr::Copy { .. }) => {
+                self.open.is_some() && self.program.edition == Edition::Two
+            }
             Form::Let(_) | Form::Give(_) => self.open.is_some(),
         }
     }
@@ -198,8 +215,9 @@ impl Reader {
     }
 }
 
-/// The first line that names what is not there or is unlike what is there. Every line holds one
-/// form, so kind n stands at line n and a block's opener after all kinds and earlier blocks.
+/// The first line that names what is not there or is unlike what is there, counted from the first
+/// kind or opener. Every line holds one form, so kind n stands at line n and a block's opener after
+/// all kinds and earlier blocks.
 fn dangling_line(program: &Program) -> Option<usize> {
     let kind_line = program
         .kinds

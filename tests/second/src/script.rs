@@ -1,5 +1,5 @@
 //! What a script says once it is read: kinds, blocks, lines and operands, with the words and the
-//! order of document 01, "Written form".
+//! order of document 01, "Written form"; and its edition (document 02, L6).
 
 /// Ordered imm < iso < local < unsafe.
 #[derive(Clone, Copy, Debug, PartialEq, Eq, PartialOrd, Ord)]
@@ -78,6 +78,10 @@ pub enum Expr {
     Recv {
         target: u8,
     },
+    Copy {
+        cap: Cap,
+        target: u8,
+    },
 }
 
 impl Expr {
@@ -90,7 +94,7 @@ impl Expr {
             Expr::Cast { value, .. } => std::slice::from_ref(value),
             Expr::Send { value, .. } => std::slice::from_ref(value),
             Expr::New { values, .. } => values,
-            Expr::Field { .. } | Expr::Spawn { .. } | Expr::Recv { .. } => &[],
+            Expr::Field { .. } | Expr::Spawn { .. } | Expr::Recv { .. } | Expr::Copy { .. } => &[],
         }
     }
 
@@ -102,6 +106,7 @@ impl Expr {
             Expr::Call { target, .. } => Some(*target),
             Expr::Send { target, .. } => Some(*target),
             Expr::Recv { target } => Some(*target),
+            Expr::Copy { target, .. } => Some(*target),
             Expr::Value(_) | Expr::New { .. } | Expr::Cast { .. } | Expr::Spawn { .. } => None,
         }
     }
@@ -136,8 +141,26 @@ pub struct Kind {
     pub does: Vec<u8>,
 }
 
+/// The second edition has `copy`.
+#[derive(Clone, Copy, Debug, PartialEq, Eq)]
+pub enum Edition {
+    One,
+    Two,
+}
+
+impl Edition {
+    /// The line that a text of the edition begins with, and its LF; the first edition has none.
+    pub fn first_line(self) -> &'static str {
+        match self {
+            Edition::One => "",
+            Edition::Two => "(script 2)\n",
+        }
+    }
+}
+
 #[derive(Clone, Debug, PartialEq, Eq)]
 pub struct Program {
+    pub edition: Edition,
     pub kinds: Vec<Kind>,
     pub blocks: Vec<Block>,
 }

@@ -1,16 +1,19 @@
 //! Special shapes that plain scripts seldom have: mosts reached and exceeded, frames, threads and
 //! objects used up, answers on one channel, locals met by another thread, and long inputs.
 
+use crate::copy_shapes;
 use crate::graphs;
 use crate::numbers::*;
 use crate::random::Random;
+use crate::reading::edition;
+use crate::script::Edition;
 use crate::turns::{list, rounds};
 
 /// A script's text and its turns.
 pub type Shape = (String, Vec<u8>);
 
 pub fn shape(random: &mut Random) -> Shape {
-    match random.weighted(&[5, 5, 6, 3, 6, 4, 4, 8, 12, 16, 5, 8, 8, 10, 12, 8]) {
+    match random.weighted(&[5, 5, 6, 3, 6, 4, 4, 8, 12, 16, 5, 8, 8, 10, 12, 8, 36]) {
         0 => many_kinds(random),
         1 => many_blocks(random),
         2 => many_slots(random),
@@ -26,8 +29,17 @@ pub fn shape(random: &mut Random) -> Shape {
         12 => frames_used_up(random),
         13 => local_to_a_full_channel(random),
         14 => graphs::woven(random),
-        _ => graphs::deep(random),
+        15 => graphs::deep(random),
+        _ => copy_shapes::shape(random),
     }
+}
+
+/// The same, now and then in the second edition if it is in the first.
+pub fn in_some_edition(random: &mut Random, (text, turns): Shape) -> Shape {
+    if edition(text.as_bytes()) == Edition::One && random.chance(25) {
+        return ([Edition::Two.first_line(), &text].concat(), turns);
+    }
+    (text, turns)
 }
 
 const THREAD: &str = "(thread)\n(give (read 0))\n";
@@ -313,21 +325,23 @@ pub fn long_script(random: &mut Random) -> Shape {
     (text, rounds(2, 20))
 }
 
-/// A script of exactly 16,384 bytes: 18 kinds, 64 threads and 512 lets.
-pub fn longest_script() -> String {
-    let block = |short: usize| {
-        let lets: String = (0..8)
-            .map(|n| {
-                format!(
-                    "(let (swap 0 {} (read 0)))\n",
-                    if n < short { "25" } else { "255" }
-                )
-            })
-            .collect();
-        format!("(thread)\n{}(give (read 0))\n", lets)
-    };
-    let kinds = "(kind (fields 0) (does))\n".repeat(18);
-    [kinds, block(2), block(0).repeat(63)].concat()
+/// A script of exactly 16,384 bytes: 18 kinds, 64 threads and 512 lets, the first of which have a
+/// digit less to make room for the edition's line.
+pub fn longest_script(edition: Edition) -> String {
+    let shorter = 2 + edition.first_line().len();
+    let mut text = edition.first_line().to_string();
+    text.push_str(&"(kind (fields 0) (does))\n".repeat(18));
+    for place in 0..MOST_LETS {
+        if place % 8 == 0 {
+            text.push_str("(thread)\n");
+        }
+        let field = if place < shorter { "25" } else { "255" };
+        text.push_str(&format!("(let (swap 0 {} (read 0)))\n", field));
+        if place % 8 == 7 {
+            text.push_str("(give (read 0))\n");
+        }
+    }
+    text
 }
 
 /// An input at or just past its most, by its turns.

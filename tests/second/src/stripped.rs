@@ -4,12 +4,12 @@
 use crate::script::{Cap, Expr, Program};
 use crate::state::State;
 
-/// The same script when, once it is read, every K in it is changed to `unsafe`.
+/// The same script when, once it is read, every K in it is changed to `unsafe`, a copy's too.
 pub fn strip(program: &Program) -> Program {
     let mut stripped = program.clone();
     for block in &mut stripped.blocks {
         for expr in &mut block.lets {
-            if let Expr::New { cap, .. } | Expr::Cast { cap, .. } = expr {
+            if let Expr::New { cap, .. } | Expr::Cast { cap, .. } | Expr::Copy { cap, .. } = expr {
                 *cap = Cap::Unsafe;
             }
         }
@@ -21,7 +21,7 @@ pub fn strip(program: &Program) -> Program {
 pub fn strip_text(text: &[u8]) -> Vec<u8> {
     let mut text = String::from_utf8_lossy(text).into_owned();
     for cap in Cap::ALL {
-        for form in ["new", "cast"] {
+        for form in ["new", "cast", "copy"] {
             let from = format!("({} {} ", form, cap.word());
             text = text.replace(&from, &format!("({} unsafe ", form));
         }

@@ -1,12 +1,13 @@
 //! A program table back to the text that reads to it, from docs/LAYOUT.md and document 01's written
-//! form. A line's row tells its text, so no text but the one of all rows can read to a table: that
-//! one is read again, and it is the answer if it is accepted and gives the very same words.
+//! form. The edition and a line's row tell their text, so no text but the one of all rows can read to
+//! a table: that one is read again, and it is the answer if it is accepted and gives the very same
+//! words.
 
 use crate::form::Form;
 use crate::layout;
 use crate::numbers::*;
 use crate::reading;
-use crate::script::{Cap, Expr, Mode, Operand, Sort};
+use crate::script::{Cap, Edition, Expr, Mode, Operand, Sort};
 
 /// Why a table is turned away; all but the first are 18.
 #[derive(Clone, Copy, Debug, PartialEq, Eq)]
@@ -44,7 +45,7 @@ pub fn write(table: &[u16], buffer: usize) -> Result<Vec<u8>, Unwritten> {
     Ok(text)
 }
 
-/// The text of as many rows as the table says it has.
+/// The text of as many rows as the table says it has, in the edition that it says.
 fn text(words: &[u16]) -> Option<Vec<u8>> {
     let lines = usize::from(words[layout::LINE_COUNT]);
     if lines > MOST_LINES {
@@ -53,6 +54,9 @@ fn text(words: &[u16]) -> Option<Vec<u8>> {
     let mut pen = Pen {
         text: String::new(),
     };
+    if words[layout::EDITION] == layout::edition(Edition::Two) {
+        pen.word(Edition::Two.first_line());
+    }
     for row in words[layout::LINES..].chunks(layout::LINE).take(lines) {
         pen.line(&form(row)?);
     }
@@ -134,6 +138,10 @@ fn expression(row: &[u16]) -> Option<Expr> {
         13 => Expr::Recv {
             target: number(row[1])?,
         },
+        14 => Expr::Copy {
+            cap: cap(row[1])?,
+            target: number(row[2])?,
+        },
         _ => return None,
     };
     Some(expression)
@@ -202,9 +210,10 @@ impl Pen {
             Expr::Spawn { block } => ("(spawn", vec![*block]),
             Expr::Send { target, .. } => ("(send", vec![*target]),
             Expr::Recv { target } => ("(recv", vec![*target]),
+            Expr::Copy { target, .. } => ("(copy", vec![*target]),
         };
         self.word(word);
-        if let Expr::New { cap, .. } | Expr::Cast { cap, .. } = expr {
+        if let Expr::New { cap, .. } | Expr::Cast { cap, .. } | Expr::Copy { cap, .. } = expr {
             self.word(" ");
             self.word(cap.word());
         }

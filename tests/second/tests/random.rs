@@ -34,6 +34,7 @@ fn the_histogram_counts_case_a() {
     let mut histogram = Histogram::empty();
     histogram.add(input(&script, "0 0 0 0 9 1 0").as_bytes());
     let ones = [
+        "edition 1",
         "read spawn",
         "read new",
         "read send",
@@ -216,6 +217,78 @@ fn a_message_in_flight_counts_as_if_it_were_in_a_slot() {
         }
     });
     assert!(in_flight > 500 && gone > 100 && replaced > 20);
+}
+
+/// The slot that a copy's line names, if the thread stands on one.
+fn slot_to_copy(program: &Program, state: &State, thread: u8) -> Option<usize> {
+    let frame = state.threads.get(usize::from(thread))?.frames.last()?;
+    let lets = &program.blocks[usize::from(frame.block)].lets;
+    match lets.get(usize::from(frame.line))? {
+        Expr::Copy { target, .. } => Some(usize::from(*target)),
+        _ => None,
+    }
+}
+
+/// The objects below one, as a stack of those still to be met gives them.
+fn depth_first(state: &State, from: Value) -> Vec<Value> {
+    let (mut left, mut met) = (vec![from], Vec::new());
+    while let Some(value) = left.pop() {
+        if let (Value::Obj(number), false) = (value, met.contains(&value)) {
+            met.push(value);
+            left.extend(state.object(number).fields.iter().rev());
+        }
+    }
+    met
+}
+
+/// Nothing that was there has changed, and place by place the new objects are those below the slot,
+/// each field the copy of what its original holds.
+fn is_copied(before: &State, after: &State, original: Value) {
+    let made = before.objects.len();
+    assert_eq!(before.objects, after.objects[..made]);
+    let met = depth_first(before, original);
+    let copy_of = |value: &Value| {
+        let place = met.iter().position(|other| other == value).unwrap();
+        Value::Obj((made + place) as u16)
+    };
+    assert_eq!(after.objects.len(), made + met.len());
+    for (copy, original) in after.objects[made..].iter().zip(&met) {
+        let number = match original {
+            Value::Obj(number) => *number,
+            _ => panic!("{:?} is met", original),
+        };
+        let original = before.object(number);
+        let fields: Vec<Value> = original.fields.iter().map(copy_of).collect();
+        assert_eq!((copy.kind, &copy.fields), (original.kind, &fields));
+    }
+}
+
+#[test]
+fn copies_of_random_runs_are_like_their_originals() {
+    let mut copies = 0;
+    for n in 0..3_000 {
+        if let Ok((program, turns)) = accepted(&generate::input(SEED, n)) {
+            let mut machine = Machine::fresh(&program);
+            for thread in turns.iter().take(200) {
+                let (before, slot) = (
+                    machine.state.clone(),
+                    slot_to_copy(&program, &machine.state, *thread),
+                );
+                if let (Some(slot), Outcome::Moved) = (slot, machine.turn(*thread)) {
+                    let slots = |state: &State| {
+                        let frame = state.threads[usize::from(*thread)].frames.last();
+                        frame.unwrap().slots.clone()
+                    };
+                    let copy = Value::Obj(before.objects.len() as u16);
+                    let filled = [slots(&before), vec![copy]].concat();
+                    assert_eq!(slots(&machine.state), filled);
+                    is_copied(&before, &machine.state, slots(&before)[slot]);
+                    copies += 1;
+                }
+            }
+        }
+    }
+    assert!(copies > 500);
 }
 
 /// The shapes of many objects reach all that there can be, and fill all frames.

@@ -5,9 +5,12 @@ mod common;
 use common::*;
 use second::generate;
 use second::input::parts;
-use second::layout::{self, BLOCK_COUNT, FIRST_LINES, KIND_COUNT, LINE, LINES, LINE_COUNT};
+use second::layout::{
+    self, BLOCK_COUNT, EDITION, FIRST_LINES, KIND_COUNT, LINE, LINES, LINE_COUNT,
+};
 use second::numbers::*;
 use second::reading::read;
+use second::script::Edition;
 use second::shapes::longest_script;
 use second::writing::{write, Unwritten};
 
@@ -148,7 +151,7 @@ fn every_most_comes_back() {
 /// One digit less comes back; one digit more is a text that is too long for the reader.
 #[test]
 fn a_text_of_16384_bytes_comes_back_and_a_longer_one_is_none() {
-    let script = longest_script();
+    let script = longest_script(Edition::One);
     assert_eq!(script.len(), MOST_TEXT);
     comes_back(&script);
     let first_let = LINES + 19 * LINE;
@@ -259,7 +262,7 @@ fn a_row_past_the_last_is_no_script() {
 #[test]
 fn a_number_that_is_no_form_is_no_script() {
     for line in [0, 3, 4, 16, 20] {
-        for number in [0, 14, 15, 255, 256, 260, u16::MAX] {
+        for number in [0, 15, 16, 255, 256, 270, u16::MAX] {
             no_script(&[(row(line), number)], Unwritten::NoForm);
         }
     }
@@ -366,16 +369,105 @@ fn a_short_table_or_buffer_comes_first() {
     assert_eq!(written(&longer), Ok(FORMS.to_string()));
 }
 
+/// The words of copies, written out by hand: row 0 is the line after `(script 2)`.
+#[test]
+fn copies_are_written_from_their_words() {
+    let script = edition_2(&text(&[
+        "(kind (fields 0) (does))",
+        "(thread)",
+        "(let (copy imm 0))",
+        "(let (copy local 1))",
+        "(let (copy unsafe 2))",
+        "(give (take 3))",
+    ]));
+    let rows = [
+        [1, 0, 0],
+        [2, 0, 0],
+        [14, 0, 0],
+        [14, 2, 1],
+        [14, 3, 2],
+        [4, 7, 0],
+    ];
+    let mut words = vec![0; 8192];
+    words[..4].copy_from_slice(&[1, 1, 6, 2]);
+    words[8] = 2;
+    for (number, row) in rows.iter().enumerate() {
+        words[72 + 8 * number..75 + 8 * number].copy_from_slice(row);
+    }
+    assert_eq!(table(&script), words);
+    assert_eq!(written(&words), Ok(script));
+}
+
+/// Word 3 alone tells a text from the same text behind `(script 2)`.
+#[test]
+fn the_tables_of_both_editions_differ_in_word_3_alone() {
+    for script in [FORMS, &case_a(), &case_g(), "(thread)\n(give (read 0))\n"] {
+        let (one, two) = (table(script), table(&edition_2(script)));
+        assert_eq!((one[EDITION], two[EDITION]), (0, 2));
+        assert_eq!((&one[..3], &one[4..]), (&two[..3], &two[4..]));
+        assert_eq!(written(&one), Ok(script.to_string()));
+        assert_eq!(written(&two), Ok(edition_2(script)));
+    }
+}
+
+#[test]
+fn another_edition_is_no_script() {
+    for word in [1, 3, 4, 256, 258, u16::MAX] {
+        no_script(&[(EDITION, word)], Unwritten::OtherWords);
+    }
+    let mut words = table(&longest_script(Edition::One));
+    words[EDITION] = 2;
+    assert_eq!(written(&words), Err(Unwritten::Refused(OVERLONG)));
+    let longest = longest_script(Edition::Two);
+    let mut words = table(&longest);
+    assert_eq!(written(&words), Ok(longest.clone()));
+    words[EDITION] = 0;
+    assert_eq!(
+        written(&words),
+        Ok(longest["(script 2)\n".len()..].to_string())
+    );
+}
+
+/// A copy in the stead of line 6, where slots 0 to 2 are filled.
+#[test]
+fn a_copy_needs_the_second_edition_and_a_k_that_is_not_iso() {
+    let copy = |edition: u16, cap: u16, slot: u16, after: u16| {
+        let row = [14, cap, slot, after].into_iter().zip(row(6)..);
+        let row = row.map(|(word, place)| (place, word));
+        let words: Vec<(usize, u16)> = row.chain([(EDITION, edition)]).collect();
+        written(&changed(&words))
+    };
+    let expected = |line: &str| Ok(edition_2(&FORMS.replacen("(field 2 0)", line, 1)));
+    assert_eq!(copy(2, 0, 0, 0), expected("(copy imm 0)"));
+    assert_eq!(copy(2, 2, 1, 0), expected("(copy local 1)"));
+    assert_eq!(copy(2, 3, 2, 0), expected("(copy unsafe 2)"));
+    assert_eq!(copy(2, 1, 0, 0), Err(Unwritten::Refused(MALFORMED)));
+    for cap in 0..4 {
+        assert_eq!(copy(0, cap, 0, 0), Err(Unwritten::Refused(MALFORMED)));
+        assert_eq!(copy(1, cap, 0, 0), Err(Unwritten::Refused(MALFORMED)));
+    }
+    for cap in [4, 256, u16::MAX] {
+        assert_eq!(copy(2, cap, 0, 0), Err(Unwritten::NoForm));
+    }
+    for slot in [256, 1000, u16::MAX] {
+        assert_eq!(copy(2, 0, slot, 0), Err(Unwritten::NoForm));
+    }
+    for slot in [3, 15, 16, 255] {
+        assert_eq!(copy(2, 0, slot, 0), Err(Unwritten::Refused(UNBOUND)));
+    }
+    assert_eq!(copy(2, 0, 0, 1), Err(Unwritten::OtherWords));
+}
+
 #[test]
 fn random_scripts_come_back() {
-    let mut accepted = 0;
+    let mut accepted = [0, 0];
     for n in 0..2_000 {
         let input = generate::input(20_261_116, n);
         let script = parts(&input).map_or(Vec::new(), |parts| parts.script.to_vec());
         if let Ok(program) = read(&script) {
             assert_eq!(write(&layout::program(&program), MOST_TEXT), Ok(script));
-            accepted += 1;
+            accepted[program.edition as usize] += 1;
         }
     }
-    assert!(accepted > 1_000);
+    assert!(accepted.iter().all(|count| *count > 400), "{:?}", accepted);
 }

@@ -15,6 +15,11 @@ pub fn text(lines: &[&str]) -> String {
     lines.iter().map(|line| format!("{}\n", line)).collect()
 }
 
+/// The same script in the second edition.
+pub fn edition_2(script: &str) -> String {
+    format!("(script 2)\n{}", script)
+}
+
 /// Thread 0 spawns block 1, makes an object of this capability and sends it there; the lines given
 /// stand between its send and its give, and `other` are the lines of block 1.
 pub fn sending(cap: &str, then: &[&str], give: &str, other: &[&str]) -> String {
