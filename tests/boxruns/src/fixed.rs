@@ -1,7 +1,8 @@
-//! Inputs that are written out: the bench cases, every number that boxrun can show, turns lines with faults, and long inputs. Each has the
-//! first line that document 01 settles for it.
+//! Inputs that are written out: the bench cases, every number that boxrun can show, turns lines with faults, editions and copies, and long
+//! inputs. Each has the first line that documents 01 and 02 settle for it.
 
 use second::numbers::{MOST_INPUT, MOST_TEXT};
+use second::script::Edition;
 use second::shapes::longest_script;
 
 pub struct Fixed {
@@ -28,6 +29,11 @@ fn fixed(name: &str, script: &str, turns: &str, first_line: &str) -> Fixed {
 fn lets(all: &[&str], give: &str) -> String {
     let lets: String = all.iter().map(|expr| format!("(let {})\n", expr)).collect();
     [KIND, ONE_FIELD, "(thread)\n", &lets, "(give ", give, ")\n"].concat()
+}
+
+/// The same script in the second edition.
+fn edition_2(script: &str) -> String {
+    format!("(script 2)\n{}", script)
 }
 
 /// Cases A to I of document 01, with the numbers of their text.
@@ -172,17 +178,22 @@ fn numbers() -> Vec<Fixed> {
     ]
 }
 
-/// Document 02, L5: lines whose permission check has one ground or two. Thread 1 does the let, with an unsafe object in slot 1, thread 0's
-/// local, whose field holds an iso, in slot 2, and an iso object of its own in slot 3.
+/// Thread 1 does the let, with an unsafe object in slot 1, thread 0's local, whose field holds an iso, in slot 2, and an iso object of its own
+/// in slot 3.
+fn beside_a_local(expr: &str) -> String {
+    format!(
+        "{}(kind (fields 1) (does 2))\n(thread)\n(let (spawn 1))\n(let (new iso 0))\n(let (new local 1 (take 2)))\n\
+         (let (new unsafe 1 (read 3)))\n(let (send 1 (read 4)))\n(give (read 1))\n(thread)\n(let (recv 0))\n(let (field 1 0))\n\
+         (let (new iso 0))\n(let {})\n(give (read 0))\n(method)\n(give (read 1))\n",
+        KIND, expr
+    )
+}
+
+/// Its turns, the let's last; eight move before it.
+const BESIDE_A_LOCAL: &str = " 0 0 0 0 0 1 1 1 1";
+
+/// Document 02, L5: lines whose permission check has one ground or two.
 fn grounds() -> Vec<Fixed> {
-    let script = |expr: &str| {
-        format!(
-            "{}(kind (fields 1) (does 2))\n(thread)\n(let (spawn 1))\n(let (new iso 0))\n(let (new local 1 (take 2)))\n\
-             (let (new unsafe 1 (read 3)))\n(let (send 1 (read 4)))\n(give (read 1))\n(thread)\n(let (recv 0))\n(let (field 1 0))\n\
-             (let (new iso 0))\n(let {})\n(give (read 0))\n(method)\n(give (read 1))\n",
-            KIND, expr
-        )
-    };
     [
         (20, "(field 2 0)"),
         (20, "(swap 2 0 (read 1))"),
@@ -197,9 +208,207 @@ fn grounds() -> Vec<Fixed> {
     .map(|(number, expr)| {
         let first_line = format!("(stopped {} 1 1 3 8)", number);
         let name = format!("{} {}", number, expr);
-        fixed(&name, &script(expr), " 0 0 0 0 0 1 1 1 1", &first_line)
+        fixed(&name, &beside_a_local(expr), BESIDE_A_LOCAL, &first_line)
     })
     .collect()
+}
+
+/// Document 02, L6: the first line, and what is refused with it and without. The let stands at line 4, or at line 5 behind `(script 2)`.
+fn editions() -> Vec<Fixed> {
+    let copy = |line: &str| lets(&["(new imm 0)", line], "(read 1)");
+    let first = |line: &str| format!("{}\n{}", line, SMALL);
+    let mut all = vec![
+        fixed("edition 2: A", &edition_2(A), " 0 0 0 1 0", "(end open 5)"),
+        fixed("edition 2: B", &edition_2(""), "", "(refused 7 1)"),
+        fixed(
+            "edition 2: C",
+            &edition_2(SMALL),
+            " 0",
+            "(stopped 10 0 0 0 0)",
+        ),
+        fixed(
+            "edition 2: turns",
+            &edition_2(SMALL),
+            " 00",
+            "(refused 3 3)",
+        ),
+        fixed(
+            "edition 2: open",
+            &edition_2("(thread)\n"),
+            "",
+            "(refused 7 2)",
+        ),
+        fixed(
+            "edition 2: dangling",
+            &edition_2("(thread)\n(let (spawn 1))\n(give (read 0))\n"),
+            "",
+            "(refused 8 2)",
+        ),
+        fixed(
+            "copy in edition 1",
+            &copy("(copy imm 1)"),
+            "",
+            "(refused 3 4)",
+        ),
+        fixed(
+            "copy in edition 2",
+            &edition_2(&copy("(copy imm 1)")),
+            " 0 0",
+            "(end open 2)",
+        ),
+        fixed(
+            "script 2 at the end",
+            &format!("{}(script 2)\n", SMALL),
+            "",
+            "(refused 3 2)",
+        ),
+        fixed(
+            "script 2 twice",
+            &edition_2(&first("(script 2)")),
+            "",
+            "(refused 3 1)",
+        ),
+    ];
+    for (number, line) in [
+        (3, "(copy iso 1)"),
+        (3, "(copy iso 256)"),
+        (3, "(copy imm (read 1))"),
+        (4, "(copy imm 256)"),
+        (5, "(copy imm 2)"),
+        (5, "(copy imm 255)"),
+    ] {
+        let first_line = format!("(refused {} 5)", number);
+        all.push(fixed(line, &edition_2(&copy(line)), "", &first_line));
+    }
+    for (number, line) in [
+        (3, "(script 1)"),
+        (3, "(script 02)"),
+        (3, "(script 256)"),
+        (3, "(script 2) "),
+        (3, "(script)"),
+        (2, "(script 2]"),
+        (2, "(script 2)\r"),
+    ] {
+        let first_line = format!("(refused {} 0)", number);
+        all.push(fixed(line, &first(line), "", &first_line));
+    }
+    all
+}
+
+/// The argument, copied and held beside its copy six times over: 127 objects, in 13 turns. Then the lets of the thread, with the 127 objects
+/// below its slot 2.
+fn beside_127(all: &[&str]) -> String {
+    let mut method = String::from("(method)\n");
+    for slot in [1, 3, 5, 7, 9, 11] {
+        let lines = format!(
+            "(let (copy unsafe {0}))\n(let (new unsafe 1 (read {0}) (read {1})))\n",
+            slot,
+            slot + 1
+        );
+        method.push_str(&lines);
+    }
+    let lets: String = all.iter().map(|expr| format!("(let {})\n", expr)).collect();
+    edition_2(&format!(
+        "(kind (fields 0) (does 1))\n(kind (fields 2) (does))\n(thread)\n(let (new unsafe 0))\n(let (call 1 0 (read 1)))\n{}\
+         (give (read 2))\n{}(give (read 13))\n",
+        lets, method
+    ))
+}
+
+/// Document 02, L6: what a copy checks.
+fn copies() -> Vec<Fixed> {
+    let alone = |name: &str, all: &[&str], give: &str, first_line: &str| {
+        let turns = " 0".repeat(all.len() + 1);
+        fixed(
+            &format!("copy: {}", name),
+            &edition_2(&lets(all, give)),
+            &turns,
+            first_line,
+        )
+    };
+    let foreign = |expr: &str, first_line: &str| {
+        fixed(
+            expr,
+            &edition_2(&beside_a_local(expr)),
+            BESIDE_A_LOCAL,
+            first_line,
+        )
+    };
+    let many = |name: &str, all: &[&str], first_line: &str| {
+        let turns = " 0".repeat(15 + all.len());
+        fixed(
+            &format!("copy: {}", name),
+            &beside_127(all),
+            &turns,
+            first_line,
+        )
+    };
+    let ring = [
+        "(new unsafe 0)",
+        "(new unsafe 1 (read 1))",
+        "(swap 2 0 (read 2))",
+    ];
+    vec![
+        alone(
+            "absent",
+            &["(copy imm 0)"],
+            "(read 1)",
+            "(stopped 10 0 0 0 0)",
+        ),
+        alone(
+            "a channel",
+            &["(spawn 0)", "(copy imm 1)"],
+            "(read 1)",
+            "(stopped 13 0 0 1 1)",
+        ),
+        alone(
+            "an iso",
+            &["(new iso 0)", "(copy imm 1)"],
+            "(take 1)",
+            "(end finished 3)",
+        ),
+        alone(
+            "an iso, read",
+            &["(new iso 0)", "(copy imm 1)"],
+            "(read 1)",
+            "(stopped 19 0 0 2 2)",
+        ),
+        alone(
+            "a ring",
+            &[&ring[..], &["(copy imm 2)"]].concat(),
+            "(read 4)",
+            "(end finished 5)",
+        ),
+        alone(
+            "a copy",
+            &[&ring[..], &["(copy local 2)", "(copy imm 4)"]].concat(),
+            "(read 5)",
+            "(end finished 6)",
+        ),
+        foreign("(copy imm 1)", "(stopped 20 1 1 3 8)"),
+        foreign("(copy unsafe 2)", "(stopped 20 1 1 3 8)"),
+        foreign("(copy local 3)", "(end open 9)"),
+        many(
+            "256 objects",
+            &["(new imm 0)", "(new imm 0)", "(copy imm 2)"],
+            "(end open 18)",
+        ),
+        many(
+            "257 objects",
+            &["(new imm 0)", "(new imm 0)", "(new imm 0)", "(copy imm 2)"],
+            "(stopped 16 0 0 5 18)",
+        ),
+        many(
+            "twice",
+            &["(copy local 2)", "(copy local 2)"],
+            "(stopped 16 0 0 3 16)",
+        ),
+        many(
+            "absent, few left",
+            &["(copy imm 2)", "(copy imm 0)"],
+            "(stopped 10 0 0 3 16)",
+        ),
+    ]
 }
 
 #[rustfmt::skip]
@@ -281,19 +490,37 @@ fn long_inputs() -> Vec<Fixed> {
         ),
         fixed(
             "16,384 bytes of script",
-            &longest_script(),
+            &longest_script(Edition::One),
             "",
             "(end open 0)",
         ),
         fixed(
             "16,385 bytes of script",
-            &format!("{}\n", longest_script()),
+            &format!("{}\n", longest_script(Edition::One)),
+            "",
+            "(refused 1 0)",
+        ),
+        fixed(
+            "16,384 bytes of edition 2",
+            &longest_script(Edition::Two),
+            "",
+            "(end open 0)",
+        ),
+        fixed(
+            "16,385 bytes of edition 2",
+            &format!("{}\n", longest_script(Edition::Two)),
+            "",
+            "(refused 1 0)",
+        ),
+        fixed(
+            "16,395 bytes of edition 2",
+            &edition_2(&longest_script(Edition::One)),
             "",
             "(refused 1 0)",
         ),
         fixed(
             "a long script, bad turns",
-            &format!("{}\n", longest_script()),
+            &format!("{}\n", longest_script(Edition::One)),
             " 007",
             "(refused 3 659)",
         ),
@@ -308,14 +535,17 @@ fn long_inputs() -> Vec<Fixed> {
     all
 }
 
-/// Texts for boxsave, each with the refusal that document 01 settles for it; with none, the text comes back.
+/// Texts for boxsave, each with the refusal that is settled for it; with none, the text comes back.
 pub fn texts() -> Vec<Fixed> {
     let text = |name: &str, text: String, first_line: &str| Fixed {
         name: format!("save: {}", name),
         input: text.into_bytes(),
         first_line: first_line.to_string(),
     };
-    let longest = longest_script();
+    let longest = longest_script(Edition::One);
+    let longest_2 = longest_script(Edition::Two);
+    let copies =
+        "(thread)\n(let (copy imm 0))\n(let (copy local 0))\n(let (copy unsafe 2))\n(give (read 3))\n";
     let every = "(kind (fields 4) (does 2 2 2 2))\n(thread)\n(let (read 0))\n(let (take 1))\n(let (field 2 0))\n(let (swap 3 10 (take 2)))\n\
                  (let (call 1 255 (read 4)))\n(let (new local 0 (read 1) (take 2) (read 3) (take 4)))\n(let (cast unsafe (take 5)))\n\
                  (let (spawn 1))\n(let (send 8 (take 6)))\n(let (recv 8))\n(give (take 10))\n(thread)\n(give (read 0))\n(method)\n(give (take 1))\n";
@@ -325,6 +555,22 @@ pub fn texts() -> Vec<Fixed> {
         text("every form", every.to_string(), ""),
         text("16,384 bytes", longest.clone(), ""),
         text("16,385 bytes", format!("{}\n", longest), "(refused 1 0)"),
+        text("edition 2, the shortest", edition_2(SMALL), ""),
+        text("edition 2, every form", edition_2(every), ""),
+        text("edition 2, copies", edition_2(copies), ""),
+        text("copies in edition 1", copies.to_string(), "(refused 3 1)"),
+        text("edition 2, 16,384 bytes", longest_2.clone(), ""),
+        text(
+            "edition 2, 16,385 bytes",
+            format!("{}\n", longest_2),
+            "(refused 1 0)",
+        ),
+        text("edition 2, nothing else", edition_2(""), "(refused 7 1)"),
+        text(
+            "edition 2, without LF",
+            "(script 2)".to_string(),
+            "(refused 3 0)",
+        ),
         text("a million bytes", "(".repeat(1_000_000), "(refused 1 0)"),
         text("nothing", String::new(), "(refused 7 0)"),
         text("one LF", "\n".to_string(), "(refused 3 0)"),
@@ -349,6 +595,8 @@ pub fn all() -> Vec<Fixed> {
     all.extend(case_j());
     all.extend(numbers());
     all.extend(grounds());
+    all.extend(editions());
+    all.extend(copies());
     all.extend(turns_lines());
     all.extend(long_inputs());
     all

@@ -7,6 +7,7 @@ use second::input::boxsave;
 use second::numbers::*;
 use second::random::Random;
 use second::reading::read;
+use second::script::Edition;
 
 use crate::fixed;
 use crate::many::{self, Difference};
@@ -17,6 +18,7 @@ use crate::{differs, example_files, in_three};
 #[derive(Clone, Debug, Default)]
 pub struct Counts {
     saved: u64,
+    edition_2: u64,
     longest: u64,
     refused: [u64; DANGLING as usize + 1],
 }
@@ -25,6 +27,7 @@ impl Counts {
     pub fn rows(&self) -> Vec<(String, u64)> {
         let mut rows = vec![
             ("saved".to_string(), self.saved),
+            ("saved, of edition 2".to_string(), self.edition_2),
             ("saved, of 16,384 bytes".to_string(), self.longest),
         ];
         for number in OVERLONG..=DANGLING {
@@ -36,8 +39,9 @@ impl Counts {
 
     fn add(&mut self, text: &[u8]) {
         match read(text) {
-            Ok(_) => {
+            Ok(program) => {
                 self.saved += 1;
+                self.edition_2 += u64::from(program.edition == Edition::Two);
                 self.longest += u64::from(text.len() == MOST_TEXT);
             }
             Err(refusal) => self.refused[usize::from(refusal.number)] += 1,
@@ -46,6 +50,7 @@ impl Counts {
 
     fn join(&mut self, other: &Counts) {
         self.saved += other.saved;
+        self.edition_2 += other.edition_2;
         self.longest += other.longest;
         for (count, more) in self.refused.iter_mut().zip(other.refused) {
             *count += more;

@@ -7,26 +7,27 @@ use second::layout;
 use second::numbers::*;
 use second::random::Random;
 use second::reading;
-use second::script::Program;
+use second::script::{Edition, Program};
 
 use crate::{full, lent, library};
 
-/// What a run of texts came to: how many were read, and how many had each refusal, at line 0 and at later lines.
+/// What a run of texts came to: how many were read, in which edition, and how many had each refusal, at line 0 and at later lines.
 #[derive(Clone, Debug, Default, PartialEq, Eq)]
 pub struct Counts {
-    pub read: u64,
+    pub read: [u64; EDITIONS.len()],
     pub refused: [[u64; 2]; SHORT_TABLE as usize + 1],
 }
 
+const EDITIONS: [&str; 2] = ["read, edition 1", "read, edition 2"];
+
 impl Counts {
-    /// Refusals that no text had; 1 and 9 stand at line 0 alone, and 5 and 6 never do.
+    /// Editions and refusals that no text had; 1 and 9 stand at line 0 alone, and 5 and 6 never do.
     pub fn missing(&self) -> Vec<String> {
         let at_zero = |number: u8| number != UNBOUND && number != SELF_TAKEN;
         let later = |number: u8| number != OVERLONG && number != SHORT_TABLE;
-        let mut missing = Vec::new();
-        if self.read == 0 {
-            missing.push("read".to_string());
-        }
+        let unread = EDITIONS.iter().zip(self.read);
+        let unread = unread.filter(|(_, count)| *count == 0);
+        let mut missing: Vec<String> = unread.map(|(name, _)| name.to_string()).collect();
         for number in OVERLONG..=SHORT_TABLE {
             let [first, others] = self.refused[usize::from(number)];
             if at_zero(number) && first == 0 {
@@ -40,7 +41,8 @@ impl Counts {
     }
 
     pub fn rows(&self) -> Vec<(String, u64)> {
-        let mut rows = vec![("read".to_string(), self.read)];
+        let editions = EDITIONS.iter().map(|name| name.to_string());
+        let mut rows: Vec<(String, u64)> = editions.zip(self.read).collect();
         for number in OVERLONG..=SHORT_TABLE {
             let [first, others] = self.refused[usize::from(number)];
             rows.push((format!("refused {} at line 0", number), first));
@@ -49,14 +51,19 @@ impl Counts {
         rows
     }
 
-    pub fn add(&mut self, answer: &Result<(), Refusal>) {
+    pub fn add(&mut self, text: &[u8], answer: &Result<(), Refusal>) {
         match answer {
-            Ok(()) => self.read += 1,
+            Ok(()) => self.read[reading::edition(text) as usize] += 1,
             Err(refusal) => {
                 self.refused[usize::from(refusal.number)][usize::from(refusal.line > 0)] += 1
             }
         }
     }
+}
+
+/// The longest script of a seed, in either edition.
+fn full(random: &mut Random, seed: u64) -> Vec<u8> {
+    full::script([Edition::One, Edition::Two][random.below(2)], seed)
 }
 
 pub fn text(random: &mut Random, seed: u64, n: u64) -> Vec<u8> {
@@ -67,8 +74,8 @@ pub fn text(random: &mut Random, seed: u64, n: u64) -> Vec<u8> {
         .map_or(0, |place| place + 1);
     let mut text = match random.weighted(&[900, 40, 10, 50]) {
         0 => input[..last].to_vec(),
-        1 => full::script(seed.wrapping_add(n)),
-        2 => [full::script(seed.wrapping_add(n)), b"\n".to_vec()].concat(),
+        1 => full(random, seed.wrapping_add(n)),
+        2 => [full(random, seed.wrapping_add(n)), b"\n".to_vec()].concat(),
         _ => input[..last.min(random.below(24))].to_vec(),
     };
     if random.chance(40) {
@@ -122,7 +129,7 @@ pub fn many(seed: u64, count: u64) -> Result<Counts, (Vec<u8>, String)> {
         let text = text(&mut random, seed, n);
         let table = lent::table(&mut random);
         match one(&text, &table) {
-            Ok(answer) => counts.add(&answer),
+            Ok(answer) => counts.add(&text, &answer),
             Err(fault) => return Err((text, fault)),
         }
     }

@@ -6,6 +6,7 @@ use std::time::Instant;
 use second::machine;
 use second::numbers::{MOST_TEXT, TABLE_WORDS};
 use second::reading;
+use second::script::Edition;
 use second::writing;
 
 use crate::chart::{self, Row};
@@ -70,7 +71,7 @@ impl Whole {
 
 /// Reading 16,384 bytes. The table is lent full of old bytes.
 fn whole_reading(calls: usize) -> Whole {
-    let text = full::script(1);
+    let text = full::script(Edition::One, 1);
     let mut table = vec![0xa5; 2 * TABLE_WORDS];
     let (ours, second) = medians(
         calls,
@@ -90,7 +91,7 @@ fn whole_reading(calls: usize) -> Whole {
 
 /// Writing them back from their table. The buffer is lent full of old bytes.
 fn whole_writing(calls: usize) -> Result<Whole, String> {
-    let text = full::script(1);
+    let text = full::script(Edition::One, 1);
     let mut table = vec![0xa5; 2 * TABLE_WORDS];
     bytes::read(&text, &mut table).map_err(|refusal| format!("writing: {:?}", refusal))?;
     let pairs = table.chunks(2);
@@ -117,7 +118,7 @@ fn whole_writing(calls: usize) -> Result<Whole, String> {
     })
 }
 
-/// The turns of a load: a whole run less the same run on no turns, by turn.
+/// The turns of a load: a whole run less the same run on the turns before those that are measured, by turn.
 fn run_row(calls: usize, load: &Load, lua: &str) -> Result<Row, String> {
     let (mut program, mut state) = (vec![0xa5; 2 * TABLE_WORDS], vec![0xa5; 2 * TABLE_WORDS]);
     let ours = bytes::run(&load.text, &load.turns, &mut program, &mut state)
@@ -148,12 +149,12 @@ fn run_row(calls: usize, load: &Load, lua: &str) -> Result<Row, String> {
         )
     };
     let (whole, whole_theirs) = part(&load.turns);
-    let (none, none_theirs) = part(&[]);
-    let turn = |time: f64| time / load.turns.len() as f64 * 1e9;
+    let (before, before_theirs) = part(&load.turns[..load.before]);
+    let turn = |time: f64| time / (load.turns.len() - load.before) as f64 * 1e9;
     Ok(Row {
         name: load.name.to_string(),
-        ours: turn(whole - none),
-        second: turn(whole_theirs - none_theirs),
+        ours: turn(whole - before),
+        second: turn(whole_theirs - before_theirs),
         lua: chart::lua_time(lua, load.name),
     })
 }
@@ -167,6 +168,7 @@ pub fn shown(calls: usize, lua: &str) -> Result<String, String> {
     }
     let head = format!(
         "ns a turn: the compiled box, the second interpreter and Lua 5.4 coroutines over plain tables, resumed at every turn; ratio: the box's time by theirs.\n\
+         The rows of copies: the one turn that copies.\n\
          Medians of {} calls (reading and writing: {}), box and second turn about.\n\n",
         calls / 10,
         calls

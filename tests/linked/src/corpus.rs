@@ -4,14 +4,49 @@
 
 use second::numbers::*;
 use second::random::Random;
+use second::script::Edition;
 
 use crate::agree::{self, same_words, Counts};
-use crate::{full, library};
+use crate::{full, library, runs};
 
-/// So many texts of a corpus are read, and so many meet each refusal that a text alone can meet; but for the longest, none has more bytes.
-const READ: usize = 100;
-const REFUSED: usize = 30;
+/// So many texts of a corpus of that edition are read, and so many meet each refusal that a text alone can meet.
+fn most(edition: Edition) -> (usize, usize) {
+    match edition {
+        Edition::One => (100, 30),
+        Edition::Two => (24, 8),
+    }
+}
+
+/// What the second edition brings to reading, text by text.
+const OF_EDITION_2: [&str; 14] = [
+    "(script 2)\n",
+    "(script 2)",
+    "(script 2]\n(thread)\n(give (read 0))\n",
+    "(script 1)\n(thread)\n(give (read 0))\n",
+    "(script 2)\n(script 2)\n(thread)\n(give (read 0))\n",
+    "(thread)\n(give (read 0))\n(script 2)\n",
+    "(script 2)\n(thread)\n(give (read 0))\n",
+    "(script 2)\n(thread)\n(let (copy imm 0))\n(let (copy local 1))\n(let (copy unsafe 0))\n(give (take 3))\n",
+    "(thread)\n(let (copy imm 0))\n(give (read 0))\n",
+    "(script 2)\n(thread)\n(let (copy iso 256))\n(give (read 0))\n",
+    "(script 2)\n(thread)\n(let (copy imm 256))\n(give (read 0))\n",
+    "(script 2)\n(thread)\n(let (copy imm 1))\n(give (read 0))\n",
+    "(script 2)\n(thread)\n(give (read 0))\n(method)\n(let (copy local 0))\n(give (take 0))\n",
+    "(script 2)\n(method)\n(let (copy unsafe 0))\n(give (read 2))\n",
+];
+
+/// But for the longest, no text has more bytes.
 const SHORT: usize = 500;
+
+/// A text in which a word of the second edition's occurs belongs to it, also if it is no text of that edition for a fault.
+fn edition(text: &[u8]) -> Edition {
+    let occurs = |word: &str| text.windows(word.len()).any(|part| part == word.as_bytes());
+    if occurs("(script") || occurs("(copy") {
+        Edition::Two
+    } else {
+        Edition::One
+    }
+}
 
 fn escaped(text: &[u8]) -> String {
     text.iter()
@@ -77,13 +112,15 @@ fn old_table() -> Vec<u16> {
 
 /// Texts with their answers, and how many there are of each: at place 0 those that were read, then by the refusal's number.
 struct Made {
+    edition: Edition,
     lines: String,
     counts: [usize; SHORT_TABLE as usize],
 }
 
 impl Made {
     fn room(&self, number: usize) -> bool {
-        self.counts[number] < if number == 0 { READ } else { REFUSED }
+        let (read, refused) = most(self.edition);
+        self.counts[number] < if number == 0 { read } else { refused }
     }
 
     /// 1 takes a text that is too long: there is one.
@@ -104,20 +141,27 @@ impl Made {
     }
 }
 
-/// Two longest texts, one that is a byte too long, and some of each answer of a seed, with what the linked box says of them now.
-pub fn made(seed: u64) -> String {
+/// Two longest texts, one that is a byte too long, what is written out, and some of each answer of a seed, all of one edition, with what the
+/// linked box says of them now.
+pub fn made(of: Edition, seed: u64) -> String {
     let mut made = Made {
+        edition: of,
         lines: String::new(),
         counts: [0; SHORT_TABLE as usize],
     };
-    made.add(&full::script(seed));
-    made.add(&full::script(seed + 1));
-    made.add(&[full::script(seed + 2), b"\n".to_vec()].concat());
+    made.add(&full::script(of, seed));
+    made.add(&full::script(of, seed + 1));
+    made.add(&[full::script(of, seed + 2), b"\n".to_vec()].concat());
+    if of == Edition::Two {
+        OF_EDITION_2
+            .iter()
+            .for_each(|text| made.add(text.as_bytes()));
+    }
     let mut n = 0;
     while !made.full() {
         let mut random = Random::of(seed ^ 0xc0, n);
         let text = agree::text(&mut random, seed, n);
-        if text.len() <= SHORT {
+        if text.len() <= SHORT && edition(&text) == of {
             made.add(&text);
         }
         n += 1;
@@ -138,22 +182,34 @@ fn one(text: &[u8], answer: &str) -> Result<Result<(), Refusal>, String> {
     agree::one(text, &old)
 }
 
-/// Every text of a corpus, and the same with a table that is too short; the first that is not answered as it was, with its answer.
+/// The same, and once more with a table that is too short.
+fn twice(line: &str, answer: &str, counts: &mut Counts) -> Result<(), String> {
+    let text = unescaped(line).ok_or("no text")?;
+    counts.add(&text, &one(&text, answer)?);
+    let short = &old_table()[..TABLE_WORDS - 1];
+    counts.add(&text, &agree::one(&text, short)?);
+    Ok(())
+}
+
+/// Every text of a corpus; the first that is not answered as it was, with its answer.
 pub fn held(corpus: &str) -> Result<Counts, (Vec<u8>, String)> {
     let mut counts = Counts::default();
     let lines: Vec<&str> = corpus.lines().collect();
-    let short = &old_table()[..TABLE_WORDS - 1];
     for pair in lines.chunks(2) {
         let [text, answer] = [pair[0], pair.get(1).copied().unwrap_or("")];
-        let answers = unescaped(text)
-            .ok_or_else(|| "no text".to_string())
-            .and_then(|text| Ok([one(&text, answer)?, agree::one(&text, short)?]));
-        match answers {
-            Ok(answers) => answers.iter().for_each(|answer| counts.add(answer)),
-            Err(fault) => return Err((format!("{}\n{}\n", text, answer).into_bytes(), fault)),
-        }
+        twice(text, answer, &mut counts)
+            .map_err(|fault| (format!("{}\n{}\n", text, answer).into_bytes(), fault))?;
     }
     Ok(counts)
+}
+
+/// What no text of a corpus has: to be read, or a refusal, at any line.
+pub fn missing(counts: &Counts) -> Vec<String> {
+    let mut rows = vec![("read".to_string(), counts.read.iter().sum())];
+    for (number, lines) in (0..).zip(&counts.refused).skip(1) {
+        rows.push((format!("refused {}", number), lines.iter().sum()));
+    }
+    runs::zeros(rows)
 }
 
 #[cfg(test)]
@@ -193,8 +249,13 @@ mod tests {
 
     #[test]
     fn what_is_made_holds() {
-        let corpus = made(7);
-        assert_eq!(held(&corpus).unwrap().missing(), Vec::<String>::new());
+        for edition in [Edition::One, Edition::Two] {
+            let counts = held(&made(edition, 7)).unwrap();
+            assert_eq!(missing(&counts), Vec::<String>::new());
+            let others = [Edition::Two, Edition::One][edition as usize];
+            assert_eq!(counts.read[others as usize], 0);
+        }
+        let corpus = made(Edition::One, 7);
         let (text, fault) = held(&corpus.replacen("refused 5 ", "refused 6 ", 1)).unwrap_err();
         assert!(
             text.ends_with(b"\n") && fault.contains("number: 5"),

@@ -1,7 +1,8 @@
-//! A script that is as long as a text may be: every count at its most, every form of a line.
+//! A script that is as long as a text may be: every count at its most, every form of a line that its edition has.
 
 use second::numbers::*;
 use second::random::Random;
+use second::script::Edition;
 
 const SHORTEST: &str = "(let (read 0))\n";
 
@@ -20,13 +21,27 @@ fn kind_line(random: &mut Random, methods: usize) -> String {
     )
 }
 
-fn let_line(random: &mut Random, slots: usize, threads: usize, fields: &[usize]) -> String {
+/// The forms of a let; the last, a copy, is the second edition's alone.
+fn forms(edition: Edition) -> usize {
+    match edition {
+        Edition::One => 9,
+        Edition::Two => 10,
+    }
+}
+
+fn let_line(
+    random: &mut Random,
+    forms: usize,
+    slots: usize,
+    threads: usize,
+    fields: &[usize],
+) -> String {
     let slot = random.below(slots);
     let value = operand(random, slots);
     let cap = random
         .pick(&["imm", "iso", "local", "unsafe"])
         .unwrap_or("imm");
-    let expression = match random.below(9) {
+    let expression = match random.below(forms) {
         0 => value,
         1 => format!("(field {} {})", slot, random.below(256)),
         2 => format!("(swap {} {} {})", slot, random.below(4), value),
@@ -35,6 +50,10 @@ fn let_line(random: &mut Random, slots: usize, threads: usize, fields: &[usize])
         5 => format!("(spawn {})", random.below(threads)),
         6 => format!("(send {} {})", slot, value),
         7 => format!("(recv {})", slot),
+        9 => {
+            let cap = if cap == "iso" { "imm" } else { cap };
+            format!("(copy {} {})", cap, slot)
+        }
         _ => {
             let kind = random.below(fields.len());
             let values: String = (0..fields[kind])
@@ -47,7 +66,7 @@ fn let_line(random: &mut Random, slots: usize, threads: usize, fields: &[usize])
 }
 
 /// An accepted script of exactly 16,384 bytes.
-pub fn script(seed: u64) -> Vec<u8> {
+pub fn script(edition: Edition, seed: u64) -> Vec<u8> {
     let mut random = Random::of(seed, 0);
     let (threads, methods) = (MOST_BLOCKS / 2, MOST_BLOCKS / 2);
     let lets = MOST_LETS / MOST_BLOCKS;
@@ -60,12 +79,14 @@ pub fn script(seed: u64) -> Vec<u8> {
         .collect();
     let mut lines = vec![SHORTEST.to_string(); MOST_LETS];
     let frames = MOST_BLOCKS * ("(thread)\n(give (read 0))\n".len());
-    let heads: usize = kinds.iter().map(String::len).sum();
+    let first_line = edition.first_line();
+    let heads: usize = first_line.len() + kinds.iter().map(String::len).sum::<usize>();
     let mut left = MOST_TEXT - heads - frames - MOST_LETS * SHORTEST.len();
     // longer lines, until what is left is what one field's number can fill
     while left > 5 {
         let place = 1 + random.below(MOST_LETS - 1);
-        let line = let_line(&mut random, place % lets + 1, threads, &fields);
+        let slots = place % lets + 1;
+        let line = let_line(&mut random, forms(edition), slots, threads, &fields);
         let old = lines[place].len();
         if line.len() > old && line.len() - old + 3 <= left {
             left -= line.len() - old;
@@ -73,7 +94,7 @@ pub fn script(seed: u64) -> Vec<u8> {
         }
     }
     lines[0] = format!("(let (field 0 {}))\n", [0, 10, 100][left - 3]);
-    let mut text = kinds.concat();
+    let mut text = [first_line, &kinds.concat()].concat();
     for block in 0..MOST_BLOCKS {
         text.push_str(if block < threads {
             "(thread)\n"

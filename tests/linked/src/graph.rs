@@ -1,7 +1,7 @@
 //! What a report is tried on: whether the objects that a thread reaches need all that a walk must do.
 
-use second::numbers::MOST_OBJECTS;
 use second::reach::reach;
+use second::rings::{has_ring, held, shares};
 use second::state::{State, Value};
 
 /// A state, and what a thread of it reaches.
@@ -11,40 +11,13 @@ pub struct Graph<'a> {
 }
 
 impl Graph<'_> {
-    /// Objects that hold none of those left are dropped, until all are or a ring is left.
     pub fn has_ring(&self) -> bool {
-        let mut left = self.objects.to_vec();
-        loop {
-            let mut is_left = [false; MOST_OBJECTS];
-            left.iter()
-                .for_each(|number| is_left[usize::from(*number)] = true);
-            let before = left.len();
-            left.retain(|number| self.held(*number).any(|other| is_left[usize::from(other)]));
-            if left.len() == before {
-                return before > 0;
-            }
-        }
-    }
-
-    fn held(&self, number: u16) -> impl Iterator<Item = u16> + '_ {
-        let fields = &self.state.object(number).fields;
-        fields.iter().filter_map(|value| match value {
-            Value::Obj(number) => Some(*number),
-            Value::Absent | Value::Chan(_) => None,
-        })
+        has_ring(self.state, self.objects)
     }
 
     /// Fields hold one object twice.
     pub fn shares(&self) -> bool {
-        let mut held: Vec<u16> = self
-            .objects
-            .iter()
-            .flat_map(|number| self.held(*number))
-            .collect();
-        let all = held.len();
-        held.sort_unstable();
-        held.dedup();
-        held.len() < all
+        shares(self.state, self.objects)
     }
 
     /// The innermost frame alone reaches fewer.
@@ -74,8 +47,7 @@ impl Graph<'_> {
         match value {
             Value::Obj(number) if !met.contains(&number) => {
                 met.push(number);
-                self.held(number)
-                    .for_each(|other| self.meet(Value::Obj(other), met));
+                held(self.state, number).for_each(|other| self.meet(Value::Obj(other), met));
             }
             _ => (),
         }

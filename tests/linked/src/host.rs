@@ -113,7 +113,7 @@ fn read(lent: &Lent, counts: &mut agree::Counts) -> Result<(), String> {
     };
     same(&ours, &theirs.map(|_| ()))?;
     program.same("the program table", &expected)?;
-    counts.add(&ours);
+    counts.add(&lent.text, &ours);
     Ok(())
 }
 

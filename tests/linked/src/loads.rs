@@ -2,13 +2,15 @@
 
 use second::numbers::{MOST_THREADS, MOST_TURNS};
 use second::random::Random;
+use second::script::Edition;
 use second::turns::rounds;
 
-/// A script and its turns.
+/// A script and its turns. The first ones, so many as `before` says, only lead up to those that are measured.
 pub struct Load {
     pub name: &'static str,
     pub text: Vec<u8>,
     pub turns: Vec<u8>,
+    pub before: usize,
 }
 
 fn lines(lets: &[String]) -> String {
@@ -64,6 +66,7 @@ fn ping_pong() -> Load {
         name: "iso ping-pong",
         text: [kinds, &first, &second, &calls].concat().into_bytes(),
         turns: rounds(2, MOST_TURNS),
+        before: 0,
     }
 }
 
@@ -96,6 +99,7 @@ fn calls_and_swaps() -> Load {
         name: "calls and swaps",
         text: [kinds, &first, &calls].concat().into_bytes(),
         turns: vec![0; MOST_TURNS],
+        before: 0,
     }
 }
 
@@ -117,6 +121,7 @@ fn objects_made() -> Load {
         name: "objects made",
         text: [kinds, &first, &calls].concat().into_bytes(),
         turns: vec![0; 21 * 14 + 5],
+        before: 0,
     }
 }
 
@@ -152,7 +157,51 @@ fn sixteen(name: &'static str, turns: Vec<u8>) -> Load {
         name,
         text: [kinds, &threads, &calls].concat().into_bytes(),
         turns,
+        before: 0,
     }
+}
+
+/// One thread builds a graph and copies it, which its last turn does. Nine calls of the first method make its nodes, each call on what the one
+/// before it gave; the thread's own lets go on from slot 2. No object is made that the graph does not hold.
+fn copied(name: &'static str, fields: usize, work: &[String], give: &str, own: &[&str]) -> Load {
+    let kinds = format!(
+        "(kind (fields 0) (does 1 2))\n(kind (fields {}) (does))\n",
+        fields
+    );
+    let copy = format!("(copy unsafe {})", own.len() + 2);
+    let built = ["(new unsafe 0)", "(call 1 1 (read 1))"];
+    let first = thread(&[&built, own, &[&copy]].concat(), "(read 1)");
+    let calls: Vec<String> = (1..10)
+        .map(|slot| format!("(call 0 0 (read {}))", slot))
+        .collect();
+    let methods = [method(work, give), method(&calls, "(read 10)")].concat();
+    let before = 2 + 9 * (work.len() + 2) + 1 + own.len();
+    Load {
+        name,
+        text: [Edition::Two.first_line(), &kinds, &first, &methods]
+            .concat()
+            .into_bytes(),
+        turns: vec![0; before + 1],
+        before,
+    }
+}
+
+/// Nodes of two fields, which hold the node before and an earlier one, in rings of eleven: 99 of them and the object that they end in.
+fn graph_copied() -> Load {
+    let mut work: Vec<String> = (2..13)
+        .map(|slot| format!("(new unsafe 1 (read {}) (read {}))", slot - 1, slot / 2))
+        .collect();
+    work.push("(swap 2 1 (read 12))".to_string());
+    copied("100 objects copied", 2, &work, "(read 12)", &[])
+}
+
+/// Nodes of one field, each of which holds the one before: 119 of them and the object that they end in.
+fn chain_copied() -> Load {
+    let work: Vec<String> = (2..15)
+        .map(|slot| format!("(new unsafe 1 (read {}))", slot - 1))
+        .collect();
+    let own = ["(new unsafe 1 (read 2))", "(new unsafe 1 (read 3))"];
+    copied("a chain of 120 copied", 1, &work, "(read 14)", &own)
 }
 
 /// All loads.
@@ -167,5 +216,27 @@ pub fn all() -> Vec<Load> {
         objects_made(),
         sixteen("16 threads in rotation", rounds(MOST_THREADS, MOST_TURNS)),
         sixteen("16 threads at random", any),
+        graph_copied(),
+        chain_copied(),
     ]
+}
+
+#[cfg(test)]
+mod tests {
+    use super::*;
+    use second::machine;
+    use second::reading::read;
+
+    #[test]
+    fn the_last_turn_of_a_copy_copies_all_objects() {
+        for (load, objects) in [(graph_copied(), 100), (chain_copied(), 120)] {
+            let program = read(&load.text).unwrap();
+            let made = |turns: &[u8]| {
+                let run = machine::run(&program, turns);
+                (run.moves as usize, run.state.objects.len())
+            };
+            assert_eq!(made(&load.turns[..load.before]), (load.before, objects));
+            assert_eq!(made(&load.turns), (load.before + 1, 2 * objects));
+        }
+    }
 }

@@ -1,7 +1,7 @@
 //! The program `linked`: `read SEED COUNT` and `run SEED COUNT` hold the compiled box against the second interpreter, on words; `host SEED
 //! COUNT` does so through the calls of a C host, on bytes, and `write SEED COUNT` for tables that are written back to their texts; `corpus
-//! FILE` does so for the texts of a file and holds both to the file's own answers, and `corpus make SEED` makes such a file; `bench [FILE]`
-//! measures both, and shows the times of the file's lines, a load's name, a tab and its ns, beside them.
+//! FILE` does so for the texts of a file and holds both to the file's own answers, and `corpus make EDITION SEED` makes such a file of the
+//! texts of an edition; `bench [FILE]` measures both, and shows the times of the file's lines, a load's name, a tab and its ns, beside them.
 
 use std::env;
 use std::fs;
@@ -9,6 +9,7 @@ use std::process;
 
 use linked::{agree, bench, corpus, host, runs, writes};
 use second::console::{complain, out};
+use second::script::Edition;
 
 const CALLS: usize = 4001;
 
@@ -25,12 +26,15 @@ fn main() {
             Err(fault) => failed(&format!("{}: {}", file, fault)),
         },
         ["corpus", file] => match fs::read_to_string(file) {
-            Ok(texts) => told(corpus::held(&texts).map(|counts| (counts.rows(), counts.missing()))),
+            Ok(texts) => {
+                told(corpus::held(&texts).map(|counts| (counts.rows(), corpus::missing(&counts))))
+            }
             Err(fault) => failed(&format!("{}: {}", file, fault)),
         },
-        ["corpus", "make", seed] => match seed.parse() {
-            Ok(seed) => out(corpus::made(seed).as_bytes()),
-            Err(_) => usage(),
+        ["corpus", "make", edition, seed] => match (*edition, seed.parse()) {
+            ("1", Ok(seed)) => out(corpus::made(Edition::One, seed).as_bytes()),
+            ("2", Ok(seed)) => out(corpus::made(Edition::Two, seed).as_bytes()),
+            _ => usage(),
         },
         [what, seed, count] => match (*what, seed.parse(), count.parse()) {
             ("read", Ok(seed), Ok(count)) => {
@@ -54,7 +58,7 @@ fn main() {
 
 fn usage() -> i32 {
     complain(
-        "linked read SEED COUNT | run SEED COUNT | host SEED COUNT | write SEED COUNT | corpus FILE | corpus make SEED | bench [FILE]\n",
+        "linked read SEED COUNT | run SEED COUNT | host SEED COUNT | write SEED COUNT | corpus FILE | corpus make EDITION SEED | bench [FILE]\n",
     );
     2
 }

@@ -7,7 +7,7 @@ use second::machine::{self, End, Run};
 use second::numbers::*;
 use second::random::Random;
 use second::reading;
-use second::script::Program;
+use second::script::{Edition, Expr, Program};
 use second::stripped::{strip, strip_text};
 use second::{generate, turns};
 
@@ -54,20 +54,29 @@ impl Answers {
     }
 }
 
-/// What the runs came to: their answers, and the lists of each telling length.
+/// What the runs came to: their answers, those of the second edition and their stops at a copy, and the lists of each telling length.
 #[derive(Clone, Debug, Default, PartialEq, Eq)]
 pub struct Counts {
     pub answers: Answers,
+    pub edition_2: u64,
+    pub at_copies: [u64; COPY_STOPS.len()],
     pub lists: [u64; LENGTHS.len()],
     pub demand_3: u64,
     pub guarded_alone: u64,
 }
+
+/// The numbers with which a copy stops.
+const COPY_STOPS: [u8; 4] = [ABSENT, WRONG_THING, USED_UP, FOREIGN];
 
 const LENGTHS: [usize; 4] = [0, 1, MOST_TURNS, MOST_TURNS + 1];
 
 impl Counts {
     pub fn rows(&self) -> Vec<(String, u64)> {
         let mut rows = self.answers.rows();
+        rows.push(("runs of edition 2".to_string(), self.edition_2));
+        for (number, count) in COPY_STOPS.iter().zip(self.at_copies) {
+            rows.push((format!("stopped {} at a copy", number), count));
+        }
         for (length, count) in LENGTHS.iter().zip(self.lists) {
             rows.push((format!("lists of {}", length), count));
         }
@@ -78,6 +87,29 @@ impl Counts {
 
     pub fn missing(&self) -> Vec<String> {
         zeros(self.rows())
+    }
+
+    fn add(&mut self, ran: &Ran) {
+        self.answers.add(&ran.answer);
+        if let Some(program) = &ran.program {
+            self.edition_2 += u64::from(program.edition == Edition::Two);
+            if let Some(place) = copy_stop(program, &ran.answer) {
+                self.at_copies[place] += 1;
+            }
+        }
+    }
+}
+
+/// The place of the number with which a copy stopped the run.
+fn copy_stop(program: &Program, answer: &Result<(End, usize), Refusal>) -> Option<usize> {
+    let stop = match answer {
+        Ok((End::Stopped(stop), _)) => stop,
+        _ => return None,
+    };
+    let lets = &program.blocks[usize::from(stop.block)].lets;
+    match lets.get(usize::from(stop.line))? {
+        Expr::Copy { .. } => COPY_STOPS.iter().position(|number| *number == stop.number),
+        _ => None,
     }
 }
 
@@ -149,20 +181,20 @@ fn lent(seed: u64, n: u64) -> Lent {
     }
 }
 
-/// The answer of both on one run, or how they differ; with the words that the box left in the state table.
+/// What both say of one run, or how they differ.
 fn one(lent: &Lent, change: fn(&Program) -> Program) -> Result<Ran, String> {
     let (mut program, mut state) = (lent.program.clone(), lent.state.clone());
     let ours = library::run(&lent.text, &lent.turns, &mut program, &mut state);
     let lengths = (program.len(), state.len());
-    let (theirs, program_words, state_words) =
-        match by_second((&lent.text, &lent.turns), lengths, change) {
-            Err(refusal) => (Err(refusal), lent.program.clone(), lent.state.clone()),
-            Ok((read, run)) => (
-                Ok((run.end, run.moves as usize)),
-                [&layout::program(&read), &lent.program[TABLE_WORDS..]].concat(),
-                [&layout::state(&run.state), &lent.state[TABLE_WORDS..]].concat(),
-            ),
-        };
+    let by_second = by_second((&lent.text, &lent.turns), lengths, change);
+    let (theirs, program_words, state_words) = match &by_second {
+        Err(refusal) => (Err(*refusal), lent.program.clone(), lent.state.clone()),
+        Ok((read, run)) => (
+            Ok((run.end, run.moves as usize)),
+            [&layout::program(read), &lent.program[TABLE_WORDS..]].concat(),
+            [&layout::state(&run.state), &lent.state[TABLE_WORDS..]].concat(),
+        ),
+    };
     if ours != theirs {
         return Err(format!(
             "the box says {:?}, the second interpreter {:?}",
@@ -173,12 +205,15 @@ fn one(lent: &Lent, change: fn(&Program) -> Program) -> Result<Ran, String> {
     same_words("the state table", &state, &state_words)?;
     Ok(Ran {
         answer: ours,
+        program: by_second.ok().map(|(program, _)| program),
         state,
     })
 }
 
+/// The answer, the program if it was read, and the words of the state.
 struct Ran {
     answer: Result<(End, usize), Refusal>,
+    program: Option<Program>,
     state: Vec<u16>,
 }
 
@@ -205,7 +240,7 @@ fn matches(guarded: &Ran, stripped: &Ran) -> Result<(), String> {
 
 fn both(lent: &Lent, counts: &mut Counts) -> Result<(), String> {
     let guarded = one(lent, Program::clone)?;
-    counts.answers.add(&guarded.answer);
+    counts.add(&guarded);
     if let Some(place) = LENGTHS
         .iter()
         .position(|length| *length == lent.turns.len())
@@ -220,7 +255,7 @@ fn both(lent: &Lent, counts: &mut Counts) -> Result<(), String> {
         return Ok(());
     }
     let stripped = one(&other, strip)?;
-    counts.answers.add(&stripped.answer);
+    counts.add(&stripped);
     match guarded.answer {
         Ok((End::Stopped(stop), _)) if by_guard(stop.number) => {
             counts.guarded_alone += 1;

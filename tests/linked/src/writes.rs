@@ -7,6 +7,7 @@ use second::generate;
 use second::input;
 use second::numbers::*;
 use second::random::Random;
+use second::script::Edition;
 use second::writing::{self, Unwritten};
 
 use crate::agree::same_words;
@@ -169,14 +170,20 @@ fn each_word(random: &mut Random, script: &Script, counts: &mut Counts) -> Resul
     Ok(())
 }
 
-/// The shortest script, the first ones of the seed, and one that is as long as a text may be.
+/// The shortest script, one of copies, the first ones of the seed, and one that is as long as a text may be.
 fn scripts_for_each_word(seed: u64) -> Vec<Script> {
     let firsts = (0..).filter_map(|n| {
         let input = generate::input(seed, n);
         let parts = input::parts(&input).ok()?;
         Script::read(parts.script.to_vec())
     });
-    let fixed = [b"(thread)\n(give (read 0))\n".to_vec(), full::script(seed)];
+    let copies =
+        b"(script 2)\n(thread)\n(let (copy imm 0))\n(let (copy unsafe 1))\n(give (read 2))\n";
+    let fixed = [
+        b"(thread)\n(give (read 0))\n".to_vec(),
+        copies.to_vec(),
+        full::script(Edition::One, seed),
+    ];
     let fixed = fixed.into_iter().filter_map(Script::read);
     firsts.take(3).chain(fixed).collect()
 }

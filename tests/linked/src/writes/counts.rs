@@ -1,6 +1,8 @@
 //! What the tables that were lent to the writer held, and what came of them.
 
 use second::numbers::*;
+use second::reading;
+use second::script::Edition;
 use second::writing::{self, Unwritten};
 
 use super::Lent;
@@ -34,6 +36,7 @@ const HELD: [(&str, [bool; 2]); 7] = [
 pub struct Counts {
     /// Written, or 18, by what the table holds.
     held: [[u64; 2]; HELD.len()],
+    edition_2: u64,
     longest: u64,
     longer_table: u64,
     longer_buffer: u64,
@@ -58,6 +61,7 @@ impl Counts {
             );
         }
         let others = [
+            ("written: edition 2", self.edition_2),
             ("written: 16,384 bytes", self.longest),
             ("written: from a longer table", self.longer_table),
             ("written: to a longer buffer", self.longer_buffer),
@@ -83,6 +87,7 @@ impl Counts {
     pub(super) fn add(&mut self, held: Held, lent: &Lent, answer: &Result<Vec<u8>, Unwritten>) {
         match answer {
             Ok(text) => {
+                self.edition_2 += u64::from(reading::edition(text) == Edition::Two);
                 self.longest += u64::from(text.len() == MOST_TEXT);
                 self.longer_table += u64::from(lent.program.bytes().len() > 2 * TABLE_WORDS);
                 self.longer_buffer += u64::from(lent.script.bytes().len() > MOST_TEXT);
