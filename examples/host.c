@@ -17,7 +17,8 @@
 
 #include "box.h"
 
-enum { BLOCK_STARTS = 8 }; /* the word of the program table where the blocks' first lines begin (docs/LAYOUT.md) */
+/* Words of the program table (docs/LAYOUT.md): the script's edition, and where the blocks' first lines begin. */
+enum { EDITION = 3, BLOCK_STARTS = 8 };
 
 static const char *const end_words[] = {[BOX_FINISHED] = "finished", [BOX_STUCK] = "stuck", [BOX_OPEN] = "open"};
 static const char *const number_words[] = {
@@ -44,11 +45,12 @@ static void show_line(size_t n)
         printf("    %.*s\n", (int)length, (const char *)text + start);
 }
 
-/* A line of a block counts from the line after its opener; the program table has that line's number in the text. */
+/* A line of a block counts from the line after its opener. The program table has that line's number, which leaves out a first line `(script 2)`. */
 static void tell_stop(size_t number, size_t thread, size_t block, size_t line, size_t moves)
 {
     printf("stopped: %zu %s, thread %zu, block %zu, line %zu, after %zu moves\n", number, number_words[number], thread, block, line, moves);
-    show_line(word(program, BLOCK_STARTS + block) + line);
+    size_t before = word(program, EDITION) == 2 ? 1 : 0;
+    show_line(before + word(program, BLOCK_STARTS + block) + line);
 }
 
 /* Of a text that is too long no line is at fault. (Refusal 9, a short table, cannot come here.) */

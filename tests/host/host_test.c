@@ -174,23 +174,83 @@ static void answers(const char *name, const char *text, const char *turns, size_
 #define FOREIGN(let) KIND "(kind (fields 1) (does))\n(thread)\n(let (spawn 1))\n(let (new iso 0))\n(let (new local 1 (take 2)))\n" \
     "(let (new unsafe 1 (read 3)))\n(let (send 1 (read 4)))\n(give (read 1))\n(thread)\n(let (recv 0))\n(let (field 1 0))\n" let "(give (read 1))\n"
 
+/* The first line of edition 2. */
+#define TWO "(script 2)\n"
+/* Thread 0 makes objects 0 to 3, of which 2 holds 3, 0 and 0, and 3 holds 2, 2 and 1; it sends 2, and thread 1 copies that. */
+#define SHEETS TWO KIND "(kind (fields 3) (does))\n(thread)\n(let (spawn 1))\n(let (new imm 0))\n(let (new imm 0))\n" \
+    "(let (new unsafe 1 (read 2) (read 2) (read 2)))\n(let (new unsafe 1 (read 4) (read 4) (read 3)))\n(let (swap 4 0 (read 5)))\n" \
+    "(let (send 1 (read 4)))\n(give (read 4))\n(thread)\n(let (recv 0))\n(let (copy local 1))\n(give (read 2))\n"
+#define SHEETS_TURNS "\0\0\0\0\0\0\0\1\1", 9
+#define COPY_OF_ISO TWO KIND "(thread)\n(let (new iso 0))\n(let (copy imm 1))\n(give (take 1))\n"
+
 static const char zero_turns[MOST_TURNS + 1];
 
-/* A script of exactly 16,384 bytes: 18 kinds, 64 threads and 512 lets. */
+/* A text that is put together, with room for a text that is too long. */
+struct text { char bytes[2 * MOST_TEXT]; size_t length; };
+
+static void add(struct text *text, const char *form, ...)
+{
+    va_list values;
+    size_t room = sizeof text->bytes - text->length;
+    va_start(values, form);
+    int length = vsnprintf(text->bytes + text->length, room, form, values);
+    va_end(values);
+    if (length < 0 || (size_t)length >= room) {
+        fprintf(stderr, "a text has no room\n");
+        exit(2);
+    }
+    text->length += (size_t)length;
+}
+
+/* A script of exactly 16,384 bytes: 18 kinds, 64 threads and 512 lets, behind a first line or none. So many lets are a byte shorter. */
+static void fill_text(struct text *text, const char *first_line, int shorter)
+{
+    add(text, "%s", first_line);
+    for (int n = 0; n < 18; n++)
+        add(text, KIND);
+    for (int let = 0; let < 512; let++)
+        add(text, "%s(let (swap 0 %s (read 0)))\n%s", let % 8 == 0 ? "(thread)\n" : "", let < shorter ? "25" : "255",
+            let % 8 == 7 ? "(give (read 0))\n" : "");
+    check(text->length == MOST_TEXT, "the longest script has %zu bytes", text->length);
+}
+
 static const char *longest(void)
 {
-    static char text[MOST_TEXT + 2];
-    size_t length = 0;
-    for (int n = 0; n < 18; n++)
-        length += (size_t)sprintf(text + length, KIND);
-    for (int block = 0; block < 64; block++) {
-        length += (size_t)sprintf(text + length, "(thread)\n");
-        for (int let = 0; let < 8; let++)
-            length += (size_t)sprintf(text + length, "(let (swap 0 %s (read 0)))\n", block == 0 && let < 2 ? "25" : "255");
-        length += (size_t)sprintf(text + length, "(give (read 0))\n");
-    }
-    check(length == MOST_TEXT, "the longest script has %zu bytes", length);
-    return text;
+    static struct text text;
+    if (text.length == 0)
+        fill_text(&text, "", 2);
+    return text.bytes;
+}
+
+static const char *longest_two(void)
+{
+    static struct text text;
+    if (text.length == 0)
+        fill_text(&text, TWO, 13);
+    return text.bytes;
+}
+
+/* A chain: object 0 is the first, each holds the one before it, and slot 2 of thread 0 holds the last. Block 1 adds fourteen objects, block 2 calls
+ * it fourteen times, block 3 adds the rest; these lets and blocks follow. It takes `turns` turns of thread 0 to make. */
+static void chain(struct text *text, const char *first, size_t objects, const char *lets, const char *blocks, size_t *turns)
+{
+    size_t slot = 1, left = objects - 1;
+    *turns = 3;
+    add(text, TWO "(kind (fields 0) (does 1 2 3))\n(kind (fields 1) (does 1 2 3))\n(thread)\n(let (new %s 0))\n(let (call 1 2 (read 1)))\n%s"
+              "(give (read 2))\n(method)\n", first, lets);
+    for (int n = 1; n < 15; n++)
+        add(text, "(let (new unsafe 1 (read %d)))\n", n);
+    add(text, "(give (read 15))\n(method)\n");
+    for (int n = 1; n < 15; n++)
+        add(text, "(let (call %d 0 (read %d)))\n", n, n);
+    add(text, "(give (read 15))\n(method)\n");
+    for (; left >= 196; left -= 196, slot++, *turns += 226)
+        add(text, "(let (call %zu 1 (read %zu)))\n", slot, slot);
+    for (; left >= 14; left -= 14, slot++, *turns += 16)
+        add(text, "(let (call %zu 0 (read %zu)))\n", slot, slot);
+    for (; left > 0; left--, slot++, *turns += 1)
+        add(text, "(let (new unsafe 1 (read %zu)))\n", slot);
+    add(text, "(give (read %zu))\n%s", slot, blocks);
 }
 
 /* ---- The header ---- */
@@ -240,6 +300,52 @@ static void reading(void)
     check(word(program, 0) == 18 && word(program, 1) == 64 && word(program, 2) == 658, "the head of the longest program");
     give_back(program);
     give_back(text);
+}
+
+/* The table of a text that must be read. Some bytes more are lent. */
+static struct part table_of(const char *text, size_t extra)
+{
+    struct part part = lend_fixed(text, strlen(text)), program = lend(TABLE + extra);
+    size_t line = UNSET;
+    uint16_t number = box_read(part.bytes, part.length, program.bytes, program.length, &line);
+    check(number == 0 && line == 0, "a script is read: %u at line %zu", number, line);
+    give_back(part);
+    return program;
+}
+
+/* All words of two tables are the same but some from one place on. */
+static int same_but(struct part table, struct part other, size_t place, size_t count)
+{
+    return memcmp(table.bytes, other.bytes, 2 * place) == 0
+        && memcmp(table.bytes + 2 * (place + count), other.bytes + 2 * (place + count), TABLE - 2 * (place + count)) == 0;
+}
+
+/* The first line has word 3 and no other; a copy has a row like any line, here row 3, at word 96. */
+static void editions(void)
+{
+    static const char *const scripts[][2] = {{CASE_A, TWO CASE_A}, {CASE_D, TWO CASE_D}, {CASE_I, TWO CASE_I}};
+    for (size_t n = 0; n < sizeof scripts / sizeof scripts[0]; n++) {
+        struct part one = table_of(scripts[n][0], 0), two = table_of(scripts[n][1], 0);
+        check(word(one, 3) == 0 && word(two, 3) == 2 && same_but(one, two, 3, 1), "script %zu in both editions", n);
+        give_back(one);
+        give_back(two);
+    }
+
+    static const char *const copies[] = {TWO IN_THREAD("(let (copy imm 1))\n"), TWO IN_THREAD("(let (copy local 1))\n"),
+                                         TWO IN_THREAD("(let (copy unsafe 1))\n")};
+    static const unsigned rows[][8] = {{14, 0, 1}, {14, 2, 1}, {14, 3, 1}};
+    struct part read = table_of(TWO IN_THREAD("(let (read 1))\n"), 0);
+    for (size_t n = 0; n < sizeof rows / sizeof rows[0]; n++) {
+        struct part copy = table_of(copies[n], 0);
+        check(words_are(copy, 96, 8, rows[n]) && same_but(read, copy, 96, 8), "the row of copy %zu", n);
+        give_back(copy);
+    }
+    give_back(read);
+
+    struct part two = table_of(longest_two(), 0);
+    check(word(two, 0) == 18 && word(two, 1) == 64 && word(two, 2) == 658 && word(two, 3) == 2 && word(two, 8) == 19,
+          "the head of the longest program of edition 2");
+    give_back(two);
 }
 
 static void runs(void)
@@ -325,12 +431,47 @@ static void refusals(void)
     refused_text("7, empty text", "", 7, 0);
     refused_text("8", "(thread)\n(let (spawn 1))\n(give (read 0))\n", 8, 1);
     refused_text("8, block 0", "(kind (fields 0) (does))\n(method)\n(give (read 0))\n", 8, 1);
+    refused_text("3, a copy in edition 1", IN_THREAD("(let (copy imm 1))\n"), 3, 3);
 
     static const size_t lengths[] = {0, 1, 2, 8191, 8192, TABLE - 2, TABLE - 1};
     for (size_t n = 0; n < sizeof lengths / sizeof lengths[0]; n++) {
         refused("9, program", lend_all("?", 1, "", 0, lengths[n], TABLE, LIST), 9, 0, 1);
         refused("9, state", lend_all(CASE_A, strlen(CASE_A), "", 0, TABLE, lengths[n], LIST), 9, 0, 0);
     }
+}
+
+/* The line (script 2) counts, as line 0, and stands nowhere else. */
+static void refusals_two(void)
+{
+    static struct text over;
+    add(&over, TWO "%s", longest());
+    refused_text("1, 16,395 bytes", over.bytes, 1, 0);
+    refused_text("2, edition 2", TWO "(thread)\n(give (Read 0))\n", 2, 2);
+    refused_text("3, edition 2", TWO "(thread)\n(give  (read 0))\n", 3, 2);
+    refused_text("4, edition 2", TWO "(thread)\n(let (field 0 256))\n(give (read 0))\n", 4, 2);
+    refused_text("5, edition 2", TWO "(thread)\n(give (read 1))\n", 5, 2);
+    refused_text("6, edition 2", TWO "(thread)\n(give (read 0))\n(method)\n(give (take 0))\n", 6, 4);
+    refused_text("7, edition 2", TWO "(thread)\n(let (read 0))\n", 7, 3);
+    refused_text("7, the first line alone", TWO, 7, 1);
+    refused_text("8, edition 2", TWO "(thread)\n(let (spawn 1))\n(give (read 0))\n", 8, 2);
+    refused_text("8, block 0, edition 2", TWO KIND "(method)\n(give (read 0))\n", 8, 2);
+    refused("9, edition 2", lend_all(TWO, strlen(TWO), "", 0, TABLE - 1, TABLE, LIST), 9, 0, 1);
+
+    refused_text("3, the first line without LF", "(script 2)", 3, 0);
+    refused_text("3, the first line twice", TWO TWO CASE_A, 3, 1);
+    refused_text("3, the first line after a kind", KIND TWO CASE_A, 3, 1);
+    refused_text("3, the first line at the end", CASE_A TWO, 3, 9);
+    refused_text("3, script 1", "(script 1)\n" CASE_A, 3, 0);
+    refused_text("3, script 3", "(script 3)\n" CASE_A, 3, 0);
+    refused_text("3, script 02", "(script 02)\n" CASE_A, 3, 0);
+
+    refused_text("2, in a copy", TWO IN_THREAD("(let (copy Imm 1))\n"), 2, 4);
+    refused_text("3, a copy to iso", TWO IN_THREAD("(let (copy iso 1))\n"), 3, 4);
+    refused_text("3, a copy to iso, before 5", TWO IN_THREAD("(let (copy iso 2))\n"), 3, 4);
+    refused_text("3, a copy of an operand", TWO IN_THREAD("(let (copy imm (read 1)))\n"), 3, 4);
+    refused_text("3, a copy outside a block", TWO "(let (copy imm 0))\n", 3, 1);
+    refused_text("4, a copy of slot 256", TWO IN_THREAD("(let (copy imm 256))\n"), 4, 4);
+    refused_text("5, a copy of a slot to come", TWO IN_THREAD("(let (copy imm 2))\n"), 5, 4);
 }
 
 /* A list that is too short is refused by the report alone. */
@@ -439,6 +580,110 @@ static void reports(void)
     give_all_back(lent);
 }
 
+/* ---- Copies ---- */
+
+/* The objects are met as 2, 3, 1, 0, and their copies are 4 to 7. The sheets themselves stay. */
+static void copies(void)
+{
+    static const unsigned objects[] = {0, 0, 0, 0, 0, 0, 0, 0,  0, 0, 0, 0, 0, 0, 0, 0,  3, 1, 0, 0, 4, 1, 1, 0,  3, 1, 0, 0, 3, 3, 2, 0,
+                                       2, 1, 1, 0, 6, 8, 8, 0,  2, 1, 1, 0, 5, 5, 7, 0,  2, 0, 1, 0, 0, 0, 0, 0,  2, 0, 1, 0, 0, 0, 0, 0};
+    static const unsigned first[] = {1, 2, 0, 6, 7, 0, 258, 1, 2, 3, 4, 1}, second[] = {1, 0, 1, 2, 3, 258, 3, 5};
+    struct lent lent = lend_all(SHEETS, strlen(SHEETS), SHEETS_TURNS, TABLE + 1, TABLE + 3, LIST);
+    struct answer a = run(lent);
+    check(same(a, (struct answer){OPEN, 0, 0, 0, 0, 9}), "the sheets: end %u, %zu moves", a.end, a.moves);
+    check(word(lent.program, 2) == 15 && word(lent.program, 3) == 2, "the sheets leave their program");
+    check(word(lent.state, 0) == 8 && word(lent.state, 1) == 2 && zeros(lent.state, 2, 8), "the head of the sheets' state");
+    check(words_are(lent.state, 8, 64, objects) && zeros(lent.state, 72, 2056), "the sheets and their copies");
+    check(words_are(lent.state, 2056, 12, first) && zeros(lent.state, 2068, 2362), "thread 0 of the sheets");
+    check(words_are(lent.state, 2362, 8, second) && zeros(lent.state, 2370, 6954), "thread 1 of the sheets");
+    check(word(lent.state, 6954) == 0 && word(lent.state, 6955) == 1 && zeros(lent.state, 6956, 8192), "the channel of the sheets");
+    check(kept(lent.program, TABLE) && kept(lent.state, TABLE), "bytes past both tables stay after a copy");
+    reaches("thread 0 reaches no copy", lent, 0, OBJECTS(0, 1, 2, 3));
+    reaches("thread 1 reaches the sheets and the copies", lent, 1, OBJECTS(0, 1, 2, 3, 4, 5, 6, 7));
+    give_all_back(lent);
+
+    static const unsigned iso[] = {1, 0, 0, 0, 0, 0, 0, 0,  0, 0, 0, 0, 0, 0, 0, 0}, slots[] = {1, 0, 0, 2, 3, 0, 1, 2};
+    lent = lend_run(COPY_OF_ISO, "\0\0", 2);
+    a = run(lent);
+    check(same(a, (struct answer){OPEN, 0, 0, 0, 0, 2}), "a copy of an iso: end %u, %zu moves", a.end, a.moves);
+    check(word(lent.state, 0) == 2 && words_are(lent.state, 8, 16, iso) && words_are(lent.state, 2056, 8, slots), "the slot keeps its iso");
+    reaches("an iso and its copy", lent, 0, OBJECTS(0, 1));
+    give_all_back(lent);
+}
+
+static void copies_stop(void)
+{
+    answers("10, a copy", TWO KIND "(thread)\n(let (copy imm 0))\n(give (read 0))\n", "\0", 1, (struct answer){STOPPED, 10, 0, 0, 0, 0});
+    answers("10, a copy of what was taken", TWO IN_THREAD("(let (take 1))\n(let (copy imm 1))\n"), "\0\0\0", 3,
+            (struct answer){STOPPED, 10, 0, 0, 2, 2});
+    answers("13, a copy", TWO "(thread)\n(let (spawn 0))\n(let (copy local 1))\n(give (read 1))\n", "\0\0", 2,
+            (struct answer){STOPPED, 13, 0, 0, 1, 1});
+    answers("20, a copy", TWO FOREIGN("(let (copy unsafe 2))\n"), "\0\0\0\0\0\1\1\1", 8, (struct answer){STOPPED, 20, 1, 1, 2, 7});
+    answers("20, met on the way", TWO FOREIGN("(let (copy imm 1))\n"), "\0\0\0\0\0\1\1\1", 8, (struct answer){STOPPED, 20, 1, 1, 2, 7});
+
+    struct lent lent = lend_run(TWO FOREIGN("(let (copy imm 1))\n"), "\0\0\0\0\0\1\1\1", 8);
+    run(lent);
+    check(word(lent.state, 0) == 3 && zeros(lent.state, 32, 2056), "a copy that stops makes no object");
+    reaches("a report on a copy that stopped", lent, 1, OBJECTS(0, 1, 2));
+    give_all_back(lent);
+}
+
+/* Of 128 objects there is room for all copies, to the last of 256: copy n is object 128 + n, and the copy of object 127 - n. */
+static void copy_of_half(void)
+{
+    static struct text text;
+    size_t turns, count, line, wrong = 0;
+    chain(&text, "unsafe", 128, "(let (copy local 2))\n", "", &turns);
+    struct lent lent = lend_run(text.bytes, zero_turns, turns + 1);
+    struct answer a = run(lent);
+    check(same(a, (struct answer){OPEN, 0, 0, 0, 0, turns + 1}), "a copy of 128 objects: end %u, number %zu, %zu moves", a.end, a.number, a.moves);
+    check(word(lent.state, 0) == 256 && word(lent.state, 2064) == 129, "256 objects, and slot 3 holds the first copy");
+    for (unsigned n = 128; n < 256; n++) {
+        const unsigned words[] = {2, n < 255, 0, 0, n < 255 ? n + 2 : 0, 0, 0, 0};
+        wrong += !words_are(lent.state, 8 + 8 * n, 8, words);
+    }
+    check(wrong == 0, "%zu of 128 copies are wrong", wrong);
+    check(reach(lent, 0, &count, &line) == 0 && count == 256, "both chains are reached: %zu objects", count);
+    give_all_back(lent);
+}
+
+/* A copy for which there is no room. There are so many objects then, and none is made. */
+static void too_many(const struct text *text, size_t objects, size_t turns)
+{
+    struct lent lent = lend_run(text->bytes, zero_turns, turns + 1);
+    struct answer a = run(lent);
+    check(a.end == STOPPED && a.number == 16 && a.thread == 0 && a.block == 0 && a.moves == turns, "16, %zu objects: end %u, number %zu, %zu moves",
+          objects, a.end, a.number, a.moves);
+    check(word(lent.state, 0) == objects && zeros(lent.state, 8 + 8 * objects, 2056), "16, %zu objects: no copy is made", objects);
+    give_all_back(lent);
+}
+
+/* Of 128 objects where there is one more, and of more than 128, not all copies can be made. */
+static void copies_too_many(void)
+{
+    static const size_t lengths[] = {129, 200, 255, 256};
+    static struct text texts[sizeof lengths / sizeof lengths[0]], beside;
+    size_t turns;
+    chain(&beside, "unsafe", 128, "(let (new imm 0))\n(let (copy unsafe 2))\n", "", &turns);
+    too_many(&beside, 129, turns + 1);
+    for (size_t n = 0; n < sizeof lengths / sizeof lengths[0]; n++) {
+        chain(&texts[n], "unsafe", lengths[n], "(let (copy unsafe 2))\n", "", &turns);
+        too_many(&texts[n], lengths[n], turns);
+    }
+}
+
+/* Thread 1 gets thread 0's chain of 256 objects, of which the first is local: both 20 and 16 hold, and 20 goes first. */
+static void foreign_and_too_many(void)
+{
+    static struct text text;
+    static char list[512];
+    size_t turns;
+    chain(&text, "local", 256, "(let (spawn 4))\n(let (send 3 (read 2)))\n", "(thread)\n(let (recv 0))\n(let (copy unsafe 1))\n(give (read 0))\n",
+          &turns);
+    memset(list + turns + 2, 1, 2);
+    answers("20 before 16", text.bytes, list, turns + 4, (struct answer){STOPPED, 20, 1, 4, 1, turns + 3});
+}
+
 /* ---- The writer ---- */
 
 /* Every form of a line, every number of digits, a method; its lines stand from word 72 on, eight words each, the last at 200. */
@@ -452,13 +697,10 @@ static void set_word(struct part table, size_t n, unsigned word)
     table.bytes[2 * n + 1] = (uint8_t)(word >> 8);
 }
 
-/* The table that a script reads to, one word of it changed (word 3 is 0 anyway), where it cannot be written. Some bytes more are lent. */
+/* The table that a script reads to, one word of it changed (word 4 is 0 anyway), where it cannot be written. */
 static struct part loaded(const char *text, size_t place, unsigned word, size_t extra)
 {
-    struct part program = lend(TABLE + extra);
-    size_t line = UNSET;
-    uint16_t number = box_read((const uint8_t *)text, strlen(text), program.bytes, program.length, &line);
-    check(number == 0, "a script is loaded: %u at line %zu", number, line);
+    struct part program = table_of(text, extra);
     set_word(program, place, word);
     struct part fixed = lend_fixed(program.bytes, program.length);
     give_back(program);
@@ -492,13 +734,41 @@ static void not_written(const char *name, struct part program, size_t script_len
 /* Word 89 of case D is its capability, 1 for iso; line 19 of the longest script, at word 224, has the field 25. */
 static void writing(void)
 {
-    static const char *const scripts[] = {CASE_A, CASE_D, CASE_E, CASE_I, REACHING, ANSWERING, EVERY_FORM};
+    static const char *const scripts[] = {CASE_A, CASE_D, CASE_E, CASE_I, REACHING, ANSWERING, EVERY_FORM, TWO CASE_A, TWO CASE_I, TWO EVERY_FORM,
+                                          SHEETS, COPY_OF_ISO};
     for (size_t n = 0; n < sizeof scripts / sizeof scripts[0]; n++)
         for (size_t extra = 0; extra < 4; extra++)
-            written("a script comes back", loaded(scripts[n], 3, 0, extra), scripts[n], 3 - extra);
-    written("16,384 bytes come back", loaded(longest(), 3, 0, 0), longest(), 0);
+            written("a script comes back", loaded(scripts[n], 4, 0, extra), scripts[n], 3 - extra);
+    written("16,384 bytes come back", loaded(longest(), 4, 0, 0), longest(), 0);
+    written("16,384 bytes of edition 2 come back", loaded(longest_two(), 4, 0, 0), longest_two(), 0);
     not_written("18, 16,385 bytes", loaded(longest(), 226, 100, 0), SCRIPT, 18);
+    not_written("18, 16,385 bytes of edition 2", loaded(longest_two(), 226, 100, 0), SCRIPT, 18);
     written("another script", loaded(CASE_D, 89, 3, 0), KIND "(thread)\n(let (new unsafe 0))\n(give (read 1))\n", 0);
+}
+
+/* The edition's word alone tells a text from the same text behind the first line. A copy has no text without that line; of the copy of an iso its
+ * row is at word 96. */
+static void written_editions(void)
+{
+    written("edition 1 as 2", loaded(CASE_A, 3, 2, 0), TWO CASE_A, 0);
+    written("edition 2 as 1", loaded(TWO CASE_A, 3, 0, 0), CASE_A, 0);
+    written("edition 2 as 1, the longest", loaded(longest_two(), 3, 0, 0), longest_two() + strlen(TWO), 0);
+    written("another copy", loaded(COPY_OF_ISO, 97, 3, 0), TWO KIND "(thread)\n(let (new iso 0))\n(let (copy unsafe 1))\n(give (take 1))\n", 0);
+    not_written("18, 16,395 bytes", loaded(longest(), 3, 2, 0), SCRIPT, 18);
+
+    static const unsigned words[] = {1, 3, 258, 512, 514, 65535};
+    for (size_t n = 0; n < sizeof words / sizeof words[0]; n++) {
+        not_written("18, no edition", loaded(CASE_A, 3, words[n], 0), SCRIPT, 18);
+        not_written("18, no edition of a copy", loaded(SHEETS, 3, words[n], 0), SCRIPT, 18);
+    }
+    static const struct { const char *name; size_t place; unsigned word; } changed[] = {
+        {"18, a copy in edition 1", 3, 0}, {"18, a spare word of edition 2", 4, 2}, {"18, the first line counted", 2, 6},
+        {"18, the first line counted for a block", 8, 3}, {"18, a copy outside a block", 80, 14}, {"18, form 15", 96, 15}, {"18, a copy to iso", 97, 1},
+        {"18, a copy to a fifth capability", 97, 4}, {"18, a copy of a slot to come", 98, 2}, {"18, a copy of slot 257", 98, 257},
+        {"18, a word after a copy", 99, 1},
+    };
+    for (size_t n = 0; n < sizeof changed / sizeof changed[0]; n++)
+        not_written(changed[n].name, loaded(COPY_OF_ISO, changed[n].place, changed[n].word, 0), SCRIPT, 18);
 }
 
 /* Words of case A's table that no accepted text has; its nine lines stand from word 72 on, eight words each. */
@@ -507,7 +777,7 @@ static void not_scripts(void)
     static const struct { const char *name; size_t place; unsigned word; } changed[] = {
         {"18, fewer kinds", 0, 0}, {"18, more kinds", 0, 2}, {"18, fewer blocks", 1, 1}, {"18, more blocks", 1, 3},
         {"18, no line", 2, 0}, {"18, a line less", 2, 8}, {"18, a line more", 2, 10}, {"18, 65,535 lines", 2, 65535},
-        {"18, a spare word", 3, 1}, {"18, another first line", 8, 3}, {"18, a first line of no block", 10, 10},
+        {"18, a spare word", 4, 1}, {"18, the last spare word", 7, 2}, {"18, another first line", 8, 3}, {"18, a first line of no block", 10, 10},
         {"18, form 0", 72, 0}, {"18, form 14", 88, 14}, {"18, form 258", 80, 258}, {"18, an opener in a block", 88, 2},
         {"18, five fields", 73, 5}, {"18, 256 fields", 73, 256},
         {"18, a thread for a method", 74, 1}, {"18, a method after none", 75, 1}, {"18, no such block", 89, 2}, {"18, a fifth capability", 97, 4},
@@ -530,12 +800,12 @@ static void not_scripts(void)
 static void short_buffers(void)
 {
     static const size_t lengths[] = {0, 1, 2, 8191, 8192, TABLE - 2, TABLE - 1};
-    struct part script = loaded(CASE_A, 3, 0, 0);
+    struct part script = loaded(CASE_A, 4, 0, 0);
     for (size_t n = 0; n < sizeof lengths / sizeof lengths[0]; n++) {
         not_written("9, table", lend_fixed(script.bytes, lengths[n]), SCRIPT, 9);
         not_written("9, both", lend_fixed(script.bytes, lengths[n]), lengths[n], 9);
-        not_written("9, buffer", loaded(CASE_A, 3, 0, 0), lengths[n], 9);
-        not_written("9, buffer, before 18", loaded(CASE_A, 3, 1, 0), lengths[n], 9);
+        not_written("9, buffer", loaded(CASE_A, 4, 0, 0), lengths[n], 9);
+        not_written("9, buffer, before 18", loaded(CASE_A, 4, 1, 0), lengths[n], 9);
     }
     give_back(script);
 }
@@ -564,6 +834,9 @@ static void line_finder(void)
     line_is("\n", 0, 0, 0);
     line_is("\n", 1, 1, 0);
     line_is(longest(), 657, MOST_TEXT - 16, 15);
+    line_is(TWO CASE_A, 0, 0, 10);
+    line_is(TWO CASE_A, 1, 11, 24);
+    line_is(longest_two(), 658, MOST_TEXT - 16, 15);
 }
 
 /* ---- Null pointers, which a slice of length 0 may have ---- */
@@ -593,20 +866,27 @@ static void nulls(void)
 
 enum { THREADS = 4, CALLS = 200, STACK = 256 * 1024 };
 
-/* Counts the calls of one thread that answer as case A does. */
+/* A chain of 256 objects, the deepest that a copy or a report can walk. */
+static struct text deepest;
+static size_t deepest_turns;
+
+/* Counts the calls of one thread that answer as case A and the deepest chain do. */
 static void *calling(void *right)
 {
-    struct lent lent = lend_run(CASE_A, "\0\0\0\1\0", 5);
+    struct lent lent = lend_run(CASE_A, "\0\0\0\1\0", 5), deep = lend_run(deepest.bytes, zero_turns, deepest_turns + 1);
     struct part script = lend(SCRIPT);
     for (int n = 0; n < CALLS; n++) {
         size_t count, line, length;
         int same_run = same(run(lent), (struct answer){OPEN, 0, 0, 0, 0, 5}) && word(lent.state, 6955) == 1;
         int same_report = reach(lent, 1, &count, &line) == 0 && count == 1 && word(lent.list, 0) == 0;
         int same_text = write_out(lent.program, script, &length) == 0 && length == strlen(CASE_A) && memcmp(script.bytes, CASE_A, length) == 0;
-        *(int *)right += same_run && same_report && same_text;
+        int same_copy = same(run(deep), (struct answer){STOPPED, 16, 0, 0, 2, deepest_turns});
+        int same_walk = reach(deep, 0, &count, &line) == 0 && count == 256 && word(deep.list, 255) == 255;
+        *(int *)right += same_run && same_report && same_text && same_copy && same_walk;
     }
     give_back(script);
     give_all_back(lent);
+    give_all_back(deep);
     return NULL;
 }
 
@@ -615,6 +895,7 @@ static void several_threads(void)
     pthread_t threads[THREADS];
     pthread_attr_t attributes;
     int right[THREADS] = {0};
+    chain(&deepest, "unsafe", 256, "(let (copy unsafe 2))\n", "", &deepest_turns);
     pthread_attr_init(&attributes);
     pthread_attr_setstacksize(&attributes, STACK);
     for (int n = 0; n < THREADS; n++)
@@ -632,13 +913,21 @@ int main(void)
     constants();
     nulls();
     reading();
+    editions();
     runs();
     refusals();
+    refusals_two();
     short_lists();
     messages();
     rising();
     reports();
+    copies();
+    copies_stop();
+    copy_of_half();
+    copies_too_many();
+    foreign_and_too_many();
     writing();
+    written_editions();
     not_scripts();
     short_buffers();
     line_finder();
