@@ -1,7 +1,7 @@
 #!/usr/bin/env python3
-"""straight.py: scripts are read straight from their text. In the source of every crate that reads (reader and all that it stands on, and input)
+"""straight.py: scripts are read straight from their text. In the source of every crate that reads (reader and all that it stands on, and replay)
 there is no byte array but the fixed words, each of which stands in a quoted text of the definitions; nor an array of wider numbers that could
-stand for one, but the program table; nor a byte slice that is written to, but the list of turns and the output that input fills.
+stand for one, but the program table; nor a byte slice that is written to, but the list of turns and the output that replay fills.
 
 The test is tried on lines that it must find, and on lines that it must pass. The last line is 'N passed, M failed'."""
 import glob
@@ -12,7 +12,7 @@ import sys
 ROOT = os.path.dirname(os.path.dirname(os.path.abspath(__file__)))
 DEFINITIONS = ['Templates', 'Input']
 # What a run takes and what boxrun prints: lists of bytes, and no text that is read.
-ALLOWED = {'input': [r'let mut turns = \[0u8; 32768\];', r'\b(turns|output): &mut \[u8\]']}
+ALLOWED = {'replay': [r'let mut turns = \[0u8; 32768\];', r'\b(turns|output): &mut \[u8\]']}
 
 TABLE = '0u16; 8192'
 BYTES = r'b"(?:[^"\\]|\\.)*"'
@@ -125,7 +125,7 @@ def main():
         passed += not here
         failed += ['found in %s: %s' % (line, fault) for fault in here]
     words = 0
-    for crate in stands_on('reader') + ['input']:
+    for crate in stands_on('reader') + ['replay']:
         for path in sorted(glob.glob(os.path.join(ROOT, 'crates', crate, 'src', '**', '*.rt'), recursive=True)):
             source = read(path)
             here = faults(source, texts, ALLOWED.get(crate, ()))

@@ -17,12 +17,12 @@ use Rattle.rules.specs.Writer as Writer
 use Rattle.rules.specs.Writer.{wrote, shortBuffer, WriteCall}
 use Rattle.rules.proofs.ListLaws.{impossible}
 use Rattle.rules.proofs.Theorems.{every-text-comes-back}
-use Rattle.reader.specs.Answers.{answerOf}
+use Rattle.reader.specs.ReadAnswers.{answerOf}
 use Rattle.reader.specs.declared.Answer.the-variants as Reader
 use Rattle.listing.specs.declared.Printed.{Printed}
 use Rattle.listing.specs.declared.Printed.the-variants.{Refused, Written}
 use Rattle.listing.specs.Outputs.{printedOf, outputAfter}
-use Rattle.writer.specs.Answers as Told
+use Rattle.writer.specs.WriteAnswers as Told
 use Rattle.writer.specs.declared.Answer.{Answer}
 use Rattle.writer.specs.declared.Answer.the-variants as W
 use Rattle.boxsave.specs.Saved.{savedAs, savedText}

@@ -17,10 +17,10 @@ use Rattle.rules.specs.Turn.{ok, _>>=_, _>>_, check, permit, isForeign, asObjec
 use Rattle.rules.proofs.ListLaws.{impossible}
 use Rattle.rules.proofs.Keeps.{kind-ok}
 use Rattle.table.specs.declared.state.Here.{Here}
-use Rattle.table.specs.Program.{Filled, KindMethod}
-use Rattle.table.specs.State.{Sees, Any}
-use Rattle.checks.specs.declared.lines.Step.{Step}
-use Rattle.checks.specs.declared.lines.Step.the-variants.{Next, NoValue, NoMethod, WrongThing, UsedUp}
+use Rattle.table.specs.ProgramTable.{Filled, KindMethod}
+use Rattle.table.specs.StateTable.{Sees, Any}
+use Rattle.checks.specs.declared.form_checks.Step.{Step}
+use Rattle.checks.specs.declared.form_checks.Step.the-variants.{Next, NoValue, NoMethod, WrongThing, UsedUp}
 use Rattle.checks.specs.Checked.{resultOf, outcomeOf, isPass, Made, Few, Stand, hereAt, Named, MethodItem}
 use Rattle.checks.proofs.CheckLaws.{stays, as-outcome}
 use Rattle.checks.proofs.Standing.{TargetSeen, OperandChecked, kind-is-there, target-read, target-object, operand-goes}

@@ -12,10 +12,10 @@ use Rattle.rules.specs.State.{State, objectAt, channelAt}
 use Rattle.rules.specs.Tables.{operandOf}
 use Rattle.rules.specs.Turn.{ok, _>>=_, _>>_, waitUnless, permit, isLocal, isAbsent, asObject, asChannel, object, recvLine, sentLine, putLine}
 use Rattle.table.specs.declared.state.Here.{Here}
-use Rattle.table.specs.State.{InTable, Held, Sees, Any}
+use Rattle.table.specs.StateTable.{InTable, Held, Sees, Any}
 use Rattle.table.proofs.Places.{message-in-table}
-use Rattle.checks.specs.declared.lines.Step.{Step}
-use Rattle.checks.specs.declared.lines.Step.the-variants.{Next, Waits, NoValue, WrongThing}
+use Rattle.checks.specs.declared.form_checks.Step.{Step}
+use Rattle.checks.specs.declared.form_checks.Step.the-variants.{Next, Waits, NoValue, WrongThing}
 use Rattle.checks.specs.Checked.{resultOf, outcomeOf, isPass, InObjects, putInto, Checks}
 use Rattle.checks.proofs.CheckLaws.{stays, as-outcome, then-ok, same-after}
 use Rattle.checks.proofs.Standing.{SlotSeen, TargetSeen, MessageSeen, OperandChecked, slot-in-objects, slot-read, target-read, message-read, operand-goes}

@@ -16,12 +16,12 @@ use Rattle.rules.specs.Lists.{any, pad, Every}
 use Rattle.rules.specs.State.{State, objectAt}
 use Rattle.rules.specs.Turn.{ok, stop, _>>=_, _>>_, check, permit, mayHold, isForeign, isAbsent, asObject, allObjects}
 use Rattle.rules.proofs.ListLaws.{impossible, every-pad}
-use Rattle.table.specs.State.{Sees, Any}
-use Rattle.checks.specs.declared.lines.Step.{Step}
-use Rattle.checks.specs.declared.lines.Step.the-variants.{Next, WrongThing, UsedUp}
+use Rattle.table.specs.StateTable.{Sees, Any}
+use Rattle.checks.specs.declared.form_checks.Step.{Step}
+use Rattle.checks.specs.declared.form_checks.Step.the-variants.{Next, WrongThing, UsedUp}
 use Rattle.checks.specs.Checked.{resultOf, outcomeOf, isPass, Made, InObjects}
 use Rattle.checks.proofs.CheckLaws.{numberOf, stays, as-outcome}
-use Rattle.checks.specs.Items.{holdAll, foreignTo, above, isChannel, AllInObjects, ChecksHeld}
+use Rattle.checks.specs.NewItems.{holdAll, foreignTo, above, isChannel, AllInObjects, ChecksHeld}
 
 -- ---- Channels among the values
 

@@ -18,10 +18,10 @@ use Rattle.rules.specs.Turn.{Res, ok, _>>=_, _>>_, permit, isIsoObject, present
 use Rattle.rules.proofs.ListLaws.{impossible, by-bool, every-pad, every-image, every-mapped, every-map}
 use Rattle.rules.proofs.TableWords.{operand-of-word, half-of-word, slot-of-word}
 use Rattle.table.specs.declared.state.Here.{Here}
-use Rattle.checks.specs.declared.lines.Step.{Step}
-use Rattle.checks.specs.declared.lines.Step.the-variants.{Next, NoValue}
+use Rattle.checks.specs.declared.form_checks.Step.{Step}
+use Rattle.checks.specs.declared.form_checks.Step.the-variants.{Next, NoValue}
 use Rattle.checks.specs.Checked.{resultOf, outcomeOf, passed, isPass, Stand, Named, Checks}
-use Rattle.checks.specs.Items.{leftByItem, itemSlots, itemOperand, takesSlot, ChecksItems}
+use Rattle.checks.specs.NewItems.{leftByItem, itemSlots, itemOperand, takesSlot, ChecksItems}
 use Rattle.checks.proofs.CheckLaws.{stays, goes-on, then-ok, then-gives, same-after, given}
 use Rattle.checks.proofs.OperandChecks.{slot-taken, slot-left}
 use Rattle.checks.proofs.Standing.{OperandChecked}

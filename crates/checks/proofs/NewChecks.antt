@@ -19,10 +19,10 @@ use Rattle.rules.specs.Turn.{Res, ok, _>>=_, _>>_, check, permit, isAbsent, pre
 use Rattle.rules.proofs.ListLaws.{by-bool, every-map, every-image, every-mapped, map-pad}
 use Rattle.rules.proofs.TableWords.{half-of-word}
 use Rattle.table.specs.declared.state.Here.{Here}
-use Rattle.table.specs.State.{InTable, Sees, frameAt}
-use Rattle.checks.specs.declared.lines.Step.{Step}
+use Rattle.table.specs.StateTable.{InTable, Sees, frameAt}
+use Rattle.checks.specs.declared.form_checks.Step.{Step}
 use Rattle.checks.specs.Checked.{outcomeOf, passed, isPass, InObjects, hereAt, Stand, Named}
-use Rattle.checks.specs.Items.{holdAll, itemSlots, itemValue, AllInObjects, ChecksItems, ChecksHeld, ChecksNew}
+use Rattle.checks.specs.NewItems.{holdAll, itemSlots, itemValue, AllInObjects, ChecksItems, ChecksHeld, ChecksNew}
 use Rattle.checks.proofs.CheckLaws.{stays, then-ok, then-gives, same-after, given, left-was-there, no-both}
 use Rattle.checks.proofs.Standing.{SlotSeen, frame-is, slots-few, slot-in-table, slot-in-objects}
 use Rattle.checks.proofs.ItemChecks.{items-named}

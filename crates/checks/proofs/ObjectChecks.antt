@@ -19,10 +19,10 @@ use Rattle.rules.specs.Turn.{_>>=_, _>>_, check, permit, isImm, isLocal, mayHol
 use Rattle.rules.specs.Fits.{IsObject}
 use Rattle.rules.proofs.ListLaws.{by-bool, below, every-at}
 use Rattle.table.specs.declared.state.Here.{Here}
-use Rattle.table.specs.State.{Sees, FieldIn}
+use Rattle.table.specs.StateTable.{Sees, FieldIn}
 use Rattle.checks.specs.Checked.{resultOf, outcomeOf, isPass, Made, Fielded, InObjects, swapInto, hereAt, Stand, Named, Checks}
-use Rattle.checks.specs.declared.lines.Step.{Step}
-use Rattle.checks.specs.declared.lines.Step.the-variants.{NoValue, NoField, WrongThing}
+use Rattle.checks.specs.declared.form_checks.Step.{Step}
+use Rattle.checks.specs.declared.form_checks.Step.the-variants.{NoValue, NoField, WrongThing}
 use Rattle.checks.proofs.CheckLaws.{stays, as-outcome, then-ok, same-after}
 use Rattle.checks.proofs.Standing.{SlotSeen, TargetSeen, OperandChecked, field-in, slot-in-objects, slot-object, fielded, field-in-objects, slot-read, target-read, target-object, operand-goes}
 

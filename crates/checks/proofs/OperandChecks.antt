@@ -18,9 +18,9 @@ use Rattle.rules.specs.Tables.{operandOf}
 use Rattle.rules.specs.Turn.{_>>=_, _>>_, check, permit, isIso, isLocal, sameCap, isForeign, isIsoObject, present, asObject, operand, leftBy, object, castLine}
 use Rattle.rules.proofs.ListLaws.{by-bool}
 use Rattle.table.specs.declared.state.Here.{Here}
-use Rattle.table.specs.State.{InTable, Sees, frameAt}
-use Rattle.checks.specs.declared.lines.Step.{Step}
-use Rattle.checks.specs.declared.lines.Step.the-variants.{Next, NoValue, WrongThing, WrongCap}
+use Rattle.table.specs.StateTable.{InTable, Sees, frameAt}
+use Rattle.checks.specs.declared.form_checks.Step.{Step}
+use Rattle.checks.specs.declared.form_checks.Step.the-variants.{Next, NoValue, WrongThing, WrongCap}
 use Rattle.checks.specs.Checked.{resultOf, isPass, Made, InObjects, Stand, Checks}
 use Rattle.checks.proofs.CheckLaws.{stays, as-outcome, then-ok}
 use Rattle.checks.proofs.Standing.{SlotSeen, TargetSeen, OperandChecked, slot-object, slot-read, operand-goes}

@@ -18,10 +18,10 @@ use Rattle.rules.specs.Fits.{InRange, IsObject, Fits}
 use Rattle.rules.proofs.ListLaws.{every-map, every-get}
 use Rattle.rules.proofs.Keeps.{HereFits, here-fits, is-object-more, object-in-range, slot-range, object-fits, channel-fits}
 use Rattle.table.specs.declared.state.Here.{Here}
-use Rattle.table.specs.State.{InTable, Sees, FieldIn, frameAt}
+use Rattle.table.specs.StateTable.{InTable, Sees, FieldIn, frameAt}
 use Rattle.table.proofs.StateEdits.{innermost-frame}
 use Rattle.table.proofs.Places.{in-table, has-place, message-in-table}
-use Rattle.checks.specs.declared.lines.Step.{Step}
+use Rattle.checks.specs.declared.form_checks.Step.{Step}
 use Rattle.checks.specs.Checked.{isPass, Fielded, InObjects, hereAt, Stand, Checks}
 use Rattle.checks.proofs.CheckLaws.{operand-gives, left-was-there}
 

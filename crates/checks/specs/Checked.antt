@@ -18,10 +18,10 @@ use Rattle.rules.specs.Turn as R
 use Rattle.rules.specs.Turn.{Res, ok, wait, stop, _>>=_, _>>_, check, waitUnless, permit, isLocal, isAbsent, asObject, permitSwap}
 use Rattle.rules.specs.Fits.{IsObject, Fits}
 use Rattle.table.specs.declared.state.Here.{Here}
-use Rattle.table.specs.Program.{Filled}
-use Rattle.table.specs.State.{Held}
-use Rattle.checks.specs.declared.lines.Step.{Step}
-use Rattle.checks.specs.declared.lines.Step.the-variants.{Next, Stay, Turned, Waits, NoValue, NoField, NoMethod, WrongThing, Forbidden, WrongCap, UsedUp}
+use Rattle.table.specs.ProgramTable.{Filled}
+use Rattle.table.specs.StateTable.{Held}
+use Rattle.checks.specs.declared.form_checks.Step.{Step}
+use Rattle.checks.specs.declared.form_checks.Step.the-variants.{Next, Stay, Turned, Waits, NoValue, NoField, NoMethod, WrongThing, Forbidden, WrongCap, UsedUp}
 
 -- a step as a result of the rules
 abbrev pub resultOf : Step → Res (Unit {0})

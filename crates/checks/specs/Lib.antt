@@ -1,4 +1,4 @@
 -- What the checks of a line answer.
 pub mod Checked
 -- and those of new
-pub mod Items
+pub mod NewItems

@@ -1,10 +1,10 @@
 // The checks of new. Its operands are items, each one more than an operand's word, 0 where there is none.
-use super::lines::Step;
-use super::lines::is_foreign;
-use super::lines::operand_check;
-use super::lines::passes;
-use super::lines::permission_check;
-use super::lines::slot_of;
+use super::form_checks::Step;
+use super::form_checks::is_foreign;
+use super::form_checks::operand_check;
+use super::form_checks::passes;
+use super::form_checks::permission_check;
+use super::form_checks::slot_of;
 use rules::Cap;
 use rules::Value;
 use table::Here;
@@ -15,9 +15,9 @@ ghost use Prim.Native.Nat.{_≤_, _<_};
 ghost use lib.ListN.{length};
 ghost use Rattle.rules.specs.Lists.{any, Every};
 ghost use Rattle.rules.specs.State.{slotAt};
-ghost use Rattle.table.specs.State.{InTable, Sees, Placed, frameAt};
+ghost use Rattle.table.specs.StateTable.{InTable, Sees, Placed, frameAt};
 ghost use Rattle.checks.specs.Checked.{InObjects, Checks};
-ghost use Rattle.checks.specs.Items.{leftByItem, itemSlots, itemOperand, itemValue, takesSlot, foreignTo, above, isChannel, AllInObjects, ChecksItems, ChecksHeld, ChecksNew};
+ghost use Rattle.checks.specs.NewItems.{leftByItem, itemSlots, itemOperand, itemValue, takesSlot, foreignTo, above, isChannel, AllInObjects, ChecksItems, ChecksHeld, ChecksNew};
 
 // Whether item a takes the slot of item e.
 fn takes_slot(a: u16, e: u16) -> bool

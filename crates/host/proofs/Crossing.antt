@@ -23,15 +23,15 @@ use Rattle.rules.proofs.Demand3.{stripped-matches}
 use Rattle.rules.proofs.TableWords.{program-words-length, state-words-length}
 use Rattle.rules.proofs.Writer.{write-call-by-front}
 use Rattle.reader.specs.declared.Answer.the-variants.{Read, Refused}
-use Rattle.reader.specs.Answers as Reader
-use Rattle.reader.specs.Answers.{numberOf, lineOf}
+use Rattle.reader.specs.ReadAnswers as Reader
+use Rattle.reader.specs.ReadAnswers.{numberOf, lineOf}
 use Rattle.writer.specs.declared.Answer.{Answer}
-use Rattle.writer.specs.Answers as Writer
-use Rattle.run.specs.Answers.{endNumber, Tells}
+use Rattle.writer.specs.WriteAnswers as Writer
+use Rattle.run.specs.RunAnswers.{endNumber, Tells}
 use Rattle.reach.specs.declared.Report.the-variants as T
-use Rattle.reach.specs.Walking.{reportOf}
+use Rattle.reach.specs.Reported.{reportOf}
 use Rattle.host.specs.Bytes.{bytesOf, bytesAfter, wordsOf}
-use Rattle.host.specs.Calls.{tableAfter, ranWords, Guarded, Demand3, reportNumber, reportLine, reportCount, listBytes, writeNumber, writeLength, WritesBytes}
+use Rattle.host.specs.ByteCalls.{tableAfter, ranWords, Guarded, Demand3, reportNumber, reportLine, reportCount, listBytes, writeNumber, writeLength, WritesBytes}
 use Rattle.host.proofs.Stored.{bytes-length, stored}
 use Rattle.host.proofs.Loaded.{short-words, long-words}
 use Rattle.host.proofs.First.{AtMost9}

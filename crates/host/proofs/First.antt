@@ -18,7 +18,7 @@ use Rattle.rules.specs.Templates.{Taken, took, unfit, fit, scriptT, decode}
 use Rattle.rules.specs.Reading.{Sofar, nothing, inPlace, overMost, over255, isUnbound, takesSelf, isOutside, Step, fault, next, formStep, lineStep, Scan, faulty, scanned, finish, withForm, onStep, scan, dangles, opened, Reading, turnedAway, accepted, link, linesBefore, linked, scriptOf, headed, script, reading}
 use Rattle.rules.specs.Calls.{longText, longTurns, shortTable, readCall, runCall, reachCall}
 use Rattle.rules.proofs.ListLaws.{or-false}
-use Rattle.host.specs.Calls.{shortBytes, earlyNumber, readBytes, runBytes, reachBytes}
+use Rattle.host.specs.ByteCalls.{shortBytes, earlyNumber, readBytes, runBytes, reachBytes}
 
 -- ---- 1, then 9, then the script
 

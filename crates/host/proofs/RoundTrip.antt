@@ -18,7 +18,7 @@ use Rattle.rules.proofs.TableWords.{program-words-length}
 use Rattle.rules.proofs.Writer.{reads-into}
 use Rattle.rules.proofs.Theorems.{every-text-comes-back}
 use Rattle.host.specs.Bytes.{bytesOf, wordsOf}
-use Rattle.host.specs.Calls.{shortBytes, tableAfter, readBytes, writeNumber, writeLength, WritesBytes}
+use Rattle.host.specs.ByteCalls.{shortBytes, tableAfter, readBytes, writeNumber, writeLength, WritesBytes}
 
 stored-and-loaded : (ws bs : List ℕ) → wordsOf (bytesOf ws ++ bs) ≡ ws ++ wordsOf bs
 unfolding bytesOf wordsOf

@@ -1,3 +1,3 @@
 -- What a C host gets: words as bytes, and the calls on bytes.
 pub mod Bytes
-pub mod Calls
+pub mod ByteCalls

@@ -9,10 +9,10 @@ ghost use Rattle.rules.specs.Mosts.{mosts};
 ghost use Rattle.rules.specs.Text.{lines, findLine, startOf};
 ghost use Rattle.rules.specs.Tables.{programWords};
 ghost use Rattle.rules.specs.Calls.{runAnswer};
-ghost use Rattle.reader.specs.Answers.{numberOf, lineOf};
-ghost use Rattle.run.specs.Answers.{Tells};
+ghost use Rattle.reader.specs.ReadAnswers.{numberOf, lineOf};
+ghost use Rattle.run.specs.RunAnswers.{Tells};
 ghost use Rattle.host.specs.Bytes.{bytesAfter, wordsOf};
-ghost use Rattle.host.specs.Calls.{earlyNumber, tableAfter, readBytes, runBytes, ranWords, Demand3, reachBytes, reportBytes, reportNumber, reportCount, reportLine, listBytes, WritesBytes};
+ghost use Rattle.host.specs.ByteCalls.{earlyNumber, tableAfter, readBytes, runBytes, ranWords, Demand3, reachBytes, reportBytes, reportNumber, reportCount, reportLine, listBytes, WritesBytes};
 
 const TABLE: usize = 16384; // bytes of a table
 

@@ -5,4 +5,4 @@ mod StateTexts
 mod LineTexts
 mod StateRows
 -- from the run to what is printed
-pub mod Outcomes
+pub mod PrintOutcomes

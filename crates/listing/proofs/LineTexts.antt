@@ -21,8 +21,8 @@ use Rattle.rules.specs.Fits.{IsObject}
 use Rattle.rules.specs.Run.{finished, stuck, openEnd, refused, ended, halted}
 use Rattle.rules.specs.Listing.{bracket, aLine, endWord, answerLine, valueText, objectLine, messageText, channelLine, senderText, threadParts, threadLine, numbered}
 use Rattle.rules.proofs.ListLaws.{by-bool, below, every-at}
-use Rattle.texts.specs.Writing.{numberPart}
-use Rattle.listing.specs.Writing.{fieldPart, valueParts, objectParts, frameParts}
+use Rattle.buffer.specs.Writing.{numberPart}
+use Rattle.listing.specs.StateWriting.{fieldPart, valueParts, objectParts, frameParts}
 
 -- ---- Values
 

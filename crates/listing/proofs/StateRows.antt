@@ -17,11 +17,11 @@ use Rattle.rules.specs.Tables.{senderWord}
 use Rattle.rules.specs.Fits.{Fits}
 use Rattle.rules.specs.Listing.{valueText, objectLine, channelLine, senderText, threadLine, numbered}
 use Rattle.rules.proofs.Keeps.{object-fits, thread-fits}
-use Rattle.table.specs.State.{InTable, Held, Sees, Any, FieldIn, frameAt}
+use Rattle.table.specs.StateTable.{InTable, Held, Sees, Any, FieldIn, frameAt}
 use Rattle.table.proofs.StateEdits.{innermost-frame}
 use Rattle.table.proofs.Places.{has-place, field-in, frame-slots-fit, slot-in-range}
-use Rattle.texts.specs.Writing.{Wrote, numberPart}
-use Rattle.listing.specs.Writing.{Writes, fieldPart, valueParts, frameParts, Inner}
+use Rattle.buffer.specs.Writing.{Wrote, numberPart}
+use Rattle.listing.specs.StateWriting.{Writes, fieldPart, valueParts, frameParts, Inner}
 use Rattle.listing.proofs.StateTexts.{fixed, of-seen, _▹_, same-texts, none-yet, under}
 use Rattle.listing.proofs.LineTexts.{finished-line, running-line, ready-is, waiting-is, no-parts, slot-next, field-next, no-lines, line-next, none-past-first, channel-next}
 

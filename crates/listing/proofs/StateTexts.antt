@@ -8,10 +8,10 @@ use Rattle.rules.specs.Mosts.{mosts}
 use Rattle.rules.specs.Script.{Program}
 use Rattle.rules.specs.State.{State}
 use Rattle.rules.specs.Fits.{Fits}
-use Rattle.table.specs.State.{Held, Sees}
-use Rattle.texts.specs.Writing.{Wrote}
-use Rattle.listing.specs.Writing.{Writes}
-use Rattle.texts.proofs.Appends as A
+use Rattle.table.specs.StateTable.{Held, Sees}
+use Rattle.buffer.specs.Writing.{Wrote}
+use Rattle.listing.specs.StateWriting.{Writes}
+use Rattle.buffer.proofs.Appends as A
 
 module _ {s : List ℕ} {Q : State → Type 0} where
   -- a text that is the same for every state

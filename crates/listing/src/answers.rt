@@ -1,7 +1,7 @@
 // The line of what the run answers.
 use run::Answer;
-use texts::put_number;
-use texts::put_text;
+use buffer::put_number;
+use buffer::put_text;
 ghost use mathlib.Core.Path.{_≡_};
 ghost use mathlib.Core.List.{_++_};
 ghost use Prim.Native.Nat.{_+_, _≤_};
@@ -9,7 +9,7 @@ ghost use lib.ListN.{length};
 ghost use Rattle.rules.specs.Text.{bytes};
 ghost use Rattle.rules.specs.Run.{refused, halted};
 ghost use Rattle.rules.specs.Listing.{answerLine};
-ghost use Rattle.texts.specs.Writing.{Wrote, numberPart};
+ghost use Rattle.buffer.specs.Writing.{Wrote, numberPart};
 ghost use Rattle.listing.specs.Outputs.{answerText, isRefusal};
 
 pub fn put_refused(buf: &mut [u8], at: usize, number: u16, line: usize) -> usize

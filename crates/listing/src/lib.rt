@@ -1,12 +1,12 @@
 // The printed run: a run, and what document 01 prints of it, written into a lent output.
 mod answers;
-mod lines;
+mod state_lines;
 mod values;
 
 use answers::is_refusal;
 use answers::put_answer;
 use answers::put_refused;
-use lines::put_state;
+use state_lines::put_state;
 ghost use mathlib.Core.Path.{_≡_};
 ghost use Prim.Native.Nat.{_≤_};
 ghost use lib.ListN.{length};

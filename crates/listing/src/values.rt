@@ -1,15 +1,15 @@
 // Values written into a lent buffer, each after a space, which is written with it.
 use rules::Value;
-use texts::put_byte;
-use texts::put_number;
-use texts::put_text;
+use buffer::put_byte;
+use buffer::put_number;
+use buffer::put_text;
 ghost use mathlib.Core.List.{_∷_};
 ghost use Prim.Native.Nat.{_+_, _≤_};
 ghost use lib.ListN.{length};
 ghost use Rattle.rules.specs.Text.{space};
 ghost use Rattle.rules.specs.Listing.{valueText, messageText};
-ghost use Rattle.texts.specs.Writing.{Wrote};
-ghost use Rattle.listing.specs.Writing.{fieldPart};
+ghost use Rattle.buffer.specs.Writing.{Wrote};
+ghost use Rattle.listing.specs.StateWriting.{fieldPart};
 
 pub fn put_value(buf: &mut [u8], at: usize, v: Value) -> usize
     requires { ⌜ at + 13 ≤ length (now buf) ⌝ }

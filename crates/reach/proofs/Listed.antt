@@ -13,7 +13,7 @@ use Rattle.rules.specs.Lists.{rising, pad}
 use Rattle.rules.specs.Calls.{listWords}
 use Rattle.rules.proofs.ListLaws.{length-pad, length-snoc, pad-snoc}
 use Rattle.table.proofs.StateFrames.{zeros}
-use Rattle.reach.specs.Walking.{metBelow}
+use Rattle.reach.specs.Reported.{metBelow}
 
 pub all-cleared : (l : List ℕ) → paste l 0 (zeros 256) 256 ≡ listWords [] ++ drop 256 l
 unfolding zeros pad

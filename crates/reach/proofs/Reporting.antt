@@ -29,17 +29,17 @@ use Rattle.rules.proofs.Keeps.{fits-run}
 use Rattle.rules.proofs.Walks.{walked-reached}
 use Rattle.rules.proofs.Reports.{rising-lists, roots-made, reached-range, reach-lists}
 use Rattle.rules.proofs.TableWords.{program-words-length, state-words-length}
-use Rattle.table.specs.State.{Held, Sees, Any}
+use Rattle.table.specs.StateTable.{Held, Sees, Any}
 use Rattle.walk.specs.Walking.{Tally, tally}
 use Rattle.walk.proofs.Numbers.{number-met, no-number-not-met, none-numbered}
 use Rattle.turn.proofs.Located.{words-loaded}
 use Rattle.run.specs.declared.Answer.{Answer}
 use Rattle.run.specs.declared.Answer.the-variants.{Refused}
-use Rattle.run.specs.Answers.{answerOf}
+use Rattle.run.specs.RunAnswers.{answerOf}
 use Rattle.run.proofs.AnswerTells.{IsAccepted, Made, made-is, refusal-is}
 use Rattle.reach.specs.declared.Report.{Report}
 use Rattle.reach.specs.declared.Report.the-variants as T
-use Rattle.reach.specs.Walking.{Reports, WalkedAll, WalksRoots, metBelow, ReportsState}
+use Rattle.reach.specs.Reported.{Reports, WalkedAll, WalksRoots, metBelow, ReportsState}
 
 -- ---- The report on a state
 

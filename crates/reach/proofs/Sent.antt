@@ -15,13 +15,13 @@ use Rattle.rules.specs.Tables.{senderWord, lineWords, row}
 use Rattle.rules.specs.Reach.{messageOf, messageOn, sendTarget, putBy, inFlight}
 use Rattle.rules.proofs.ListLaws.{by-bool}
 use Rattle.table.specs.declared.state.Here.{Here}
-use Rattle.table.specs.State.{InTable, Sees, Any}
+use Rattle.table.specs.StateTable.{InTable, Sees, Any}
 use Rattle.table.proofs.Places.{message-in-table}
 use Rattle.checks.proofs.Standing.{SlotSeen, slot-place, slot-read}
-use Rattle.turn.proofs.Steps.{let-names}
+use Rattle.turn.proofs.TurnSteps.{let-names}
 use Rattle.turn.proofs.Dispatch.{wordAt, tells-send}
 use Rattle.turn.proofs.Located.{Found, Finds}
-use Rattle.reach.specs.Walking.{messageFor, SeesInFlight}
+use Rattle.reach.specs.Reported.{messageFor, SeesInFlight}
 
 -- ---- A channel's message, by its number
 

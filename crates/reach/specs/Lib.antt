@@ -1,2 +1,2 @@
 -- What the reach report answers.
-pub mod Walking
+pub mod Reported

@@ -10,7 +10,7 @@ ghost use Rattle.rules.specs.Mosts.{mosts};
 ghost use Rattle.rules.specs.Calls.{reachCall, reachReport, listAfter, programAfter, stateAfter};
 ghost use Prim.Native.Nat.{_≤_};
 ghost use lib.ListN.{length};
-ghost use Rattle.reach.specs.Walking.{reportOf, ReportsState};
+ghost use Rattle.reach.specs.Reported.{reportOf, ReportsState};
 
 // What a report answers: it is turned away, with document 01's number and the line; or the number of objects reached.
 pub enum Report {

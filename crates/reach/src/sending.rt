@@ -3,8 +3,8 @@ use rules::Value;
 ghost use Prim.Native.Nat.{_≤_, _<_};
 ghost use lib.ListN.{length};
 ghost use Rattle.rules.specs.State.{channelAt};
-ghost use Rattle.table.specs.State.{InTable, Sees};
-ghost use Rattle.reach.specs.Walking.{messageFor, SeesInFlight};
+ghost use Rattle.table.specs.StateTable.{InTable, Sees};
+ghost use Rattle.reach.specs.Reported.{messageFor, SeesInFlight};
 
 // The message of channel c, if its number is the one that a sender whose word is d waits for.
 fn message_for(s: &[u16], c: u16, d: u16) -> Value

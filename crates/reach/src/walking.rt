@@ -5,9 +5,9 @@ ghost use mathlib.Core.List.{[], _++_};
 ghost use Prim.Native.Nat.{_+_, _≤_, _<_};
 ghost use lib.ListN.{length, drop, set};
 ghost use Rattle.rules.specs.Calls.{listWords};
-ghost use Rattle.table.specs.State.{Any, frameAt};
+ghost use Rattle.table.specs.StateTable.{Any, frameAt};
 ghost use Rattle.walk.specs.Walking.{tally, unmet, Grows, Walks};
-ghost use Rattle.reach.specs.Walking.{WalksThread, WalksRoots, metBelow};
+ghost use Rattle.reach.specs.Reported.{WalksThread, WalksRoots, metBelow};
 
 // Walks the slots of frame k of thread t, as n objects are met; answers how many are met then.
 fn walk_frame(

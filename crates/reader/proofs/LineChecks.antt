@@ -22,7 +22,7 @@ use Rattle.rules.proofs.ListLaws.{by-bool, and-true, or-false as or-both-false}
 use Rattle.grammar.specs.declared.forms.Line.{Line}
 use Rattle.grammar.specs.Items.{past}
 use Rattle.grammar.specs.Decoded.{overLine, Tells}
-use Rattle.table.specs.Program.{sortNumber}
+use Rattle.table.specs.ProgramTable.{sortNumber}
 use Rattle.reader.specs.declared.faults.Sofar.{Sofar}
 use Rattle.reader.specs.Sofar.{placeOf, editionOf, soFar, fullBefore, InPlace, Tidy, Full, faultOf, Faults}
 

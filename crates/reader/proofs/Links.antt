@@ -18,7 +18,7 @@ use Rattle.rules.specs.Script.{Operand, Expr, value, field, swap, call, new, ca
 use Rattle.rules.specs.Reading.{operandsIn, over255, sameSort, isSort, dangles, opened, turnedAway, accepted, link}
 use Rattle.rules.specs.Tables.{operandWord, lineWords, row}
 use Rattle.rules.proofs.ListLaws.{by-bool, or-false, every-get, every-at}
-use Rattle.table.specs.Program.{noForm, sortNumber, LineWord}
+use Rattle.table.specs.ProgramTable.{noForm, sortNumber, LineWord}
 use Rattle.table.proofs.ProgramLines.{blocks-of-lines, kind-stands, kind-there}
 use Rattle.grammar.specs.Decoded.{overLine}
 use Rattle.reader.specs.Linking.{Table, formAt, Opened, LineDangles, FirstDangling}

@@ -24,7 +24,7 @@ use Rattle.rules.specs.Calls.{longText, shortTable, readCall}
 use Rattle.rules.proofs.ListLaws.{by-bool, or-false}
 use Rattle.rules.proofs.Scanned.{Scanned, ended, passed, scan-passed, lines-scanned}
 use Rattle.grammar.specs.Decoded.{overLine}
-use Rattle.table.specs.Program.{lineTable, Filled}
+use Rattle.table.specs.ProgramTable.{lineTable, Filled}
 use Rattle.table.proofs.ProgramTable.{program-words-by-lines}
 use Rattle.reader.specs.Sofar.{editionOf}
 use Rattle.reader.specs.Scanning.{Done-with, ScansTo, Scans}

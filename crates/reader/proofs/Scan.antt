@@ -22,7 +22,7 @@ use Rattle.rules.proofs.ListLaws.{or-false, or-false₃, length-snoc}
 use Rattle.rules.proofs.Scanned.{Passed, form-passed}
 use Rattle.grammar.specs.declared.forms.Line.{Line}
 use Rattle.grammar.specs.Decoded.{overLine, front, lineRow, Tells, LineAt}
-use Rattle.table.specs.Program.{Filled, LineAdded, OpenerAdded}
+use Rattle.table.specs.ProgramTable.{Filled, LineAdded, OpenerAdded}
 use Rattle.reader.specs.declared.faults.Sofar.{Sofar}
 use Rattle.reader.specs.declared.scanning.Scan.{Scan}
 use Rattle.reader.specs.declared.scanning.Scan.the-variants.{Fault, Done}

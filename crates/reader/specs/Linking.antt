@@ -11,7 +11,7 @@ use Rattle.rules.specs.Script.{Sort, method, Form, Program, linesOf, kindAt}
 use Rattle.rules.specs.Reading.{isSort, dangles, turnedAway, accepted, link}
 use Rattle.rules.specs.Tables.{row}
 use Rattle.grammar.specs.Decoded.{overLine}
-use Rattle.table.specs.Program.{Filled, noForm, sortNumber}
+use Rattle.table.specs.ProgramTable.{Filled, noForm, sortNumber}
 
 -- a table that holds a program whose lines exceed no most
 pub record Table (t : List ℕ) (P : Program) : Type 0 where

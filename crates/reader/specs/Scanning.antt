@@ -12,7 +12,7 @@ use Rattle.rules.specs.Reading as R
 use Rattle.rules.specs.Reading.{faulty, scanned}
 use Rattle.grammar.specs.declared.forms.Line.{Line}
 use Rattle.grammar.specs.Decoded.{Tells}
-use Rattle.table.specs.Program.{Filled}
+use Rattle.table.specs.ProgramTable.{Filled}
 use Rattle.reader.specs.declared.faults.Sofar.{Sofar}
 use Rattle.reader.specs.declared.scanning.Scan.{Scan}
 use Rattle.reader.specs.declared.scanning.Scan.the-variants.{Fault, Done}

@@ -15,7 +15,7 @@ ghost use Rattle.rules.specs.Calls.{readCall, programAfter};
 ghost use Rattle.rules.specs.Mosts.{mosts};
 ghost use Rattle.rules.specs.Reading.{linesBefore};
 ghost use Rattle.rules.specs.Tables.{editionWord};
-ghost use Rattle.reader.specs.Answers.{answerOf};
+ghost use Rattle.reader.specs.ReadAnswers.{answerOf};
 ghost use Rattle.reader.specs.Sofar.{editionOf};
 
 // What reading answers: the script was read; or it is turned away, with document 01's number and the line.

@@ -11,7 +11,7 @@ use Rattle.rules.specs.Run.{Stop, none, stopped, finished, stuck, openEnd, ende
 use Rattle.rules.specs.Calls.{runAnswer}
 use Rattle.run.specs.declared.Answer.{Answer}
 use Rattle.run.specs.declared.Answer.the-variants.{Refused, Finished, Stuck, Open, Stopped}
-use Rattle.run.specs.Answers.{answerOf}
+use Rattle.run.specs.RunAnswers.{answerOf}
 
 pub record IsAccepted (C : Reading) : Type 0 where
   pub program : Program

@@ -23,16 +23,16 @@ use Rattle.rules.proofs.Accepted.{accepted-valid, reading-accepted}
 use Rattle.rules.proofs.Keeps.{fits-run}
 use Rattle.rules.proofs.Demand3.{stripped-matches}
 use Rattle.rules.proofs.TableWords.{program-words-length, state-words-length}
-use Rattle.table.specs.State.{Held}
+use Rattle.table.specs.StateTable.{Held}
 use Rattle.reader.specs.declared.Answer.the-variants.{Read, Refused}
-use Rattle.reader.specs.Answers as Reader
+use Rattle.reader.specs.ReadAnswers as Reader
 use Rattle.turn.specs.Performed.{Loaded}
 use Rattle.turn.proofs.Located.{words-loaded}
 use Rattle.run.specs.declared.Answer.{Answer}
 use Rattle.run.specs.declared.Answer.the-variants as A
 use Rattle.run.specs.declared.playing.Played.{Played}
 use Rattle.run.specs.declared.playing.Played.the-variants.{Through, Stopped}
-use Rattle.run.specs.Answers.{answerOf, Tells, Guarded, Demand3}
+use Rattle.run.specs.RunAnswers.{answerOf, Tells, Guarded, Demand3}
 use Rattle.run.specs.Played.{playedBy, Plays, Ends, RunsProgram}
 use Rattle.run.proofs.AnswerTells.{IsAccepted}
 

@@ -18,7 +18,7 @@ use Rattle.rules.specs.Turn.{turn}
 use Rattle.rules.specs.Run.{isFinished, allFinished, waits, upTo, allWait, endOf}
 use Rattle.rules.specs.Fits.{Fits}
 use Rattle.rules.proofs.ListLaws.{by-bool, of-not, all-snoc, all-from}
-use Rattle.table.specs.State.{Held, Sees, Any}
+use Rattle.table.specs.StateTable.{Held, Sees, Any}
 use Rattle.turn.specs.Performed.{Loaded, WouldWait}
 use Rattle.run.specs.Played.{AllWait, Ends}
 use Rattle.run.specs.declared.Answer.the-variants.{Finished, Stuck, Open}

@@ -23,15 +23,15 @@ use Rattle.rules.proofs.ListLaws.{impossible, by-bool, every-get, every-replica
 use Rattle.rules.proofs.OtherThreads.{turn-keeps}
 use Rattle.rules.proofs.Keeps.{here-fits, keeps-turn, keeps-run}
 use Rattle.table.specs.declared.state.Here.{Here}
-use Rattle.table.specs.State.{Held, Sees, Any, Placed, OnLine, Stands, frameAt}
+use Rattle.table.specs.StateTable.{Held, Sees, Any, Placed, OnLine, Stands, frameAt}
 use Rattle.table.proofs.StateFrames.{next-on-line, row-past-counts}
 use Rattle.checks.specs.Checked.{resultOf, stopNumber, Stand}
-use Rattle.checks.proofs.lines.Step.{the-type}
+use Rattle.checks.proofs.form_checks.Step.{the-type}
 use Rattle.checks.proofs.Standing.{frame-is}
 use Rattle.turn.proofs.Located as Place
 use Rattle.turn.proofs.Located.{no-frames, no-frame-waits, turn-performs, went-moves}
-use Rattle.checks.specs.declared.lines.Step.{Step}
-use Rattle.checks.specs.declared.lines.Step.the-variants.{Next, Stay, Turned, Waits, NoValue, NoField, NoMethod, WrongThing, Forbidden, WrongCap, UsedUp}
+use Rattle.checks.specs.declared.form_checks.Step.{Step}
+use Rattle.checks.specs.declared.form_checks.Step.the-variants.{Next, Stay, Turned, Waits, NoValue, NoField, NoMethod, WrongThing, Forbidden, WrongCap, UsedUp}
 use Rattle.run.specs.declared.playing.Played.the-variants.{Through, Stopped}
 use Rattle.turn.specs.Performed.{StandsAt, Went, to-next, to-same, Performed, moved, waited, stopped, Loaded, PerformsHere}
 use Rattle.run.specs.Played.{Plays}

@@ -1,4 +1,4 @@
 -- What a run answers and leaves.
-pub mod Answers
+pub mod RunAnswers
 -- and its parts: the turns played, the end
 pub mod Played

@@ -12,12 +12,12 @@ use Rattle.rules.specs.State.{State, start}
 use Rattle.rules.specs.Run.{Stop, none, stopped, run, ended, endOf, allWait, answer}
 use Rattle.rules.specs.Fits.{Fits}
 use Rattle.rules.specs.Tables.{stateWords}
-use Rattle.table.specs.State.{Held}
+use Rattle.table.specs.StateTable.{Held}
 use Rattle.turn.specs.Performed.{Loaded}
 use Rattle.run.specs.declared.Answer.{Answer}
 use Rattle.run.specs.declared.playing.Played.{Played}
 use Rattle.run.specs.declared.playing.Played.the-variants.{Through, Stopped}
-use Rattle.run.specs.Answers.{answerOf}
+use Rattle.run.specs.RunAnswers.{answerOf}
 
 abbrev pub playedBy : Stop → ℕ → Played
 playedBy none m = Through m

@@ -3,7 +3,7 @@ use super::Answer;
 ghost use Prim.Native.Nat.{_≤_};
 ghost use lib.ListN.{length};
 ghost use Rattle.rules.specs.Run.{allFinished};
-ghost use Rattle.table.specs.State.{Sees};
+ghost use Rattle.table.specs.StateTable.{Sees};
 ghost use Rattle.run.specs.Played.{AllWait, Ends};
 
 // No thread has frames; a place where no thread is has none.

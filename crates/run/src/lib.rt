@@ -11,7 +11,7 @@ ghost use lib.ListN.{length};
 ghost use Rattle.rules.specs.Mosts.{mosts};
 ghost use Rattle.rules.specs.Calls.{runCall, runAnswer, programAfter, stateAfter};
 ghost use Rattle.run.specs.Played.{RunsProgram};
-ghost use Rattle.run.specs.Answers.{answerOf, Tells, Demand3};
+ghost use Rattle.run.specs.RunAnswers.{answerOf, Tells, Demand3};
 
 // What a run answers: it is turned away, with document 01's number and the line; it ends, with its moves; or a turn stops it, with the
 // number, thread, block, line and moves.

@@ -14,7 +14,7 @@ use Rattle.rules.specs.Fits.{InRange, FrameFits, Fits}
 use Rattle.rules.proofs.ListLaws.{every-map, every-get}
 use Rattle.rules.proofs.Keeps.{slot-range, each-frame, object-fits, fields-in-range, thread-fits, channel-fits}
 use Rattle.rules.proofs.TableWords.{every-outermost}
-use Rattle.table.specs.State.{InTable, FieldIn, frameAt}
+use Rattle.table.specs.StateTable.{InTable, FieldIn, frameAt}
 
 pub in-table : (o c : ℕ) (v : Value) → o ≤ mosts .objects → c ≤ mosts .threads → InRange o c v → InTable v
 in-table o c Absent few-objects few-channels within = tt

@@ -10,7 +10,7 @@ use Rattle.rules.specs.Script.{Expr, Operand, Kind, Form, kind, opens, line, gi
 use Rattle.rules.specs.Mosts.{mosts}
 use Rattle.rules.specs.Tables.{lineWords, row, firstLines}
 use Rattle.rules.proofs.ListLaws.{impossible}
-use Rattle.table.specs.Program.{Filled, noForm, sortNumber}
+use Rattle.table.specs.ProgramTable.{Filled, noForm, sortNumber}
 use Rattle.rules.proofs.ListLaws.{get-pad}
 use Rattle.table.proofs.ProgramTable.{opener-row, line-word-is, first-line-is}
 

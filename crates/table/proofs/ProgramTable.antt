@@ -13,7 +13,7 @@ use Rattle.rules.specs.Lists.{pad, cells}
 use Rattle.rules.specs.Script.{Sort, thread, method, Form, kind, opens, line, blocksOf, Program, linesOf}
 use Rattle.rules.specs.Tables.{lineWords, row, firstLines, editionWord, usedProgramWords, programWords}
 use Rattle.rules.proofs.ListLaws.{length-snoc, length-pad, length-cells, get-past, set-past, get-cell, cells-snoc, get-pad, set-pad, pad-more, pad-snoc}
-use Rattle.table.specs.Program.{lineTable, Filled, noForm, sortNumber}
+use Rattle.table.specs.ProgramTable.{lineTable, Filled, noForm, sortNumber}
 
 -- eight words written one after the other
 pub eight-set : {A : Type 0} (t : List A) (p : ℕ) (a b c d e f g h : A) → p + 8 ≤ length t

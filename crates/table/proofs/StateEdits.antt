@@ -13,7 +13,7 @@ use Rattle.rules.specs.Turn.{putThread}
 use Rattle.rules.specs.Tables.{noFrame, outermostFirst}
 use Rattle.rules.proofs.ListLaws.{by-bool}
 use Rattle.rules.proofs.TableWords.{length-outermost}
-use Rattle.table.specs.State.{frameAt, onFrame, editFrame, HasFrame}
+use Rattle.table.specs.StateTable.{frameAt, onFrame, editFrame, HasFrame}
 
 -- ---- A thread
 

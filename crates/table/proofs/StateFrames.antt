@@ -14,8 +14,8 @@ use Rattle.rules.specs.Turn.{putThread}
 use Rattle.rules.specs.Tables.{word, noFrame, objectWords, frameWords, outermostFirst, threadWords, channelWords, usedStateWords, stateWords}
 use Rattle.rules.proofs.ListLaws.{get-before}
 use Rattle.rules.proofs.TableWords.{length-outermost}
-use Rattle.table.specs.State.{Held, OnLine, frameAt, Innermost, callee, called, left}
-use Rattle.table.specs.Program.{Filled}
+use Rattle.table.specs.StateTable.{Held, OnLine, frameAt, Innermost, callee, called, left}
+use Rattle.table.specs.ProgramTable.{Filled}
 use Rattle.table.specs.declared.state.Here.{Here}
 use Rattle.table.proofs.ProgramLines.{blocks-of-lines, line-there, line-part-is}
 use Rattle.table.proofs.StateTable.{splice, Part, part-set, frame-part, sender-put, frame-pushed, frame-dropped}

@@ -13,7 +13,7 @@ use Rattle.rules.specs.State.{Frame, ready, State, threadAt}
 use Rattle.rules.specs.Turn.{withSlots, filled}
 use Rattle.rules.specs.Tables.{word, frameWords}
 use Rattle.rules.proofs.ListLaws.{map-set, length-snoc, pad-snoc, set-pad}
-use Rattle.table.specs.State.{Held, frameAt, onFrame, editFrame, HasFrame, HasRoom, HasSlot, given, cleared}
+use Rattle.table.specs.StateTable.{Held, frameAt, onFrame, editFrame, HasFrame, HasRoom, HasSlot, given, cleared}
 use Rattle.table.proofs.StateTable.{splice, Part, part-get, part-set, frame-part, frame-put, sender-put}
 use Rattle.table.proofs.StateEdits.{length-put, edit-at, edit-then-sender}
 

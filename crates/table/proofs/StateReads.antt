@@ -16,7 +16,7 @@ use Rattle.rules.specs.State.{Object, State, noObject, objectAt, channelAt, slo
 use Rattle.rules.specs.Tables.{capOf, word, unmade, objectWords, frameWords, channelWords}
 use Rattle.rules.proofs.ListLaws.{get-pad, get-there}
 use Rattle.rules.proofs.TableWords.{cap-of-rank}
-use Rattle.table.specs.State.{valueOf, InTable, Held, Sees, Placed, frameAt, FieldIn}
+use Rattle.table.specs.StateTable.{valueOf, InTable, Held, Sees, Placed, frameAt, FieldIn}
 use Rattle.table.specs.declared.state.Here.{Here}
 use Rattle.table.proofs.StateTable.{part-get, object-part, frame-part, channel-part}
 

@@ -20,7 +20,7 @@ use Rattle.rules.specs.Turn.{putChannel, setField, started}
 use Rattle.rules.specs.Tables.{operandWord, operandItem, word, unmade, objectWords, frameWords, outermostFirst, threadWords, channelWords}
 use Rattle.rules.proofs.ListLaws.{map-set, map-pad, set-past, set-pad}
 use Rattle.rules.proofs.TableWords.{thread-words-length}
-use Rattle.table.specs.State.{Held, Placed, frameAt, HasField, stored, made, channelled, Puts, sending, Next}
+use Rattle.table.specs.StateTable.{Held, Placed, frameAt, HasField, stored, made, channelled, Puts, sending, Next}
 use Rattle.table.specs.declared.state.Here.{Here}
 use Rattle.table.proofs.StateTable.{Part, part-set, held-by, held-length, object-part, channel-part, object-put, object-made, sender-put, channel-put, thread-started, no-thread-at}
 use Rattle.table.proofs.StateReads.{object-there, channel-word, slot-here}

@@ -14,7 +14,7 @@ use Rattle.rules.specs.Tables.{unmade, noFrame, objectWords, frameWords, sender
 use Rattle.rules.specs.declared.Value.the-variants.{Chan}
 use Rattle.rules.proofs.ListLaws.{length-snoc, length-pad, pad-front, length-records, get-past, set-past, get-pad, set-pad, set-pad-same, pad-snoc, pad-made-up}
 use Rattle.rules.proofs.TableWords.{object-words-length, frame-words-length, thread-words-length, channel-words-length, state-words-length, used-state-words-length, length-outermost}
-use Rattle.table.specs.State.{Held, frameAt, onFrame, editFrame, HasFrame, Innermost, innerLess}
+use Rattle.table.specs.StateTable.{Held, frameAt, onFrame, editFrame, HasFrame, Innermost, innerLess}
 use Rattle.table.proofs.StateEdits.{length-edited, outermost-edited}
 
 -- ---- A part of a list, replaced

@@ -1,3 +1,3 @@
 -- What the accessors say of the abstract program and state.
-pub mod Program
-pub mod State
+pub mod ProgramTable
+pub mod StateTable

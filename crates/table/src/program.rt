@@ -3,7 +3,7 @@ ghost use mathlib.Core.Path.{_≡_};
 ghost use mathlib.Core.List.{[], _∷_, _++_};
 ghost use Prim.Native.Nat.{_+_, _*_, _%_, _≤_, _<_};
 ghost use lib.ListN.{length, take, drop, getD, set};
-ghost use Rattle.table.specs.Program.{LineAdded, OpenerAdded, Counted, Same, LineCount, EditionIs, LineWord, BlockForm, FirstLine, KindFields, KindMethod};
+ghost use Rattle.table.specs.ProgramTable.{LineAdded, OpenerAdded, Counted, Same, LineCount, EditionIs, LineWord, BlockForm, FirstLine, KindFields, KindMethod};
 
 // Line n of the text: the number of its form, and its parts.
 pub fn add_line(t: &mut [u16], n: usize, form: u16, a: u16, b: u16, c: u16, d: u16, e: u16, f: u16)

@@ -12,7 +12,7 @@ ghost use Rattle.rules.specs.declared.Value.the-variants.{Absent};
 ghost use Rattle.rules.specs.State.{objectAt, threadAt, channelAt, slotAt, start};
 ghost use Rattle.rules.specs.Tables.{capOf, word, senderWord, stateWords};
 ghost use Rattle.rules.specs.Turn.{started};
-ghost use Rattle.table.specs.State.{valueOf, InTable, Sees, Becomes, Any, Placed, Stands, frameAt, given, cleared, HasRoom, HasSlot, FieldIn, HasField, stored, channelled, Puts, sending, Pushes, MadeOf, Makes, Copies, Next, Innermost, callee, called, left};
+ghost use Rattle.table.specs.StateTable.{valueOf, InTable, Sees, Becomes, Any, Placed, Stands, frameAt, given, cleared, HasRoom, HasSlot, FieldIn, HasField, stored, channelled, Puts, sending, Pushes, MadeOf, Makes, Copies, Next, Innermost, callee, called, left};
 
 // Where a thread stands: its number, its innermost frame's number from the outermost, and the places of that frame's words and of its line's.
 pub struct Here {

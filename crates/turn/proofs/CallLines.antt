@@ -19,16 +19,16 @@ use Rattle.rules.proofs.Moves.{MethodCalled, Step, by-call, by-return, by-finis
 use Rattle.rules.proofs.Keeps.{block-ok}
 use Rattle.rules.proofs.TableWords.{length-outermost, slot-of-word}
 use Rattle.table.specs.declared.state.Here.{Here}
-use Rattle.table.specs.State.{Held, Becomes, frameAt, onFrame, editFrame, HasFrame, HasRoom, HasSlot, Innermost, given, callee, called, left}
+use Rattle.table.specs.StateTable.{Held, Becomes, frameAt, onFrame, editFrame, HasFrame, HasRoom, HasSlot, Innermost, given, callee, called, left}
 use Rattle.table.proofs.StateEdits.{thread-put, put-put}
 use Rattle.checks.specs.Checked.{hereAt, Stand, MethodItem}
 use Rattle.checks.proofs.CheckLaws.{numberOf, then-gives, left-was-there}
 use Rattle.checks.proofs.CallChecks.{ChecksCall}
 use Rattle.checks.proofs.Standing.{TargetSeen, fits-here, slots-few, OperandChecked, slot-found, target-read, slot-object, kind-is-there}
-use Rattle.checks.specs.declared.lines.Step as C
-use Rattle.checks.specs.declared.lines.Step.the-variants.{Turned}
+use Rattle.checks.specs.declared.form_checks.Step as C
+use Rattle.checks.specs.declared.form_checks.Step.the-variants.{Turned}
 use Rattle.turn.specs.Performed.{emptied, Went, to-other, Always, Loaded}
-use Rattle.turn.proofs.Steps.{Answers, Writes, word-names, let-names, give-names}
+use Rattle.turn.proofs.TurnSteps.{Answers, Writes, word-names, let-names, give-names}
 use Rattle.turn.proofs.Frames.{Inside, inside, inside-put, innermost, left-inside}
 
 -- ---- The frame that called the innermost one

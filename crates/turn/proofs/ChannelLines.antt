@@ -16,15 +16,15 @@ use Rattle.rules.specs.Turn.{check, putThread, putChannel, filled, gives, start
 use Rattle.rules.proofs.ListLaws.{length-snoc}
 use Rattle.rules.proofs.Moves.{Step, by-spawn, by-recv}
 use Rattle.table.specs.declared.state.Here.{Here}
-use Rattle.table.specs.State as T
-use Rattle.table.specs.State.{Held, Sees, Becomes, Any, HasRoom, given, channelled}
-use Rattle.checks.specs.declared.lines.Step as C
+use Rattle.table.specs.StateTable as T
+use Rattle.table.specs.StateTable.{Held, Sees, Becomes, Any, HasRoom, given, channelled}
+use Rattle.checks.specs.declared.form_checks.Step as C
 use Rattle.checks.specs.Checked.{resultOf, outcomeOf, Few, hereAt, Stand, Checks}
 use Rattle.checks.proofs.CheckLaws.{numberOf, then-ok}
 use Rattle.checks.proofs.Standing.{SlotSeen, slot-channel, slot-read}
-use Rattle.checks.specs.declared.lines.Step.the-variants.{Next}
+use Rattle.checks.specs.declared.form_checks.Step.the-variants.{Next}
 use Rattle.turn.specs.Performed.{Went, to-next, Always}
-use Rattle.turn.proofs.Steps.{Answers, Writes, let-names, let-room, line-few}
+use Rattle.turn.proofs.TurnSteps.{Answers, Writes, let-names, let-room, line-few}
 use Rattle.turn.proofs.Frames.{Inside, inside, has-room, stands-put, given-inside}
 
 -- ---- spawn

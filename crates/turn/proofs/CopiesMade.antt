@@ -15,11 +15,11 @@ use Rattle.rules.specs.Lists.{pad, any, Every}
 use Rattle.rules.specs.State.{Object, State, noObject, objectAt, slotAt}
 use Rattle.rules.specs.Turn.{isForeign, putObjects}
 use Rattle.rules.proofs.ListLaws.{every-at, every-parts}
-use Rattle.table.specs.State.{Held, Sees, FieldIn, Copies, made}
+use Rattle.table.specs.StateTable.{Held, Sees, FieldIn, Copies, made}
 use Rattle.checks.specs.Checked.{Made, Fielded}
 use Rattle.checks.proofs.Standing.{field-in}
 use Rattle.turn.specs.Copied.{AllMade, renamedBy, copiedBy, oneCopied, allCopied, CanCopy, CanCopyAll, CopiesOne, CopiesAll}
-use Rattle.turn.proofs.Steps.{four-by-place}
+use Rattle.turn.proofs.TurnSteps.{four-by-place}
 
 -- ---- Whether any of the objects met is foreign
 

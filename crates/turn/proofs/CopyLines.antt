@@ -27,18 +27,18 @@ use Rattle.rules.proofs.Walks.{walked-values, walked-fields, walked-range, met-
 use Rattle.rules.proofs.Moves.{metHere, Step, by-copy, withCopies}
 use Rattle.rules.proofs.Keeps.{fields-in-range}
 use Rattle.table.specs.declared.state.Here.{Here}
-use Rattle.table.specs.State.{Held, Sees, Any, Becomes, HasRoom, given}
+use Rattle.table.specs.StateTable.{Held, Sees, Any, Becomes, HasRoom, given}
 use Rattle.walk.specs.Walking.{tally, Numbered, Walks, Of}
 use Rattle.walk.proofs.Numbers.{number-of}
 use Rattle.walk.proofs.FromNothing.{walk-from-nothing}
-use Rattle.checks.specs.declared.lines.Step as C
-use Rattle.checks.specs.declared.lines.Step.the-variants.{Next, NoValue, WrongThing, Forbidden, UsedUp}
+use Rattle.checks.specs.declared.form_checks.Step as C
+use Rattle.checks.specs.declared.form_checks.Step.the-variants.{Next, NoValue, WrongThing, Forbidden, UsedUp}
 use Rattle.checks.specs.Checked.{resultOf, outcomeOf, stopNumber, Made, hereAt, Stand}
 use Rattle.checks.proofs.CheckLaws.{numberOf, as-outcome, then-ok, same-after}
 use Rattle.checks.proofs.Standing.{SlotSeen, made-fielded, slot-read, slot-object}
 use Rattle.turn.specs.Performed.{Went, to-next, Always, Performs}
 use Rattle.turn.specs.Copied.{AllMade, renamedBy, allCopied, CanCopyAll, CopiesAll, copyFrom, CopiesFrom}
-use Rattle.turn.proofs.Steps.{Answers, line-halts, line-moves, let-names, let-room, line-few}
+use Rattle.turn.proofs.TurnSteps.{Answers, line-halts, line-moves, let-names, let-room, line-few}
 use Rattle.turn.proofs.Frames.{Inside, inside, inside-objects, has-room, stands-put, given-inside}
 use Rattle.turn.proofs.CopiesMade.{foreignIn}
 

@@ -12,12 +12,12 @@ use Rattle.rules.specs.Tables.{operandWord, operandItem, operandOf, capOf, line
 use Rattle.rules.proofs.ListLaws.{get-pad}
 use Rattle.rules.proofs.TableWords.{cap-of-rank, operand-of-word}
 use Rattle.table.specs.declared.state.Here.{Here}
-use Rattle.table.specs.State.{OnLine}
+use Rattle.table.specs.StateTable.{OnLine}
 use Rattle.checks.specs.Checked.{Stand}
 use Rattle.checks.proofs.Standing.{slot-place}
-use Rattle.checks.specs.declared.lines.Step.{Step}
+use Rattle.checks.specs.declared.form_checks.Step.{Step}
 use Rattle.turn.specs.Performed.{Always, Loaded, Performs, PerformsNew, PerformsHere}
-use Rattle.turn.proofs.Steps.{four-by-place, let-names}
+use Rattle.turn.proofs.TurnSteps.{four-by-place, let-names}
 
 -- ---- The parts read back
 

@@ -14,7 +14,7 @@ use Rattle.rules.specs.Reading.{slotOf}
 use Rattle.rules.specs.State.{Object, Frame, Sender, ready, Thread, State, threadAt}
 use Rattle.rules.specs.Turn.{leftBy, putThread, putObjects, filled, withSlots}
 use Rattle.table.specs.declared.state.Here.{Here}
-use Rattle.table.specs.State.{frameAt, onFrame, editFrame, HasFrame, HasRoom, HasSlot, Innermost, given, innerLess, left}
+use Rattle.table.specs.StateTable.{frameAt, onFrame, editFrame, HasFrame, HasRoom, HasSlot, Innermost, given, innerLess, left}
 use Rattle.table.proofs.StateEdits.{thread-put, put-put, length-put, innermost-frame}
 use Rattle.checks.specs.Checked.{Stand}
 use Rattle.checks.proofs.Standing.{fits-here}

@@ -1,6 +1,6 @@
 -- Why a turn on the tables does what the rules say.
 -- a rule's result as the step taken; what a line says of the slots that are filled
-pub mod Steps
+pub mod TurnSteps
 -- the frame where a thread stands, edited
 mod Frames
 -- the lines, by what they read and write

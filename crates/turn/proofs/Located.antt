@@ -15,13 +15,13 @@ use Rattle.rules.specs.Tables.{programWords}
 use Rattle.rules.proofs.Accepted.{table-lines}
 use Rattle.rules.proofs.Keeps.{here-fits}
 use Rattle.table.specs.declared.state.Here.{Here}
-use Rattle.table.specs.State.{Held, Sees, Any, OnLine, Stands}
+use Rattle.table.specs.StateTable.{Held, Sees, Any, OnLine, Stands}
 use Rattle.table.proofs.ProgramTable.{program-words-by-lines}
 use Rattle.table.proofs.ProgramLines.{blocks-of-lines}
 use Rattle.checks.specs.Checked.{resultOf, hereAt, Stand}
 use Rattle.checks.proofs.Standing.{frame-is}
-use Rattle.checks.specs.declared.lines.Step.{Step}
-use Rattle.checks.specs.declared.lines.Step.the-variants.{Waits}
+use Rattle.checks.specs.declared.form_checks.Step.{Step}
+use Rattle.checks.specs.declared.form_checks.Step.the-variants.{Waits}
 use Rattle.turn.specs.Performed.{Loaded, Performed, PerformsHere, Went, to-next, to-same, to-other, Taken, moved, waited, stopped, TakesTurn}
 
 -- ---- The program's table

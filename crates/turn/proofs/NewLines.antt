@@ -22,14 +22,14 @@ use Rattle.rules.proofs.Moves.{GaveAll, no-more, one-more, Step, by-new}
 use Rattle.rules.proofs.Keeps.{kind-ok}
 use Rattle.rules.proofs.TableWords.{operand-of-word, half-of-word}
 use Rattle.table.specs.declared.state.Here.{Here}
-use Rattle.table.specs.State.{Held, Sees, Any, Becomes, HasSlot, HasRoom, Makes, given, made}
-use Rattle.checks.specs.declared.lines.Step as C
+use Rattle.table.specs.StateTable.{Held, Sees, Any, Becomes, HasSlot, HasRoom, Makes, given, made}
+use Rattle.checks.specs.declared.form_checks.Step as C
 use Rattle.checks.specs.Checked.{isPass, hereAt, Stand, Named}
-use Rattle.checks.specs.Items.{itemSlots, ChecksNew}
+use Rattle.checks.specs.NewItems.{itemSlots, ChecksNew}
 use Rattle.checks.proofs.NewChecks.{slotsOf, were-there}
-use Rattle.checks.specs.declared.lines.Step.the-variants.{Next}
+use Rattle.checks.specs.declared.form_checks.Step.the-variants.{Next}
 use Rattle.turn.specs.Performed.{emptied, itemEmptied, Went, to-next, Always, PerformsNew}
-use Rattle.turn.proofs.Steps.{Answers, Writes, line-halts, line-moves, operand-names, let-names, let-room, line-few}
+use Rattle.turn.proofs.TurnSteps.{Answers, Writes, line-halts, line-moves, operand-names, let-names, let-room, line-few}
 use Rattle.turn.proofs.Frames.{Inside, inside, inside-objects, frame-inside, has-room, has-slot, stands-put, inside-put, given-inside, filled-then-emptied}
 
 -- ---- What an item leaves

@@ -17,14 +17,14 @@ use Rattle.rules.proofs.ListLaws.{length-snoc}
 use Rattle.rules.proofs.Moves.{Step, by-field, by-swap}
 use Rattle.rules.proofs.TableWords.{slot-of-word}
 use Rattle.table.specs.declared.state.Here.{Here}
-use Rattle.table.specs.State.{Held, Becomes, HasSlot, HasRoom, HasField, frameAt, editFrame, given, stored}
-use Rattle.checks.specs.declared.lines.Step as C
+use Rattle.table.specs.StateTable.{Held, Becomes, HasSlot, HasRoom, HasField, frameAt, editFrame, given, stored}
+use Rattle.checks.specs.declared.form_checks.Step as C
 use Rattle.checks.specs.Checked.{hereAt, Stand, Checks}
 use Rattle.checks.proofs.CheckLaws.{numberOf}
 use Rattle.checks.proofs.Standing.{SlotSeen, TargetSeen, slot-read, slot-object, target-read, target-object, fielded}
-use Rattle.checks.specs.declared.lines.Step.the-variants.{Next}
+use Rattle.checks.specs.declared.form_checks.Step.the-variants.{Next}
 use Rattle.turn.specs.Performed.{emptied, Went, to-next, Always}
-use Rattle.turn.proofs.Steps.{Answers, Writes, word-names, let-names, let-room, line-few}
+use Rattle.turn.proofs.TurnSteps.{Answers, Writes, word-names, let-names, let-room, line-few}
 use Rattle.turn.proofs.Frames.{Inside, inside, inside-objects, frame-inside, has-room, has-slot, stands-put, inside-put, given-inside, given-then-emptied}
 
 -- ---- The checks

@@ -15,15 +15,15 @@ use Rattle.rules.proofs.ListLaws.{impossible}
 use Rattle.rules.proofs.Moves.{Step, by-put, by-sent}
 use Rattle.rules.proofs.TableWords.{slot-of-word, sender-tells}
 use Rattle.table.specs.declared.state.Here.{Here}
-use Rattle.table.specs.State.{Held, Sees, Becomes, Any, HasSlot, HasRoom, frameAt, given, channelled, sending, Puts}
+use Rattle.table.specs.StateTable.{Held, Sees, Becomes, Any, HasSlot, HasRoom, frameAt, given, channelled, sending, Puts}
 use Rattle.table.proofs.StateEdits.{thread-put, put-put}
 use Rattle.checks.specs.Checked.{outcomeOf, hereAt, Stand, Checks}
 use Rattle.checks.proofs.CheckLaws.{numberOf, left-was-there}
 use Rattle.checks.proofs.Standing.{TargetSeen, slot-channel, messages-few, slot-found, target-read}
-use Rattle.checks.specs.declared.lines.Step as C
-use Rattle.checks.specs.declared.lines.Step.the-variants.{Next, Stay}
+use Rattle.checks.specs.declared.form_checks.Step as C
+use Rattle.checks.specs.declared.form_checks.Step.the-variants.{Next, Stay}
 use Rattle.turn.specs.Performed.{emptied, Went, to-next, to-same, Performs, Always}
-use Rattle.turn.proofs.Steps.{Answers, Writes, always-performs, word-names, let-names, let-room, line-few}
+use Rattle.turn.proofs.TurnSteps.{Answers, Writes, always-performs, word-names, let-names, let-room, line-few}
 use Rattle.turn.proofs.Frames.{Inside, inside, has-room, has-slot, stands-put, inside-put, given-inside, emptied-inside}
 
 -- ---- send by a thread that is ready

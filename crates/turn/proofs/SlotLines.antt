@@ -21,14 +21,14 @@ use Rattle.rules.proofs.ListLaws.{by-bool, length-snoc}
 use Rattle.rules.proofs.Moves.{Step, by-value, by-cast}
 use Rattle.rules.proofs.TableWords.{slot-of-word}
 use Rattle.table.specs.declared.state.Here.{Here}
-use Rattle.table.specs.State.{Held, Becomes, HasSlot, HasRoom, frameAt, onFrame, editFrame, cleared, given}
-use Rattle.checks.specs.declared.lines.Step as C
+use Rattle.table.specs.StateTable.{Held, Becomes, HasSlot, HasRoom, frameAt, onFrame, editFrame, cleared, given}
+use Rattle.checks.specs.declared.form_checks.Step as C
 use Rattle.checks.specs.Checked.{hereAt, Stand, Checks}
 use Rattle.checks.proofs.CheckLaws.{then-gives}
 use Rattle.checks.proofs.Standing.{OperandChecked, slot-found}
-use Rattle.checks.specs.declared.lines.Step.the-variants.{Next}
+use Rattle.checks.specs.declared.form_checks.Step.the-variants.{Next}
 use Rattle.turn.specs.Performed.{emptied, Went, to-next, Always}
-use Rattle.turn.proofs.Steps.{Answers, Writes, word-names, let-names, let-room, line-few}
+use Rattle.turn.proofs.TurnSteps.{Answers, Writes, word-names, let-names, let-room, line-few}
 use Rattle.turn.proofs.Frames.{Inside, inside, has-room, has-slot, stands-put, inside-put, given-inside, given-then-emptied}
 
 -- ---- What an operand leaves

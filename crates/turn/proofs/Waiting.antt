@@ -16,11 +16,11 @@ use Rattle.rules.specs.Turn as R
 use Rattle.rules.specs.Turn.{Res, ok, wait, stop, _>>=_, _>>_, check, permit, present, asObject, operand, operands, allObjects, permitSwap, valueLine, fieldLine, swapLine, callLine, newLine, castLine, spawnLine, putLine, sentLine, recvLine, copyLine, giveLine, letLine, perform}
 use Rattle.rules.specs.Run.{waits}
 use Rattle.table.specs.declared.state.Here.{Here}
-use Rattle.table.specs.State.{Held, Sees, Any}
-use Rattle.checks.specs.declared.lines.Step.{Step}
+use Rattle.table.specs.StateTable.{Held, Sees, Any}
+use Rattle.checks.specs.declared.form_checks.Step.{Step}
 use Rattle.checks.specs.Checked.{resultOf, outcomeOf, waited, isWait, hereAt, Checks}
 use Rattle.turn.specs.Performed.{WaitsHere, WouldWait}
-use Rattle.turn.proofs.Steps.{Answers}
+use Rattle.turn.proofs.TurnSteps.{Answers}
 use Rattle.turn.proofs.ChannelLines.{recv-answers}
 use Rattle.turn.proofs.SendLines.{put-answers, sent-answers, seen-ready, seen-waiting}
 use Rattle.turn.proofs.Dispatch.{wordAt, Tells}

@@ -16,7 +16,7 @@ use Rattle.rules.specs.State.{Object, Frame, State, objectAt}
 use Rattle.rules.specs.Walk.{metFrom}
 use Rattle.rules.specs.Turn.{Res, _>>=_, _>>_, check, permit, isForeign, putObjects, copyOf}
 use Rattle.rules.specs.Fits.{Fits}
-use Rattle.table.specs.State.{Held, Becomes, made}
+use Rattle.table.specs.StateTable.{Held, Becomes, made}
 use Rattle.checks.specs.Checked.{stopNumber, Made, Fielded, hereAt}
 
 -- these objects are there, and so each has a place in the table

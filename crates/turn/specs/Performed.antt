@@ -17,10 +17,10 @@ use Rattle.rules.specs.Turn.{Res, ok, wait, stop, leftBy, withSlots}
 use Rattle.rules.specs.Run.{waits}
 use Rattle.rules.specs.Fits.{Fits}
 use Rattle.table.specs.declared.state.Here.{Here}
-use Rattle.table.specs.Program.{Filled}
-use Rattle.table.specs.State.{Held, OnLine, editFrame}
-use Rattle.checks.specs.declared.lines.Step.{Step}
-use Rattle.checks.specs.declared.lines.Step.the-variants.{Next, Stay, Turned, Waits}
+use Rattle.table.specs.ProgramTable.{Filled}
+use Rattle.table.specs.StateTable.{Held, OnLine, editFrame}
+use Rattle.checks.specs.declared.form_checks.Step.{Step}
+use Rattle.checks.specs.declared.form_checks.Step.the-variants.{Next, Stay, Turned, Waits}
 use Rattle.checks.specs.Checked.{resultOf, hereAt, Stand}
 
 -- ---- What operands leave

@@ -11,7 +11,7 @@ ghost use Rattle.rules.specs.Lists.{any};
 ghost use Rattle.rules.specs.Script.{copy, bind};
 ghost use Rattle.rules.specs.State.{objectAt, slotAt};
 ghost use Rattle.rules.specs.Turn.{isForeign};
-ghost use Rattle.table.specs.State.{InTable, Sees, Placed, FieldIn};
+ghost use Rattle.table.specs.StateTable.{InTable, Sees, Placed, FieldIn};
 ghost use Rattle.turn.specs.Performed.{Always, Performs};
 ghost use Rattle.turn.specs.Copied.{AllMade, renamedBy, CopiesOne, CopiesAll, CopiesFrom};
 

@@ -1,6 +1,6 @@
 // One turn of one thread on the tables.
 mod copies;
-mod lines;
+mod form_moves;
 mod turns;
 
 pub use turns::perform;

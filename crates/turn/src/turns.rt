@@ -5,7 +5,7 @@ ghost use Prim.Native.Nat.{_≤_, _<_};
 ghost use lib.ListN.{length};
 ghost use Rattle.rules.specs.Script.{send, recv, bind};
 ghost use Rattle.rules.specs.Tables.{operandOf};
-ghost use Rattle.table.specs.State.{Placed};
+ghost use Rattle.table.specs.StateTable.{Placed};
 ghost use Rattle.turn.specs.Performed.{PerformsHere, TakesTurn, WouldWait, WaitsHere};
 
 // Performs the line where the thread stands.
@@ -18,17 +18,17 @@ pub fn perform(p: &[u16], s: &mut [u16], h: Here) -> Step
         1 => Step::Waits,
         2 => Step::Waits,
         3 => Step::Waits,
-        4 => super::lines::give_line(s, h, table::part(p, h, 1)),
-        5 => super::lines::value_line(s, h, table::part(p, h, 1)),
-        6 => super::lines::field_line(s, h, table::part(p, h, 1), table::part(p, h, 2)),
-        7 => super::lines::swap_line(
+        4 => super::form_moves::give_line(s, h, table::part(p, h, 1)),
+        5 => super::form_moves::value_line(s, h, table::part(p, h, 1)),
+        6 => super::form_moves::field_line(s, h, table::part(p, h, 1), table::part(p, h, 2)),
+        7 => super::form_moves::swap_line(
             s,
             h,
             table::part(p, h, 1) % 16,
             table::part(p, h, 2),
             table::part(p, h, 3),
         ),
-        8 => super::lines::call_line(
+        8 => super::form_moves::call_line(
             p,
             s,
             h,
@@ -36,7 +36,7 @@ pub fn perform(p: &[u16], s: &mut [u16], h: Here) -> Step
             table::part(p, h, 2),
             table::part(p, h, 3),
         ),
-        9 => super::lines::new_line(
+        9 => super::form_moves::new_line(
             s,
             h,
             table::cap_of(table::part(p, h, 1)),
@@ -46,15 +46,15 @@ pub fn perform(p: &[u16], s: &mut [u16], h: Here) -> Step
             table::part(p, h, 5),
             table::part(p, h, 6),
         ),
-        10 => super::lines::cast_line(
+        10 => super::form_moves::cast_line(
             s,
             h,
             table::cap_of(table::part(p, h, 1)),
             table::part(p, h, 2),
         ),
-        11 => super::lines::spawn_line(s, h, table::part(p, h, 1)),
-        12 => super::lines::send_line(s, h, table::part(p, h, 1) % 16, table::part(p, h, 2)),
-        13 => super::lines::recv_line(s, h, table::part(p, h, 1)),
+        11 => super::form_moves::spawn_line(s, h, table::part(p, h, 1)),
+        12 => super::form_moves::send_line(s, h, table::part(p, h, 1) % 16, table::part(p, h, 2)),
+        13 => super::form_moves::recv_line(s, h, table::part(p, h, 1)),
         14 => super::copies::copy_line(
             s,
             h,

@@ -11,7 +11,7 @@ use Rattle.rules.specs.State.{State}
 use Rattle.rules.specs.Fits.{Fits}
 use Rattle.rules.specs.Walk.{metFrom}
 use Rattle.rules.proofs.Walks.{walked-one, met-walked}
-use Rattle.table.specs.State.{Held}
+use Rattle.table.specs.StateTable.{Held}
 use Rattle.walk.specs.Walking.{Tally, tally, Numbered, Grows, Walks, Of}
 use Rattle.walk.proofs.Numbers.{none-numbered, few-unmet}
 

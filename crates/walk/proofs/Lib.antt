@@ -1,5 +1,5 @@
 -- Why the walk meets each object once, in order.
 -- the objects met, numbered; the walk, value by value; its list from no object met
 pub mod Numbers
-pub mod Steps
+pub mod WalkSteps
 pub mod FromNothing

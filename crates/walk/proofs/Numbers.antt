@@ -15,7 +15,7 @@ use Rattle.rules.specs.declared.Value.{Value}
 use Rattle.rules.specs.declared.Value.the-variants.{Obj}
 use Rattle.rules.specs.Lists.{among, placeOf}
 use Rattle.rules.proofs.ListLaws.{by-bool, length-snoc}
-use Rattle.table.specs.State.{InTable}
+use Rattle.table.specs.StateTable.{InTable}
 use Rattle.table.proofs.StateReads.{object-in-table}
 use Rattle.walk.specs.Walking.{Tally, tally, Numbered, unmet, Grows}
 

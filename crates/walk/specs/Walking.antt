@@ -12,7 +12,7 @@ use Rattle.rules.specs.Script.{Program}
 use Rattle.rules.specs.State.{Object, State}
 use Rattle.rules.specs.Fits.{InRange, Fits}
 use Rattle.rules.specs.Reach.{Walked}
-use Rattle.table.specs.State.{Held}
+use Rattle.table.specs.StateTable.{Held}
 
 -- ---- The objects met, in words
 

@@ -3,7 +3,7 @@ use rules::Value;
 ghost use mathlib.Core.List.{[], _∷_};
 ghost use Prim.Native.Nat.{_+_, _≤_};
 ghost use lib.ListN.{length};
-ghost use Rattle.table.specs.State.{InTable};
+ghost use Rattle.table.specs.StateTable.{InTable};
 ghost use Rattle.walk.specs.Walking.{tally, unmet, Grows, Walks, Of};
 
 // Walks a value: an object that is not met yet is met, and its fields are walked, in order. The first n words of `order` are the objects met, and

@@ -3,4 +3,4 @@
 mod Texts
 mod Rows
 -- from what was written beside the buffer to the answer
-mod Outcomes
+mod WriteOutcomes

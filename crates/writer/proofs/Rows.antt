@@ -14,9 +14,9 @@ use Rattle.rules.specs.Script.{Form, Edition}
 use Rattle.rules.specs.Templates.{show, headOf}
 use Rattle.rules.specs.Tables.{editionWord}
 use Rattle.rules.proofs.ListLaws.{every-at}
-use Rattle.texts.specs.Writing.{Wrote}
-use Rattle.texts.proofs.Appends.{nothing, _▹_, same-text}
-use Rattle.table.specs.Program.{Filled, noForm, LineCount, EditionIs, LineWord}
+use Rattle.buffer.specs.Writing.{Wrote}
+use Rattle.buffer.proofs.Appends.{nothing, _▹_, same-text}
+use Rattle.table.specs.ProgramTable.{Filled, noForm, LineCount, EditionIs, LineWord}
 use Rattle.writer.specs.Lines.{lineText, FewParts, lineBytes, WritesLine, WritesLines, headText, WritesScript}
 use Rattle.writer.proofs.Texts.{form-told, head-told}
 

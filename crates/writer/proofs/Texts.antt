@@ -14,7 +14,7 @@ use Rattle.rules.specs.Templates.{decimal, printOperand, capWord, printMany, pr
 use Rattle.rules.specs.Tables.{operandItem, operandOf, capOf, lineWords, row, editionWord}
 use Rattle.rules.specs.Reading.{operandsIn}
 use Rattle.rules.proofs.TableWords.{cap-of-rank, operand-of-word}
-use Rattle.texts.specs.Writing.{numberPart}
+use Rattle.buffer.specs.Writing.{numberPart}
 use Rattle.writer.specs.Lines.{operandPart, itemPart, itemsOf, formsOf, lineText, FewParts, headText}
 
 -- ---- Parts

@@ -1,3 +1,3 @@
 -- What the writer answers, and what a table's lines are as text.
-pub mod Answers
+pub mod WriteAnswers
 pub mod Lines

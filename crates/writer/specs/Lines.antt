@@ -13,8 +13,8 @@ use Rattle.rules.specs.Script.{value, field, swap, call, new, cast, spawn, send
 use Rattle.rules.specs.Templates.{printOperand, show, headOf}
 use Rattle.rules.specs.Reading.{operandsIn}
 use Rattle.rules.specs.Tables.{operandOf, capOf, editionWord}
-use Rattle.texts.specs.Writing.{Wrote}
-use Rattle.table.specs.Program.{Filled, noForm}
+use Rattle.buffer.specs.Writing.{Wrote}
+use Rattle.table.specs.ProgramTable.{Filled, noForm}
 
 -- ---- A line by its words
 

@@ -1,10 +1,10 @@
 // A script written back out from its program table.
-mod lines;
+mod script_lines;
 
-use lines::put_script;
+use script_lines::put_script;
 ghost use Rattle.rules.specs.Mosts.{mosts};
 ghost use Rattle.rules.specs.Writer.{WriteCall};
-ghost use Rattle.writer.specs.Answers.{answerOf};
+ghost use Rattle.writer.specs.WriteAnswers.{answerOf};
 
 // What writing answers: the table or the buffer is turned away, with the document's number; or how many bytes are written.
 pub enum Answer {
@@ -31,7 +31,7 @@ pub fn write(table: &[u16], buffer: &mut [u8]) -> Answer
         reader::Answer::Refused(_, _) => Answer::Refused(rules::numbers::NO_SCRIPT),
         reader::Answer::Read => {
             if table::same_table(table, &words) {
-                let end = texts::put_text(buffer, 0, &text[..length]);
+                let end = buffer::put_text(buffer, 0, &text[..length]);
                 return Answer::Written(end);
             }
             Answer::Refused(rules::numbers::NO_SCRIPT)

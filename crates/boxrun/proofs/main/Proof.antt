@@ -1,7 +1,7 @@
 -- `boxrun::main` does nothing undefined: it reads at most what its input holds, and what was printed fits in the output.
 use mathlib.Core.Path.{sym}
 use lib.Seq.{length-take-le}
-use Rattle.listing.proofs.Outcomes.{written-fits}
+use Rattle.listing.proofs.PrintOutcomes.{written-fits}
 use borrow.Author.Needs.{needs}
 use Rattle.boxrun.proofs.main.Statement.{statement}
 use Rattle.boxrun.proofs.main.Tie as tie

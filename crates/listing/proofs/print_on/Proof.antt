@@ -2,7 +2,7 @@
 use denote.Ref.{now}
 use mathlib.Core.Path.{sym, _∙_}
 use Rattle.listing.specs.Outputs.{runText}
-use Rattle.listing.proofs.Outcomes.{short-output, prints-refusal, prints-run}
+use Rattle.listing.proofs.PrintOutcomes.{short-output, prints-refusal, prints-run}
 use borrow.Author.Needs.{needs}
 use Rattle.listing.proofs.print_on.Statement.{statement}
 use Rattle.listing.proofs.print_on.Tie as tie

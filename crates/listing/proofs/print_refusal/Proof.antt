@@ -2,7 +2,7 @@
 use denote.Ref.{now}
 use Rattle.rules.specs.Run.{refused}
 use Rattle.rules.specs.Listing.{answerLine}
-use Rattle.listing.proofs.Outcomes.{in-output, short-output}
+use Rattle.listing.proofs.PrintOutcomes.{in-output, short-output}
 use borrow.Author.Needs.{needs}
 use Rattle.listing.proofs.print_refusal.Statement.{statement}
 use Rattle.listing.proofs.print_refusal.Tie as tie

@@ -10,7 +10,7 @@ use Rattle.rules.specs.State.{objectAt}
 use Rattle.table.proofs.StateReads.{object-in-table}
 use Rattle.walk.specs.Walking.{tally, unmet, Grows, Walks, Of}
 use Rattle.walk.proofs.Numbers.{unmet-fits, same-tally, one-met, grows-then}
-use Rattle.walk.proofs.Steps.{field-seen, row-begins, row-next, absent-stays, channel-stays, met-stays, object-walked}
+use Rattle.walk.proofs.WalkSteps.{field-seen, row-begins, row-next, absent-stays, channel-stays, met-stays, object-walked}
 use borrow.Fn.Kinds.{In}
 use borrow.Fn.PlainCycle.{Measures, is, falls, and}
 use Rattle.walk.proofs.walk.Reads as walk

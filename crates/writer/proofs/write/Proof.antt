@@ -4,7 +4,7 @@ use mathlib.Core.Path.{sym}
 use lib.ListN.{take}
 use lib.Seq.{length-take-le}
 use denote.Ref.{now}
-use Rattle.writer.proofs.Outcomes.{is-written, is-short, reads-to, refused-none, other-words-none, short-table, short-buffer, turned-away, written-out}
+use Rattle.writer.proofs.WriteOutcomes.{is-written, is-short, reads-to, refused-none, other-words-none, short-table, short-buffer, turned-away, written-out}
 use borrow.Author.Needs.{needs}
 use Rattle.writer.proofs.write.Statement.{statement}
 use Rattle.writer.proofs.write.Tie as tie

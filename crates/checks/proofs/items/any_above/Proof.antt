@@ -1,5 +1,5 @@
 -- `checks::items::any_above` meets its contract: what is seen of each of the four is seen of the list.
-use Rattle.checks.specs.Items.{above}
+use Rattle.checks.specs.NewItems.{above}
 use Rattle.checks.proofs.HeldChecks.{any-seen}
 use borrow.Author.Needs.{needs}
 use Rattle.checks.proofs.items.any_above.Statement.{statement}

@@ -1,7 +1,7 @@
 -- `listing::answers::put_answer` meets its contract: each answer has its own line.
 use native.Mathlib.Omega.{arith}
 use mathlib.Core.Path.{refl}
-use Rattle.texts.proofs.Appends.{same-text}
+use Rattle.buffer.proofs.Appends.{same-text}
 use Rattle.listing.proofs.LineTexts.{finished-end, stuck-end, open-end}
 use borrow.Author.Needs.{needs}
 use Rattle.listing.proofs.answers.put_answer.Statement.{statement}

@@ -1,6 +1,6 @@
 -- `listing::answers::put_ended` meets its contract: the parts of its line, one after the other.
 use mathlib.Core.Path.{refl}
-use Rattle.texts.proofs.Appends.{_▹_, same-text}
+use Rattle.buffer.proofs.Appends.{_▹_, same-text}
 use borrow.Author.Needs.{needs}
 use Rattle.listing.proofs.answers.put_ended.Statement.{statement}
 use Rattle.listing.proofs.answers.put_ended.Tie as tie

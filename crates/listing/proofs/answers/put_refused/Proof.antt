@@ -1,6 +1,6 @@
 -- `listing::answers::put_refused` meets its contract: the parts of its line, one after the other.
 use native.Mathlib.Omega.{arith}
-use Rattle.texts.proofs.Appends.{_▹_, same-text}
+use Rattle.buffer.proofs.Appends.{_▹_, same-text}
 use Rattle.listing.proofs.LineTexts.{refused-line}
 use borrow.Author.Needs.{needs}
 use Rattle.listing.proofs.answers.put_refused.Statement.{statement}

@@ -1,6 +1,6 @@
 -- `listing::values::put_field` meets its contract: a field that is not there writes nothing.
-use Rattle.texts.proofs.Appends.{nothing}
-use Rattle.listing.specs.Writing.{fieldPart}
+use Rattle.buffer.proofs.Appends.{nothing}
+use Rattle.listing.specs.StateWriting.{fieldPart}
 use borrow.Author.Needs.{needs}
 use Rattle.listing.proofs.values.put_field.Statement.{statement}
 use Rattle.listing.proofs.values.put_field.Tie as tie

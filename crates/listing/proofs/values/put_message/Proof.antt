@@ -1,7 +1,7 @@
 -- `listing::values::put_message` meets its contract: an empty channel, or its message as a value.
 use native.Mathlib.Omega.{arith}
 use mathlib.Core.Path.{refl}
-use Rattle.texts.proofs.Appends.{same-text}
+use Rattle.buffer.proofs.Appends.{same-text}
 use Rattle.rules.specs.Listing.{messageText}
 use borrow.Author.Needs.{needs}
 use Rattle.listing.proofs.values.put_message.Statement.{statement}

@@ -1,6 +1,6 @@
 -- `listing::values::put_value` meets its contract: each variant has its own text.
 use native.Mathlib.Omega.{arith}
-use Rattle.texts.proofs.Appends.{_▹_, same-text}
+use Rattle.buffer.proofs.Appends.{_▹_, same-text}
 use Rattle.listing.proofs.LineTexts.{is-absent, is-object, is-channel}
 use borrow.Author.Needs.{needs}
 use Rattle.listing.proofs.values.put_value.Statement.{statement}

@@ -1,6 +1,6 @@
 -- `reach::sending::in_flight` meets its contract: the thread has no frame, or stands at no send, or its send's target is no channel; else the channel tells.
 use mathlib.Core.Path.{subst}
-use Rattle.table.specs.State.{InTable}
+use Rattle.table.specs.StateTable.{InTable}
 use Rattle.turn.proofs.Located.{locates}
 use Rattle.reach.proofs.Sent.{finished-put, at-no-send, target-absent, target-object, target-channel}
 use borrow.Author.Needs.{needs}

@@ -3,11 +3,11 @@ use Prim.Native.Nat.{_-_, _≤_}
 use native.Mathlib.Omega.{arith}
 use mathlib.Core.Path.{_≡_, refl, _∙_}
 use lib.ListN.{length, take}
-use Rattle.table.specs.State.{Any, frameAt}
+use Rattle.table.specs.StateTable.{Any, frameAt}
 use Rattle.walk.specs.Walking.{tally, Grows, Walks}
 use Rattle.walk.proofs.Numbers.{same-tally, grows-then}
-use Rattle.walk.proofs.Steps.{row-begins, row-next}
-use Rattle.reach.proofs.Steps.{slot-seen, frame-walked}
+use Rattle.walk.proofs.WalkSteps.{row-begins, row-next}
+use Rattle.reach.proofs.ReportSteps.{slot-seen, frame-walked}
 use borrow.Author.Needs.{needs}
 use Rattle.reach.proofs.walking.walk_frame.Statement.{statement}
 use Rattle.reach.proofs.walking.walk_frame.Tie as tie

@@ -2,7 +2,7 @@
 use native.Mathlib.Omega.{arith}
 use denote.Ref.{now}
 use Rattle.walk.proofs.Numbers.{few-unmet, grows-then}
-use Rattle.reach.proofs.Steps.{roots-walked}
+use Rattle.reach.proofs.ReportSteps.{roots-walked}
 use borrow.Author.Needs.{needs}
 use Rattle.reach.proofs.walking.walk_roots.Statement.{statement}
 use Rattle.reach.proofs.walking.walk_roots.Tie as tie

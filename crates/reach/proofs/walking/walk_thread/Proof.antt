@@ -4,10 +4,10 @@ use native.Mathlib.Omega.{arith}
 use mathlib.Core.Path.{_≡_, refl, _∙_}
 use lib.ListN.{length}
 use denote.Ref.{now}
-use Rattle.table.specs.State.{Any}
+use Rattle.table.specs.StateTable.{Any}
 use Rattle.walk.specs.Walking.{tally, Grows, Walks}
 use Rattle.walk.proofs.Numbers.{few-unmet, same-tally, grows-then}
-use Rattle.reach.proofs.Steps.{slotsTo, no-frame-yet, frame-next, thread-walked}
+use Rattle.reach.proofs.ReportSteps.{slotsTo, no-frame-yet, frame-next, thread-walked}
 use borrow.Author.Needs.{needs}
 use Rattle.reach.proofs.walking.walk_thread.Statement.{statement}
 use Rattle.reach.proofs.walking.walk_thread.Tie as tie

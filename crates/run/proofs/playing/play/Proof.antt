@@ -6,7 +6,7 @@ use mathlib.Core.Logic.{⊎-elim}
 use lib.ListN.{length, getD}
 use denote.Ref.{now}
 use borrow.Author.Needs.{needs}
-use Rattle.table.specs.State.{Placed}
+use Rattle.table.specs.StateTable.{Placed}
 use Rattle.run.proofs.TurnByTurn.{keptAt, Playing, Looked, at-start, at-end, is-kept, has-none, found, same-looked, same-playing, turn-idles, no-turn, turn-goes-next, turn-stays, turn-leaves-frame, turn-waits, turn-stops, other-steps-stop}
 use Rattle.rules.specs.Turn.{stop}
 use Rattle.run.proofs.playing.play.Statement.{statement}

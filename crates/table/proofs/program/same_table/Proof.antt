@@ -8,7 +8,7 @@ use mathlib.Core.List.{List}
 use lib.ListN.{length, getD, take}
 use lib.Seq.{take-suc, take-all, getD-take}
 use denote.Ref.{now}
-use Rattle.table.specs.Program.{Same}
+use Rattle.table.specs.ProgramTable.{Same}
 use borrow.Author.Needs.{needs}
 use Rattle.table.proofs.program.same_table.Statement.{statement}
 use Rattle.table.proofs.program.same_table.Tie as tie
