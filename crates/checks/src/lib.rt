@@ -1,8 +1,7 @@
 // What the checks of a line answer, read off the tables. None of them writes.
-mod items;
 mod form_checks;
+mod items;
 
-pub use items::new_check;
 pub use form_checks::Step;
 pub use form_checks::cast_check;
 pub use form_checks::is_absent;
@@ -22,3 +21,4 @@ pub use form_checks::spawn_check;
 pub use form_checks::stop_number;
 pub use form_checks::swap_into;
 pub use form_checks::waits;
+pub use items::new_check;

@@ -1,124 +1,128 @@
 -- What the lower crates answer and leave, as the numbers and bytes that cross.
 use Prim.Native.Nat.{ℕ, _*_, _≤_, _<_}
-use mathlib.Core.Path.{_≡_, refl, ap, _∙_, subst}
-use mathlib.Core.Bool.{Bool, true, false}
-use mathlib.Core.List.{List}
+use mathlib.Core.Path.{_≡_, refl, sym, ap, _∙_, subst}
+use mathlib.Core.Bool.{Bool, true, false, _||_}
+use mathlib.Core.List.{List, [], _++_, append-nil}
 use native.Mathlib.Omega.{arith}
 use lib.Dec.{ltb}
-use lib.ListN.{length, take, drop}
+use lib.ListN.{length, take, drop, replicate, length-replicate, drop-of-length-le}
 use lib.Seq.{take-at}
-use borrow.Author.Tests.{lt-ltb}
+use borrow.Author.Tests.{lt-ltb, ltb-false}
 use Rattle.rules.specs.Mosts as Most
 use Rattle.rules.specs.Mosts.{mosts}
 use Rattle.rules.specs.Numbers as No
 use Rattle.rules.specs.Script.{Program}
 use Rattle.rules.specs.Reading.{Reading, turnedAway, accepted}
 use Rattle.rules.specs.State.{State}
-use Rattle.rules.specs.Run.{Run, End, Stop, none, stopped, finished, stuck, openEnd, ended, run, endOf, answerOf, answer}
+use Rattle.rules.specs.Run as R
+use Rattle.rules.specs.Run.{run, answer}
 use Rattle.rules.specs.Tables.{programWords, stateWords}
-use Rattle.rules.specs.Calls.{shortTable, programAfter, runAnswer, stateAfter, Report, unreported, reached, reportOn, reachReport, listWords, listAfter}
+use Rattle.rules.specs.Calls.{shortTable, inputs, runAnswer, Report, unreported, reached, reportOn, reachReport, listWords, listAfter}
 use Rattle.rules.specs.Writer.{refused, WriteCall}
-use Rattle.rules.proofs.ListLaws.{impossible, length-pad}
+use Rattle.rules.proofs.ListLaws.{impossible, or-false, length-pad}
+use Rattle.rules.proofs.Accepted.{reading-accepted}
 use Rattle.rules.proofs.Demand3.{stripped-matches}
 use Rattle.rules.proofs.TableWords.{program-words-length, state-words-length}
 use Rattle.rules.proofs.Writer.{write-call-by-front}
+use Rattle.table.specs.ProgramTable.{freshTable}
+use Rattle.reader.specs.declared.Answer as Reader
 use Rattle.reader.specs.declared.Answer.the-variants.{Read, Refused}
-use Rattle.reader.specs.ReadAnswers as Reader
-use Rattle.reader.specs.ReadAnswers.{numberOf, lineOf}
-use Rattle.writer.specs.declared.Answer.{Answer}
+use Rattle.reader.specs.ReadAnswers as ReadAnswers
+use Rattle.reader.proofs.Outcome as Reads
+use Rattle.writer.specs.declared.Answer as Written
 use Rattle.writer.specs.WriteAnswers as Writer
-use Rattle.run.specs.RunAnswers.{endNumber, Tells}
+use Rattle.run.specs.declared.Answer.{Answer}
+use Rattle.run.specs.declared.Answer.the-variants as A
+use Rattle.run.specs.RunAnswers.{answerOf, isRefusal, Tells}
+use Rattle.run.specs.Made.{Holds, Made, Makes}
+use Rattle.run.proofs.AnswerTells.{IsMade, made-is, refused-is, refusal-is, answers-are}
+use Rattle.reach.specs.declared.Report as Reached
 use Rattle.reach.specs.declared.Report.the-variants as T
-use Rattle.reach.specs.Reported.{reportOf}
+use Rattle.reach.specs.Reported.{reportOf, ReportsState}
 use Rattle.host.specs.Bytes.{bytesOf, bytesAfter, wordsOf}
-use Rattle.host.specs.ByteCalls.{tableAfter, ranWords, Guarded, Demand3, reportNumber, reportLine, reportCount, listBytes, writeNumber, writeLength, WritesBytes}
+use Rattle.host.specs.ByteCalls.{shortBytes, tableAfter, readBytes, HasRead, lentBytes, ranWords, Stores, TellsAnswer, Guarded, Demand3, runBytes, HasRun, reportNumber, reportLine, reportCount, listBytes, Reports, reachBytes, HasReported, writeNumber, writeLength, WritesBytes}
 use Rattle.host.proofs.Stored.{bytes-length, stored}
 use Rattle.host.proofs.Loaded.{short-words, long-words}
-use Rattle.host.proofs.First.{AtMost9}
 
 -- ---- Reading
 
-pub record HasRead (C : Reading) (program : List ℕ) (number line : ℕ) (p : List ℕ) : Type 0 where
-  pub number-is : number ≡ numberOf C
-  pub line-is : line ≡ lineOf C
-  pub program-is : p ≡ tableAfter programWords C program
+module _ (text program : List ℕ) {r : Reader.Answer} {w : List ℕ} (made : ReadAnswers.Makes text (ltb (length program) (2 * Most.words)) (replicate 8192 0) r w) where
+  by-bytes : ReadAnswers.Made (readBytes text program) r w
+  unfolding readBytes shortBytes freshTable
+  by-bytes = made .makes refl
 
-pub read-of-same : {C C′ : Reading} {program p : List ℕ} {number line : ℕ} → C ≡ C′ → HasRead C′ program number line p → HasRead C program number line p
-read-of-same e x = rw e x
+  pub read-refused : {k n : ℕ} → r ≡ Refused k n → HasRead (readBytes text program) program k n program
+  read-refused is = rw (Reads.refused-is (readBytes text program) w by-bytes is) (record { number-is = refl; line-is = refl; program-is = refl })
 
-pub read-early : {C : Reading} {k n : ℕ} (program : List ℕ) → C ≡ turnedAway k n → HasRead C program k n program
-read-early program e = rw e (record { number-is = refl; line-is = refl; program-is = refl })
+  module _ (is : r ≡ Read) where
+    read-one : Reads.IsRead (readBytes text program) w
+    read-one = Reads.read-is (readBytes text program) by-bytes is
 
-pub read-refused : (C : Reading) {k n : ℕ} (program : List ℕ) → Refused k n ≡ Reader.answerOf C → HasRead C program k n program
-read-refused (turnedAway i j) program e = record { number-is = cc; line-is = cc; program-is = refl }
-read-refused (accepted P) program e = impossible cc
+    pub read-room : 2 * length w ≤ length program
+    unfolding readBytes shortBytes
+    read-room =
+        let P = read-one .program in
+        let full : 2 * Most.words ≤ length program = ltb-false _ _ (reading-accepted mosts _ _ text P (read-one .is) .1) in
+        omega (arith, full, ap length (read-one .words), program-words-length P)
 
-pub read-done : (C : Reading) (w₀ : List ℕ) (program : List ℕ) {w p : List ℕ} → length w₀ ≡ Most.words → Read ≡ Reader.answerOf C → w ≡ programAfter C w₀
-    → p ≡ bytesAfter (length w) w program → HasRead C program 0 0 p
-read-done (turnedAway k n) w₀ program long e written kept = impossible cc
-read-done (accepted P) w₀ program long e written kept =
-    record { number-is = refl; line-is = refl; program-is = stored Most.words (programWords P) w₀ program (program-words-length P) long written kept }
-
--- ---- Both tables hold a run that was made
-
-module _ (P : Program) (turns p₀ s₀ program state : List ℕ) {ps ss p s : List ℕ} (p-long : length p₀ ≡ Most.words) (s-long : length s₀ ≡ Most.words)
-    (p-written : ps ≡ programAfter (accepted P) p₀) (s-written : ss ≡ stateAfter mosts turns (accepted P) s₀)
-    (p-kept : p ≡ bytesAfter (length ps) ps program) (s-kept : s ≡ bytesAfter (length ss) ss state) where
-  program-held : p ≡ bytesAfter Most.words (programWords P) program
-  program-held = stored Most.words (programWords P) p₀ program (program-words-length P) p-long p-written p-kept
-
-  state-held : s ≡ bytesAfter Most.words (ranWords turns P) state
-  unfolding ranWords
-  state-held = stored Most.words (stateWords (run mosts P turns .state)) s₀ state (state-words-length (run mosts P turns .state)) s-long s-written s-kept
+    pub read-done : {program₁ : List ℕ} → program₁ ≡ bytesAfter (length w) w program → HasRead (readBytes text program) program 0 0 program₁
+    read-done kept =
+        rw (read-one .is) (record {
+          number-is = refl;
+          line-is = refl;
+          program-is = stored Most.words program (program-words-length (read-one .program)) (read-one .words) kept;
+        })
 
 -- ---- Running
 
-pub record HasRun (C : Reading) (turns program state : List ℕ) (end number thread block line moves : ℕ) (p s : List ℕ) : Type 0 where
-  pub answers : Tells (runAnswer mosts turns C) end number thread block line moves
-  pub program-is : p ≡ tableAfter programWords C program
-  pub state-is : s ≡ tableAfter (ranWords turns) C state
-  pub demand-3 : Demand3 C turns end number thread block line moves s
+module _ (text turns program state : List ℕ) (short : Bool) {r : Answer} {p₀ s₀ p s : List ℕ} (p-fresh : p₀ ≡ freshTable) (s-fresh : s₀ ≡ freshTable)
+    (made : Makes text turns (ltb (length program) (2 * Most.words) || (ltb (length state) (2 * Most.words) || short)) p₀ s₀ r p s) where
+  by-lent : Made (lentBytes text turns program state short) turns r p s
+  unfolding lentBytes shortBytes
+  by-lent = made .makes p-fresh s-fresh
 
-pub run-of-same : {C C′ : Reading} {turns program state p s : List ℕ} {end number thread block line moves : ℕ} → C ≡ C′
-    → HasRun C′ turns program state end number thread block line moves p s → HasRun C turns program state end number thread block line moves p s
-run-of-same e x = rw e x
+  pub stores-none : isRefusal r ≡ true → Stores (lentBytes text turns program state short) turns program state r p s program state
+  stores-none e =
+      let away = refused-is turns p s (lentBytes text turns program state short) by-lent e in
+      rw (away .is) (record { made = away .answer; program-is = refl; state-is = refl })
 
-pub run-early : {C : Reading} {k : ℕ} (turns program state : List ℕ) → C ≡ turnedAway k 0 → HasRun C turns program state 4 k 0 0 0 0 program state
-run-early turns program state e =
-    rw e
-    (record {
-      answers = record { end-is = refl; number-is = refl; thread-is = refl; block-is = refl; line-is = refl; moves-is = refl };
-      program-is = refl;
-      state-is = refl;
-      demand-3 = tt;
-    })
+  module _ (e : isRefusal r ≡ false) where
+    one : IsMade (lentBytes text turns program state short) turns r p s
+    one = made-is turns p s (lentBytes text turns program state short) by-lent e
 
--- a run that was made is not refused
-end-below-4 : (x : End) (m : ℕ) → endNumber (ended x m) < 4
-end-below-4 finished m = omega arith
-end-below-4 stuck m = omega arith
-end-below-4 openEnd m = omega arith
+    none-short : (shortBytes Most.words program || (shortBytes Most.words state || short)) ≡ false
+    unfolding lentBytes inputs
+    none-short = reading-accepted mosts _ _ text (one .program) (one .is) .1
 
-made-below-4 : (P : Program) (S : State) (m : ℕ) (x : Stop) → endNumber (answerOf mosts P S m x) < 4
-unfolding answerOf
-made-below-4 P S m none = end-below-4 (endOf mosts P S) m
-made-below-4 P S m (stopped k t b l) = omega arith
+    pub store-room : (2 * length p ≤ length program) × (2 * length s ≤ length state)
+    unfolding shortBytes
+    store-room =
+        let others = or-false _ _ none-short in
+        let full : 2 * Most.words ≤ length program = ltb-false _ _ (others .0) in
+        let state-full : 2 * Most.words ≤ length state = ltb-false _ _ (or-false _ _ (others .1) .0) in
+        let P = one .program in (
+          omega (arith, full, ap length (one .holds .program-words), program-words-length P),
+          omega (arith, state-full, ap length (one .holds .state-words), state-words-length (run mosts P turns .state)),
+        )
 
-answer-below-4 : (P : Program) (r : Run) → endNumber (answer mosts P r) < 4
-unfolding answer
-answer-below-4 P r = made-below-4 P (r .state) (r .moves) (r .stop)
-
-pub run-refused : (C : Reading) (turns program state : List ℕ) {end number thread block line moves : ℕ} → end ≡ 4
-    → Tells (runAnswer mosts turns C) end number thread block line moves → HasRun C turns program state end number thread block line moves program state
-run-refused (turnedAway k n) turns program state e tells = record { answers = tells; program-is = refl; state-is = refl; demand-3 = tt }
-run-refused (accepted P) turns program state e tells = absurd (omega (arith, tells .end-is, answer-below-4 P (run mosts P turns)))
+    pub stores-both : {program₁ state₁ : List ℕ} → program₁ ≡ bytesAfter (length p) p program → state₁ ≡ bytesAfter (length s) s state
+        → Stores (lentBytes text turns program state short) turns program state r p s program₁ state₁
+    unfolding ranWords
+    stores-both program-kept state-kept =
+        let P = one .program in
+        rw (one .is) (record {
+          made = one .holds;
+          program-is = stored Most.words program (program-words-length P) (one .holds .program-words) program-kept;
+          state-is = stored Most.words state (state-words-length (run mosts P turns .state)) (one .holds .state-words) state-kept;
+        })
 
 -- demand 3 of what was answered and left
-guarded : (P : Program) (turns : List ℕ) {end number thread block line moves : ℕ} (state : List ℕ) {s : List ℕ}
-    → Tells (answer mosts P (run mosts P turns)) end number thread block line moves → s ≡ bytesAfter Most.words (ranWords turns P) state
-    → Guarded P turns end number thread block line moves s
+guarded : (C : Reading) (turns : List ℕ) {end number thread block line moves : ℕ} (state : List ℕ) {s : List ℕ}
+    → Tells (runAnswer mosts turns C) end number thread block line moves → s ≡ tableAfter (ranWords turns) C state
+    → Demand3 C turns end number thread block line moves s
 unfolding ranWords
-guarded P turns state tells state-is =
+guarded (turnedAway k n) turns state tells state-is = tt
+guarded (accepted P) turns state tells state-is =
     let words = stateWords (run mosts P turns .state) in
     let words-long = state-words-length (run mosts P turns .state) in
     record {
@@ -128,96 +132,130 @@ guarded P turns state tells state-is =
       matches = stripped-matches mosts P turns;
     }
 
-pub run-done : (C : Reading) (turns p₀ s₀ program state : List ℕ) {ps ss p s : List ℕ} {end number thread block line moves : ℕ} → length p₀ ≡ Most.words
-    → length s₀ ≡ Most.words → (end ≡ 4 → ⊥) → Tells (runAnswer mosts turns C) end number thread block line moves → ps ≡ programAfter C p₀
-    → ss ≡ stateAfter mosts turns C s₀ → p ≡ bytesAfter (length ps) ps program → s ≡ bytesAfter (length ss) ss state
-    → HasRun C turns program state end number thread block line moves p s
-run-done (turnedAway k n) turns p₀ s₀ program state p-long s-long made tells p-written s-written p-kept s-kept = absurd (made (tells .end-is))
-run-done (accepted P) turns p₀ s₀ program state p-long s-long made tells p-written s-written p-kept s-kept =
-    let state-is = state-held P turns p₀ s₀ program state p-long s-long p-written s-written p-kept s-kept in
+pub has-run : (text turns program state : List ℕ) {r : Answer} {p s program₁ state₁ : List ℕ} {end number thread block line moves : ℕ}
+    → Stores (lentBytes text turns program state false) turns program state r p s program₁ state₁ → TellsAnswer r end number thread block line moves
+    → HasRun (runBytes text turns program state) turns program state end number thread block line moves program₁ state₁
+unfolding runBytes
+has-run text turns program state {p = p} {s = s} stores told =
+    let C = lentBytes text turns program state false in
+    let tells = told .tells (runAnswer mosts turns C) (answers-are turns p s C (stores .made)) in
     record {
       answers = tells;
-      program-is = program-held P turns p₀ s₀ program state p-long s-long p-written s-written p-kept s-kept;
-      state-is = state-is;
-      demand-3 = guarded P turns state tells state-is;
+      program-is = stores .program-is;
+      state-is = stores .state-is;
+      demand-3 = guarded C turns state tells (stores .state-is);
     }
+
+-- ---- The answer by its numbers
+
+abbrev TellsBy : R.Answer → Answer → Type 0
+TellsBy a (A.Finished m) = Tells a 0 0 0 0 0 m
+TellsBy a (A.Stuck m) = Tells a 1 0 0 0 0 m
+TellsBy a (A.Open m) = Tells a 2 0 0 0 0 m
+TellsBy a (A.Stopped k t b l m) = Tells a 3 k t b l m
+TellsBy a (A.Refused k n) = Tells a 4 k 0 0 n 0
+
+tells : (a : R.Answer) → TellsBy a (answerOf a)
+tells (R.refused k n) = record { end-is = refl; number-is = refl; thread-is = refl; block-is = refl; line-is = refl; moves-is = refl }
+tells (R.ended R.finished m) = record { end-is = refl; number-is = refl; thread-is = refl; block-is = refl; line-is = refl; moves-is = refl }
+tells (R.ended R.stuck m) = record { end-is = refl; number-is = refl; thread-is = refl; block-is = refl; line-is = refl; moves-is = refl }
+tells (R.ended R.openEnd m) = record { end-is = refl; number-is = refl; thread-is = refl; block-is = refl; line-is = refl; moves-is = refl }
+tells (R.halted k t b l m) = record { end-is = refl; number-is = refl; thread-is = refl; block-is = refl; line-is = refl; moves-is = refl }
+
+pub tells-answer : (a : R.Answer) {r x : Answer} → r ≡ x → r ≡ answerOf a → TellsBy a x
+tells-answer a is e = subst (TellsBy a) (sym e ∙ is) (tells a)
 
 -- ---- Reporting
 
--- numbers and list of this report
-pub record Reports (R : Report) (list : List ℕ) (number count line : ℕ) (list₁ : List ℕ) : Type 0 where
-  pub number-is : number ≡ reportNumber R
-  pub count-is : count ≡ reportCount R
-  pub line-is : line ≡ reportLine R
-  pub list-is : list₁ ≡ listBytes R list
+-- what is reported on the box's own tables and list: nothing is listed, or what is listed is stored
+told-refused : (R : Report) {x : Reached.Report} {k n : ℕ} (list : List ℕ) → x ≡ reportOf R → x ≡ T.Refused k n → Reports R list k 0 n list
+told-refused (unreported i j) list e is = let both = sym e ∙ is in record { number-is = cc; count-is = refl; line-is = cc; list-is = refl }
+told-refused (reached objects) list e is = let both = sym e ∙ is in impossible cc
 
-pub record HasReported (C : Reading) (turns : List ℕ) (t : ℕ) (program state list : List ℕ) (number count line : ℕ) (p s list₁ : List ℕ) : Type 0 where
-  pub report : Reports (reachReport mosts turns t C) list number count line list₁
-  pub program-is : p ≡ tableAfter programWords C program
-  pub state-is : s ≡ tableAfter (ranWords turns) C state
-
-pub reach-of-same : {C C′ : Reading} {turns program state list p s list₁ : List ℕ} {t number count line : ℕ} → C ≡ C′
-    → HasReported C′ turns t program state list number count line p s list₁ → HasReported C turns t program state list number count line p s list₁
-reach-of-same e x = rw e x
-
--- what the lower crate answers, and leaves in the box's own list, is this report's: nothing is listed, or what is listed is stored
-told-refused : (R : Report) {k n : ℕ} (list : List ℕ) → T.Refused k n ≡ reportOf R → Reports R list k 0 n list
-told-refused (unreported i j) list e = record { number-is = cc; count-is = refl; line-is = cc; list-is = refl }
-told-refused (reached objects) list e = impossible cc
-
-told-reached : (R : Report) {c : ℕ} (l₀ l₁ list list₁ : List ℕ) → length l₀ ≡ Most.reachList → T.Reached c ≡ reportOf R → l₁ ≡ listAfter R l₀
-    → list₁ ≡ bytesAfter (length l₁) l₁ list → Reports R list 0 c 0 list₁
-told-reached (unreported i j) l₀ l₁ list list₁ long e l-written l-kept = impossible cc
-told-reached (reached objects) l₀ l₁ list list₁ long e l-written l-kept =
+told-reached : (R : Report) {x : Reached.Report} {c : ℕ} (l list : List ℕ) {list₁ : List ℕ} → x ≡ reportOf R → l ≡ listAfter R (replicate 256 0) → x ≡ T.Reached c
+    → list₁ ≡ bytesAfter (length l) l list → Reports R list 0 c 0 list₁
+told-reached (unreported i j) l list e written is kept = let both = sym e ∙ is in impossible cc
+told-reached (reached objects) l list e written is kept =
+    let both = sym e ∙ is in
+    let zero-word : ℕ = 0 in
+    let none : drop 256 (replicate 256 zero-word) ≡ [] = drop-of-length-le (replicate 256 zero-word) {i = 256} (rw (length-replicate 256 zero-word) (omega arith)) in
+    let words : l ≡ listWords objects = written ∙ ap (listWords objects ++_) none ∙ append-nil (listWords objects) in
     record {
       number-is = refl;
       count-is = cc;
       line-is = refl;
-      list-is = stored Most.reachList (listWords objects) l₀ list (length-pad Most.reachList 0 objects) long l-written l-kept;
+      list-is = stored Most.reachList list (length-pad Most.reachList 0 objects) words kept;
     }
 
-pub reach-early : {C : Reading} {k : ℕ} (turns : List ℕ) (t : ℕ) (program state list : List ℕ) → C ≡ turnedAway k 0
-    → HasReported C turns t program state list k 0 0 program state list
-reach-early turns t program state list e =
-    rw e (record { report = record { number-is = refl; count-is = refl; line-is = refl; list-is = refl }; program-is = refl; state-is = refl })
+module _ (text turns program state list : List ℕ) (t : ℕ) {r : Answer} {p s program₁ state₁ : List ℕ}
+    (stores : Stores (lentBytes text turns program state (ltb (length list) (2 * Most.reachList))) turns program state r p s program₁ state₁) where
+  by-reach : Stores (reachBytes text turns program state list) turns program state r p s program₁ state₁
+  unfolding reachBytes shortBytes
+  by-reach = stores
 
-module _ (turns : List ℕ) (t : ℕ) (program state list : List ℕ) where
-  pub reach-refused : (C : Reading) {k n : ℕ} → k < No.noThread → T.Refused k n ≡ reportOf (reachReport mosts turns t C)
-      → HasReported C turns t program state list k 0 n program state list
-  reach-refused (turnedAway i j) low told = record { report = told-refused (unreported i j) list told; program-is = refl; state-is = refl }
-  reach-refused (accepted P) low told =
-      let S = run mosts P turns .state in
-      absurd (only-17 P S (ltb t (length (S .threads))) low told)
-    where
-      -- 17 alone leaves a run unreported
-      only-17 : (P : Program) (S : State) (started : Bool) {k n : ℕ} → k < No.noThread → T.Refused k n ≡ reportOf (reportOn P S t started) → ⊥
-      only-17 P S true low e = impossible cc
-      only-17 P S false {k} low e = let same : k ≡ No.noThread = cc in omega arith
+  pub reach-refused : {k n : ℕ} → r ≡ A.Refused k n → HasReported (reachBytes text turns program state list) turns t program state list k 0 n program₁ state₁ list
+  reach-refused {k} {n} is =
+      let C = reachBytes text turns program state list in
+      let away : C ≡ turnedAway k n = refusal-is turns C (sym is ∙ answers-are turns p s C (by-reach .made)) in
+      record {
+        report = subst (λ (x : Reading). Reports (reachReport mosts turns t x) list k 0 n list) (sym away) (record { number-is = refl; count-is = refl; line-is = refl; list-is = refl });
+        program-is = by-reach .program-is;
+        state-is = by-reach .state-is;
+      }
 
-  module _ (p₀ s₀ : List ℕ) {ps ss p s : List ℕ} (p-long : length p₀ ≡ Most.words) (s-long : length s₀ ≡ Most.words) where
-    pub reach-no-thread : (C : Reading) {k n : ℕ} → AtMost9 C → No.noThread ≤ k → T.Refused k n ≡ reportOf (reachReport mosts turns t C) → ps ≡ programAfter C p₀
-        → ss ≡ stateAfter mosts turns C s₀ → p ≡ bytesAfter (length ps) ps program → s ≡ bytesAfter (length ss) ss state
-        → HasReported C turns t program state list k 0 n p s list
-    reach-no-thread (turnedAway i j) {k} low high told p-written s-written p-kept s-kept =
-        let same : k ≡ i = cc in
-        absurd (omega arith)
-    reach-no-thread (accepted P) low high told p-written s-written p-kept s-kept =
-        record {
-          report = told-refused (reachReport mosts turns t (accepted P)) list told;
-          program-is = program-held P turns p₀ s₀ program state p-long s-long p-written s-written p-kept s-kept;
-          state-is = state-held P turns p₀ s₀ program state p-long s-long p-written s-written p-kept s-kept;
-        }
+  module _ (e : isRefusal r ≡ false) where
+    reach-one : IsMade (reachBytes text turns program state list) turns r p s
+    reach-one = made-is turns p s (reachBytes text turns program state list) (by-reach .made) e
 
-    pub reach-done : (C : Reading) {c : ℕ} (l₀ l₁ : List ℕ) {list₁ : List ℕ} → length l₀ ≡ Most.reachList → T.Reached c ≡ reportOf (reachReport mosts turns t C)
-        → l₁ ≡ listAfter (reachReport mosts turns t C) l₀ → ps ≡ programAfter C p₀ → ss ≡ stateAfter mosts turns C s₀ → p ≡ bytesAfter (length ps) ps program
-        → s ≡ bytesAfter (length ss) ss state → list₁ ≡ bytesAfter (length l₁) l₁ list → HasReported C turns t program state list 0 c 0 p s list₁
-    reach-done (turnedAway i j) l₀ l₁ l-long told l-written p-written s-written p-kept s-kept l-kept = impossible cc
-    reach-done (accepted P) l₀ l₁ {list₁} l-long told l-written p-written s-written p-kept s-kept l-kept =
-        record {
-          report = told-reached (reachReport mosts turns t (accepted P)) l₀ l₁ list list₁ l-long told l-written l-kept;
-          program-is = program-held P turns p₀ s₀ program state p-long s-long p-written s-written p-kept s-kept;
-          state-is = state-held P turns p₀ s₀ program state p-long s-long p-written s-written p-kept s-kept;
-        }
+    pub list-room : 2 * Most.reachList ≤ length list
+    unfolding reachBytes lentBytes inputs shortBytes
+    list-room =
+        let none-short = reading-accepted mosts _ _ text (reach-one .program) (reach-one .is) .1 in
+        let others = or-false (ltb (length program) (2 * Most.words)) _ none-short .1 in
+        ltb-false _ _ (or-false (ltb (length state) (2 * Most.words)) _ others .1)
+
+    module _ {x : Reached.Report} {l : List ℕ} (reports : ReportsState p s t (replicate 256 0) x l) where
+      on-run : (let S = run mosts (reach-one .program) turns .state in
+          (x ≡ reportOf (reportOn (reach-one .program) S t (ltb t (length (S .threads))))) × (l ≡ listAfter (reportOn (reach-one .program) S t (ltb t (length (S .threads)))) (replicate 256 0)))
+      on-run =
+          let P = reach-one .program in
+          let S = run mosts P turns .state in
+          let holds = reach-one .holds in
+          let zero-word : ℕ = 0 in
+          let told = reports .reports
+          (omega (arith, ap length (holds .program-words), program-words-length P))
+          (omega (arith, ap length (holds .state-words), state-words-length S))
+          (rw (length-replicate 256 zero-word) (omega arith))
+          P Most.turns S [] (holds .loaded) (holds .held) (holds .valid) (holds .fits) in
+          (told .answers, told .leaves)
+
+      has-reported : {number count line : ℕ} {list₁ : List ℕ}
+          → (let S = run mosts (reach-one .program) turns .state in Reports (reportOn (reach-one .program) S t (ltb t (length (S .threads)))) list number count line list₁)
+          → HasReported (reachBytes text turns program state list) turns t program state list number count line program₁ state₁ list₁
+      has-reported {number} {count} {line} {list₁} told = record {
+        report = subst (λ (C : Reading). Reports (reachReport mosts turns t C) list number count line list₁) (sym (reach-one .is)) told;
+        program-is = by-reach .program-is;
+        state-is = by-reach .state-is;
+      }
+
+      -- 17, which has no line
+      pub reach-no-thread : {k n : ℕ} → x ≡ T.Refused k n → HasReported (reachBytes text turns program state list) turns t program state list k 0 0 program₁ state₁ list
+      reach-no-thread {k} {n} is =
+          let S = run mosts (reach-one .program) turns .state in
+          let R = reportOn (reach-one .program) S t (ltb t (length (S .threads))) in
+          let told = told-refused R list (on-run .0) is in
+          let none : n ≡ 0 = told .line-is ∙ no-line (ltb t (length (S .threads))) in
+          has-reported (subst (λ (m : ℕ). Reports R list k 0 m list) none told)
+        where
+          no-line : (started : Bool) → reportLine (reportOn (reach-one .program) (run mosts (reach-one .program) turns .state) t started) ≡ 0
+          no-line true = refl
+          no-line false = refl
+
+      pub reach-done : {c : ℕ} {list₁ : List ℕ} → x ≡ T.Reached c → list₁ ≡ bytesAfter (length l) l list
+          → HasReported (reachBytes text turns program state list) turns t program state list 0 c 0 program₁ state₁ list₁
+      reach-done is kept =
+          let S = run mosts (reach-one .program) turns .state in
+          has-reported (told-reached (reportOn (reach-one .program) S t (ltb t (length (S .threads)))) l list (on-run .0) (on-run .1) is kept)
 
 -- ---- Writing
 
@@ -232,14 +270,14 @@ write-early program script short =
     }
 
 -- the words that were loaded are the program table's first
-pub write-done : (program script words after : List ℕ) {r : Answer} (r′ : Answer) → 2 * Most.words ≤ length program → words ≡ take Most.words (wordsOf program)
+pub write-done : (program script words after : List ℕ) {r : Written.Answer} (r′ : Written.Answer) → 2 * Most.words ≤ length program → words ≡ take Most.words (wordsOf program)
     → r ≡ r′ → WriteCall mosts words script (Writer.answerOf r) after
     → WritesBytes program script (writeNumber (Writer.answerOf r′)) (writeLength (Writer.answerOf r′)) after
 write-done program script words after r′ room loaded told call =
     record {
       answer = Writer.answerOf r′;
       writes = write-call-by-front mosts (wordsOf program) (long-words Most.words program room) script (Writer.answerOf r′) after
-          (subst (λ (l : List ℕ). WriteCall mosts l script (Writer.answerOf r′) after) loaded (subst (λ (r : Answer). WriteCall mosts words script (Writer.answerOf r) after) told call));
+          (subst (λ (l : List ℕ). WriteCall mosts l script (Writer.answerOf r′) after) loaded (subst (λ (r : Written.Answer). WriteCall mosts words script (Writer.answerOf r) after) told call));
       number-is = refl;
       length-is = refl;
     }

@@ -1,8 +1,7 @@
 -- Why the calls on bytes keep their contracts.
--- words stored as bytes and loaded from them, one after the other; which refusals come first; the answers of the lower crates as numbers and bytes
+-- words stored as bytes and loaded from them, one after the other; the answers of the lower crates as numbers and bytes
 mod Stored
 mod Loaded
-mod First
 mod Crossing
 -- a script that is loaded and saved comes back
 mod RoundTrip

@@ -1,11 +1,10 @@
 -- Words stored as bytes: two bytes a word, each word after the one before it.
 use Prim.Native.Nat.{ℕ, _+_, _*_, _/_, _%_, _≤_, _<_}
 use mathlib.Core.Path.{_≡_, refl, sym, ap, _∙_}
-use mathlib.Core.List.{List, [], _∷_, _++_, append-assoc, append-nil}
+use mathlib.Core.List.{List, [], _∷_, _++_, append-assoc}
 use native.Mathlib.Omega.{arith}
-use native.Mathlib.Nat.{le-refl}
 use native.Mathlib.Numerals.{add-one}
-use lib.ListN.{length, take, drop, set, getD, length-append, length-drop, drop-of-length-le}
+use lib.ListN.{length, take, drop, set, getD, length-append, length-drop}
 use lib.Seq.{set-at, take-suc, drop-drop, length-take-le}
 use Rattle.host.specs.Bytes.{bytesOf, bytesAfter}
 
@@ -42,11 +41,7 @@ store-next w t₀ t i h k e =
     twice : 2 * i + 2 ≡ 2 * (i + 1)
     twice = omega arith
 
--- n words written over a table w₀ of n words, and stored
-pub stored : (n : ℕ) (words w₀ t : List ℕ) {w t₁ : List ℕ} → length words ≡ n → length w₀ ≡ n → w ≡ words ++ drop n w₀ → t₁ ≡ bytesAfter (length w) w t
-    → t₁ ≡ bytesAfter n words t
-stored n words w₀ t {w} long long₀ written kept =
-    let fits : length w₀ ≤ n = rw long₀ (le-refl n) in
-    let none : drop n w₀ ≡ [] = drop-of-length-le w₀ fits in
-    let same : w ≡ words = written ∙ ap (λ (l : List ℕ). words ++ l) none ∙ append-nil words in
-    kept ∙ ap (λ (l : List ℕ). bytesAfter (length l) l t) same ∙ ap (λ (k : ℕ). bytesAfter k words t) long
+-- n words, stored
+pub stored : (n : ℕ) (t : List ℕ) {words w t₁ : List ℕ} → length words ≡ n → w ≡ words → t₁ ≡ bytesAfter (length w) w t → t₁ ≡ bytesAfter n words t
+stored n t {words} long written kept =
+    kept ∙ ap (λ (l : List ℕ). bytesAfter (length l) l t) written ∙ ap (λ (k : ℕ). bytesAfter k words t) long

@@ -1,30 +1,30 @@
 -- The calls of documents 01 and 02 for a host that lends bytes: the answer as numbers, and every lent byte afterwards.
 use Prim.Native.Nat.{ℕ, _*_}
 use mathlib.Core.Path.{_≡_}
-use mathlib.Core.Bool.{Bool, _||_, cond}
+use mathlib.Core.Bool.{Bool, false, _||_}
 use mathlib.Core.List.{List}
 use lib.Dec.{ltb}
 use lib.ListN.{length, take}
 use Rattle.rules.specs.Mosts as Most
 use Rattle.rules.specs.Mosts.{mosts}
-use Rattle.rules.specs.Numbers as No
 use Rattle.rules.specs.Script.{Program}
 use Rattle.rules.specs.Reading.{Reading, turnedAway, accepted, reading}
+use Rattle.rules.specs.Run as R
 use Rattle.rules.specs.Run.{run, answer}
 use Rattle.rules.specs.Stripped.{Matches}
-use Rattle.rules.specs.Tables.{stateWords}
-use Rattle.rules.specs.Calls.{longText, longTurns, Report, unreported, reached, reachReport, listWords}
-use Rattle.rules.specs.Writer.{Answer, refused, wrote, WriteCall}
-use Rattle.run.specs.RunAnswers.{Tells}
+use Rattle.rules.specs.Tables.{programWords, stateWords}
+use Rattle.rules.specs.Calls.{longText, inputs, runAnswer, Report, unreported, reached, reachReport, listWords}
+use Rattle.rules.specs.Writer as Writer
+use Rattle.rules.specs.Writer.{refused, wrote, WriteCall}
+use Rattle.reader.specs.ReadAnswers.{numberOf, lineOf}
+use Rattle.run.specs.declared.Answer.{Answer}
+use Rattle.run.specs.RunAnswers.{answerOf, Tells}
+use Rattle.run.specs.Made.{Made}
 use Rattle.host.specs.Bytes.{bytesOf, bytesAfter, wordsOf}
 
 -- "9 short table: a lent table or list under its length", which is n words
 unfoldable pub shortBytes : ℕ → List ℕ → Bool
 shortBytes n bytes = ltb (length bytes) (2 * n)
-
--- 1 comes before 9; 0 for neither
-abbrev pub earlyNumber : (long short : Bool) → ℕ
-earlyNumber long short = cond long No.overlong (cond short No.shortTable 0)
 
 -- "Numbers 1 to 9 change no lent word."
 abbrev pub tableAfter : (Program → List ℕ) → Reading → List ℕ → List ℕ
@@ -36,14 +36,34 @@ tableAfter words (accepted P) table = bytesAfter Most.words (words P) table
 unfoldable pub readBytes : (text program : List ℕ) → Reading
 readBytes text program = reading mosts (longText text) (shortBytes Most.words program) text
 
+-- what is answered, and every byte lent, by what the inputs come to
+pub record HasRead (C : Reading) (program : List ℕ) (number line : ℕ) (program₁ : List ℕ) : Type 0 where
+  pub number-is : number ≡ numberOf C
+  pub line-is : line ≡ lineOf C
+  pub program-is : program₁ ≡ tableAfter programWords C program
+
 -- ---- "running a script on a list of turns"
 
+-- a run's inputs with both tables as lent, and whether another slice of the call is under its length
+unfoldable pub lentBytes : (text turns program state : List ℕ) → (short : Bool) → Reading
+lentBytes text turns program state short = inputs mosts text turns (shortBytes Most.words program || (shortBytes Most.words state || short))
+
 unfoldable pub runBytes : (text turns program state : List ℕ) → Reading
-runBytes text turns program state = reading mosts (longText text || longTurns turns) (shortBytes Most.words program || shortBytes Most.words state) text
+runBytes text turns program state = lentBytes text turns program state false
 
 -- the words that the state table holds
 unfoldable pub ranWords : List ℕ → Program → List ℕ
 ranWords turns P = stateWords (run mosts P turns .state)
+
+-- the run was made in two fresh tables, p and s, and both are stored; or nothing is
+pub record Stores (C : Reading) (turns program state : List ℕ) (r : Answer) (p s program₁ state₁ : List ℕ) : Type 0 where
+  pub made : Made C turns r p s
+  pub program-is : program₁ ≡ tableAfter programWords C program
+  pub state-is : state₁ ≡ tableAfter (ranWords turns) C state
+
+-- the code's answer by its numbers
+pub record TellsAnswer (r : Answer) (end number thread block line moves : ℕ) : Type 0 where
+  pub tells : (a : R.Answer) → r ≡ answerOf a → Tells a end number thread block line moves
 
 -- demand 3: the numbers and the bytes are the guarded run's, and the stripped run matches it
 pub record Guarded (P : Program) (turns : List ℕ) (end number thread block line moves : ℕ) (state : List ℕ) : Type 0 where
@@ -55,14 +75,16 @@ abbrev pub Demand3 : Reading → List ℕ → (end number thread block line move
 Demand3 (turnedAway k n) turns end number thread block line moves state = Unit {0}
 Demand3 (accepted P) turns end number thread block line moves state = Guarded P turns end number thread block line moves state
 
+pub record HasRun (C : Reading) (turns program state : List ℕ) (end number thread block line moves : ℕ) (program₁ state₁ : List ℕ) : Type 0 where
+  pub answers : Tells (runAnswer mosts turns C) end number thread block line moves
+  pub program-is : program₁ ≡ tableAfter programWords C program
+  pub state-is : state₁ ≡ tableAfter (ranWords turns) C state
+  pub demand-3 : Demand3 C turns end number thread block line moves state₁
+
 -- ---- "a reach report"
 
 unfoldable pub reachBytes : (text turns program state list : List ℕ) → Reading
-reachBytes text turns program state list =
-    reading mosts (longText text || longTurns turns) (shortBytes Most.words program || (shortBytes Most.words state || shortBytes Most.reachList list)) text
-
-abbrev pub reportBytes : (text turns program state : List ℕ) → (thread : ℕ) → (list : List ℕ) → Report
-reportBytes text turns program state thread list = reachReport mosts turns thread (reachBytes text turns program state list)
+reachBytes text turns program state list = lentBytes text turns program state (shortBytes Most.reachList list)
 
 -- the report as numbers: that of the refusal, 0 for none; its line; the count of objects, 0 where there is none
 abbrev pub reportNumber : Report → ℕ
@@ -82,20 +104,31 @@ abbrev pub listBytes : Report → List ℕ → List ℕ
 listBytes (unreported k n) list = list
 listBytes (reached objects) list = bytesAfter Most.reachList (listWords objects) list
 
+pub record Reports (R : Report) (list : List ℕ) (number count line : ℕ) (list₁ : List ℕ) : Type 0 where
+  pub number-is : number ≡ reportNumber R
+  pub count-is : count ≡ reportCount R
+  pub line-is : line ≡ reportLine R
+  pub list-is : list₁ ≡ listBytes R list
+
+pub record HasReported (C : Reading) (turns : List ℕ) (thread : ℕ) (program state list : List ℕ) (number count line : ℕ) (program₁ state₁ list₁ : List ℕ) : Type 0 where
+  pub report : Reports (reachReport mosts turns thread C) list number count line list₁
+  pub program-is : program₁ ≡ tableAfter programWords C program
+  pub state-is : state₁ ≡ tableAfter (ranWords turns) C state
+
 -- ---- document 02, L2: "write a script back out"
 
 -- the answer as numbers: that of the refusal, 0 for none; how many bytes are written, 0 where there are none
-abbrev pub writeNumber : Answer → ℕ
+abbrev pub writeNumber : Writer.Answer → ℕ
 writeNumber (refused k) = k
 writeNumber (wrote n) = 0
 
-abbrev pub writeLength : Answer → ℕ
+abbrev pub writeLength : Writer.Answer → ℕ
 writeLength (refused k) = 0
 writeLength (wrote n) = n
 
 -- document 02's call on the words that the program table's bytes are
 pub record WritesBytes (program script : List ℕ) (number length : ℕ) (after : List ℕ) : Type 0 where
-  pub answer : Answer
+  pub answer : Writer.Answer
   pub writes : WriteCall mosts (wordsOf program) script answer after
   pub number-is : number ≡ writeNumber answer
   pub length-is : length ≡ writeLength answer

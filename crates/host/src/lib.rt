@@ -1,18 +1,12 @@
 // What a C host calls: "numbers and byte slices; words cross as bytes, low byte first". include/box.h says it for C.
+use run::Answer;
 ghost use mathlib.Core.Path.{_≡_};
-ghost use mathlib.Core.Bool.{_||_};
 ghost use Prim.Native.Nat.{_*_, _≤_};
-ghost use lib.Dec.{ltb};
 ghost use lib.ListN.{length, take};
-ghost use Rattle.rules.specs.Mosts as Most;
-ghost use Rattle.rules.specs.Mosts.{mosts};
 ghost use Rattle.rules.specs.Text.{lines, findLine, startOf};
-ghost use Rattle.rules.specs.Tables.{programWords};
-ghost use Rattle.rules.specs.Calls.{runAnswer};
-ghost use Rattle.reader.specs.ReadAnswers.{numberOf, lineOf};
-ghost use Rattle.run.specs.RunAnswers.{Tells};
+ghost use Rattle.table.specs.ProgramTable.{freshTable};
 ghost use Rattle.host.specs.Bytes.{bytesAfter, wordsOf};
-ghost use Rattle.host.specs.ByteCalls.{earlyNumber, tableAfter, readBytes, runBytes, ranWords, Demand3, reachBytes, reportBytes, reportNumber, reportCount, reportLine, listBytes, WritesBytes};
+ghost use Rattle.host.specs.ByteCalls.{readBytes, HasRead, lentBytes, Stores, TellsAnswer, runBytes, HasRun, reachBytes, HasReported, WritesBytes};
 
 const TABLE: usize = 16384; // bytes of a table
 
@@ -46,42 +40,81 @@ fn load(words: &mut [u16], bytes: &[u8])
     }
 }
 
-// 1 or 9 by the lengths of what is lent, 1 first; 0 for neither. What a call does not take fits.
-fn early(text: usize, turns: usize, program: usize, state: usize, list: usize) -> u16
-    ensures { λ r. ⌜ r ≡ earlyNumber (ltb Most.text text || ltb Most.turns turns) (ltb program (2 * Most.words) || (ltb state (2 * Most.words) || ltb list (2 * Most.reachList))) ⌝ }
+// The one way in on bytes: makes the run in two fresh tables and stores both. A refusal stores nothing; another slice of the call may be short.
+fn make(
+    text: &[u8],
+    turns: &[u8],
+    short: bool,
+    program: &mut [u8],
+    state: &mut [u8],
+    p: &mut [u16],
+    s: &mut [u16],
+) -> Answer
+    requires { ⌜ (now p ≡ freshTable) × (now s ≡ freshTable) ⌝ }
+    ensures { λ r. ⌜ Stores (lentBytes (now (text .entry)) (now (turns .entry)) (now (program .entry)) (now (state .entry)) short) (now (turns .entry)) (now (program .entry)) (now (state .entry)) r (now (p .exit)) (now (s .exit)) (now (program .exit)) (now (state .exit)) ⌝ }
 {
-    if 16384 < text {
-        return rules::numbers::OVERLONG;
+    let any = (program.len() < TABLE) | ((state.len() < TABLE) | short);
+    let answer = run::make(text, turns, any, p, s);
+    if !run::is_refusal(answer) {
+        store(program, p);
+        store(state, s);
     }
-    if 32768 < turns {
-        return rules::numbers::OVERLONG; // before any 9
+    answer
+}
+
+// An answer in numbers: which end it is (0 finished, 1 stuck, 2 open, 3 stopped, 4 refused), and its numbers, 0 where there is none.
+fn tell(
+    answer: Answer,
+    number: &mut usize,
+    thread: &mut usize,
+    block: &mut usize,
+    line: &mut usize,
+    moves: &mut usize,
+) -> u16
+    ensures { λ r. ⌜ TellsAnswer answer r (now (number .exit)) (now (thread .exit)) (now (block .exit)) (now (line .exit)) (now (moves .exit)) ⌝ }
+{
+    *number = 0;
+    *thread = 0;
+    *block = 0;
+    *line = 0;
+    *moves = 0;
+    match answer {
+        Answer::Finished(m) => {
+            *moves = m as usize;
+            0
+        }
+        Answer::Stuck(m) => {
+            *moves = m as usize;
+            1
+        }
+        Answer::Open(m) => {
+            *moves = m as usize;
+            2
+        }
+        Answer::Stopped(k, t, b, l, m) => {
+            *number = k as usize;
+            *thread = t as usize;
+            *block = b as usize;
+            *line = l as usize;
+            *moves = m as usize;
+            3
+        }
+        Answer::Refused(k, l) => {
+            *number = k as usize;
+            *line = l;
+            4
+        }
     }
-    if program < TABLE {
-        return rules::numbers::SHORT_TABLE; // after both
-    }
-    if state < TABLE {
-        return rules::numbers::SHORT_TABLE;
-    }
-    if list < LIST {
-        return rules::numbers::SHORT_TABLE;
-    }
-    0
 }
 
 // Reads a script into a program table: 0, or the refusal's number and its line. A refusal changes no byte.
 #[no_mangle]
 pub extern "C" fn box_read(text: &[u8], program: &mut [u8], line: &mut usize) -> u16
-    ensures { λ r. ⌜ r ≡ numberOf (readBytes (now (text .entry)) (now (program .entry))) ⌝ }
-    ensures { λ _. ⌜ now (line .exit) ≡ lineOf (readBytes (now (text .entry)) (now (program .entry))) ⌝ }
-    ensures { λ _. ⌜ now (program .exit) ≡ tableAfter programWords (readBytes (now (text .entry)) (now (program .entry))) (now (program .entry)) ⌝ }
+    ensures { λ r. ⌜ HasRead (readBytes (now (text .entry)) (now (program .entry))) (now (program .entry)) r (now (line .exit)) (now (program .exit)) ⌝ }
 {
     *line = 0;
-    let refusal = early(text.len(), 0, program.len(), TABLE, LIST);
-    if 0 < refusal {
-        return refusal;
-    }
     let mut words = [0u16; 8192];
-    let answer = reader::read(text, &mut words);
+    let answer = reader::make(text, program.len() < TABLE, &mut words);
     match answer {
         reader::Answer::Refused(number, place) => {
             *line = place;
@@ -108,39 +141,12 @@ pub extern "C" fn box_run(
     line: &mut usize,
     moves: &mut usize,
 ) -> u16
-    ensures { λ r. ⌜ Tells (runAnswer mosts (now (turns .entry)) (runBytes (now (text .entry)) (now (turns .entry)) (now (program .entry)) (now (state .entry)))) r (now (number .exit)) (now (thread .exit)) (now (block .exit)) (now (line .exit)) (now (moves .exit)) ⌝ }
-    ensures { λ _. ⌜ now (program .exit) ≡ tableAfter programWords (runBytes (now (text .entry)) (now (turns .entry)) (now (program .entry)) (now (state .entry))) (now (program .entry)) ⌝ }
-    ensures { λ _. ⌜ now (state .exit) ≡ tableAfter (ranWords (now (turns .entry))) (runBytes (now (text .entry)) (now (turns .entry)) (now (program .entry)) (now (state .entry))) (now (state .entry)) ⌝ }
-    ensures { λ r. ⌜ Demand3 (runBytes (now (text .entry)) (now (turns .entry)) (now (program .entry)) (now (state .entry))) (now (turns .entry)) r (now (number .exit)) (now (thread .exit)) (now (block .exit)) (now (line .exit)) (now (moves .exit)) (now (state .exit)) ⌝ }
+    ensures { λ r. ⌜ HasRun (runBytes (now (text .entry)) (now (turns .entry)) (now (program .entry)) (now (state .entry))) (now (turns .entry)) (now (program .entry)) (now (state .entry)) r (now (number .exit)) (now (thread .exit)) (now (block .exit)) (now (line .exit)) (now (moves .exit)) (now (program .exit)) (now (state .exit)) ⌝ }
 {
-    let refusal = early(text.len(), turns.len(), program.len(), state.len(), LIST);
-    if 0 < refusal {
-        *number = refusal as usize;
-        *thread = 0;
-        *block = 0;
-        *line = 0;
-        *moves = 0;
-        return 4;
-    }
     let mut p = [0u16; 8192];
     let mut s = [0u16; 8192];
-    let end = run::run_in_numbers(
-        text,
-        turns,
-        &mut p,
-        &mut s,
-        number,
-        thread,
-        block,
-        line,
-        moves,
-    );
-    if end == 4 {
-        return end;
-    }
-    store(program, &p); // the run was made, also where a turn stopped it
-    store(state, &s);
-    end
+    let answer = make(text, turns, false, program, state, &mut p, &mut s);
+    tell(answer, number, thread, block, line, moves)
 }
 
 // Runs, then lists the objects that a thread reaches, in rising order: 0 and their count, or the refusal's number and its line. A refusal by 1
@@ -156,45 +162,37 @@ pub extern "C" fn box_reach(
     count: &mut usize,
     line: &mut usize,
 ) -> u16
-    ensures { λ r. ⌜ r ≡ reportNumber (reportBytes (now (text .entry)) (now (turns .entry)) (now (program .entry)) (now (state .entry)) thread (now (list .entry))) ⌝ }
-    ensures { λ _. ⌜ now (count .exit) ≡ reportCount (reportBytes (now (text .entry)) (now (turns .entry)) (now (program .entry)) (now (state .entry)) thread (now (list .entry))) ⌝ }
-    ensures { λ _. ⌜ now (line .exit) ≡ reportLine (reportBytes (now (text .entry)) (now (turns .entry)) (now (program .entry)) (now (state .entry)) thread (now (list .entry))) ⌝ }
-    ensures { λ _. ⌜ now (list .exit) ≡ listBytes (reportBytes (now (text .entry)) (now (turns .entry)) (now (program .entry)) (now (state .entry)) thread (now (list .entry))) (now (list .entry)) ⌝ }
-    ensures { λ _. ⌜ now (program .exit) ≡ tableAfter programWords (reachBytes (now (text .entry)) (now (turns .entry)) (now (program .entry)) (now (state .entry)) (now (list .entry))) (now (program .entry)) ⌝ }
-    ensures { λ _. ⌜ now (state .exit) ≡ tableAfter (ranWords (now (turns .entry))) (reachBytes (now (text .entry)) (now (turns .entry)) (now (program .entry)) (now (state .entry)) (now (list .entry))) (now (state .entry)) ⌝ }
+    ensures { λ r. ⌜ HasReported (reachBytes (now (text .entry)) (now (turns .entry)) (now (program .entry)) (now (state .entry)) (now (list .entry))) (now (turns .entry)) thread (now (program .entry)) (now (state .entry)) (now (list .entry)) r (now (count .exit)) (now (line .exit)) (now (program .exit)) (now (state .exit)) (now (list .exit)) ⌝ }
 {
     *count = 0;
     *line = 0;
-    let refusal = early(
-        text.len(),
-        turns.len(),
-        program.len(),
-        state.len(),
-        list.len(),
-    );
-    if 0 < refusal {
-        return refusal;
-    }
     let mut p = [0u16; 8192];
     let mut s = [0u16; 8192];
-    let mut objects = [0u16; 256];
-    let report = reach::reach(text, turns, &mut p, &mut s, thread, &mut objects);
-    match report {
-        reach::Report::Refused(number, at) => {
+    let answer = make(
+        text,
+        turns,
+        list.len() < LIST,
+        program,
+        state,
+        &mut p,
+        &mut s,
+    );
+    match answer {
+        Answer::Refused(number, at) => {
             *line = at;
-            if number < rules::numbers::NO_THREAD {
-                return number;
-            }
-            store(program, &p);
-            store(state, &s);
             number
         }
-        reach::Report::Reached(reached) => {
-            *count = reached;
-            store(program, &p);
-            store(state, &s);
-            store(list, &objects);
-            0
+        _ => {
+            let mut objects = [0u16; 256];
+            let report = reach::report_on(&p, &s, thread, &mut objects);
+            match report {
+                reach::Report::Refused(number, _) => number,
+                reach::Report::Reached(reached) => {
+                    *count = reached;
+                    store(list, &objects);
+                    0
+                }
+            }
         }
     }
 }

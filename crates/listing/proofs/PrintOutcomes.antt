@@ -2,34 +2,33 @@
 use Prim.Native.Nat.{ℕ, _≤_, _<_}
 use native.Mathlib.Nat.{zero-add}
 use native.Mathlib.Omega.{arith}
-use mathlib.Core.Path.{_≡_, refl, sym, ap, _∙_, subst}
+use mathlib.Core.Path.{_≡_, refl, sym, ap, _∙_}
 use mathlib.Core.Bool.{true, false, _||_}
-use mathlib.Core.List.{List}
+use mathlib.Core.List.{List, []}
 use lib.Dec.{ltb}
 use lib.ListN.{length, drop, length-append}
-use borrow.Author.Tests.{lt-ltb, le-ltb, ltb-false}
+use borrow.Author.Tests.{lt-ltb, le-ltb}
 use Rattle.rules.specs.Mosts as Most
 use Rattle.rules.specs.Mosts.{mosts}
 use Rattle.rules.specs.Numbers as No
-use Rattle.rules.specs.Reading.{Reading, turnedAway, accepted, reading}
+use Rattle.rules.specs.Reading.{Reading, reading}
 use Rattle.rules.specs.Run as R
 use Rattle.rules.specs.Run.{finished, stuck, openEnd, refused, ended, halted, run, answer}
-use Rattle.rules.specs.Calls.{longText, longTurns, shortTable, runCall, runAnswer, stateAfter}
+use Rattle.rules.specs.Calls.{longText, longTurns, inputs}
 use Rattle.rules.specs.Listing.{answerLine, stateLines, listing}
 use Rattle.rules.specs.Input.{ranOn, printed}
-use Rattle.rules.proofs.ListLaws.{impossible, by-bool, or-false}
-use Rattle.rules.proofs.Accepted.{accepted-valid, reading-accepted}
-use Rattle.rules.proofs.Keeps.{fits-run}
+use Rattle.rules.proofs.ListLaws.{impossible, by-bool}
+use Rattle.table.specs.ProgramTable.{freshTable}
 use Rattle.table.specs.StateTable.{Any}
 use Rattle.run.specs.declared.Answer.{Answer}
-use Rattle.run.specs.declared.Answer.the-variants as A
-use Rattle.run.specs.RunAnswers.{answerOf}
-use Rattle.run.proofs.AnswerTells.{Made, run-made}
+use Rattle.run.specs.RunAnswers.{answerOf, isRefusal}
+use Rattle.run.specs.Made.{Made, Makes}
+use Rattle.run.proofs.AnswerTells.{made-is, refused-is}
 use Rattle.listing.specs.declared.Printed.{Printed}
 use Rattle.listing.specs.declared.Printed.the-variants.{Refused, Written}
 use Rattle.buffer.specs.Writing.{over, Wrote}
 use Rattle.listing.specs.StateWriting.{Writes}
-use Rattle.listing.specs.Outputs.{runText, outputBytes, printedOf, outputAfter, answerText, isRefusal}
+use Rattle.listing.specs.Outputs.{runText, outputBytes, printedOf, outputAfter, answerText}
 use Rattle.buffer.proofs.Appends.{_▹_, same-text}
 
 -- ---- The answer's line
@@ -41,40 +40,23 @@ answer-line (ended stuck m) = refl
 answer-line (ended openEnd m) = refl
 answer-line (halted k t b l m) = refl
 
-no-refusal : (a : Answer) → Made a → isRefusal a ≡ false
-no-refusal (A.Refused k n) made = absurd made
-no-refusal (A.Finished m) made = refl
-no-refusal (A.Stuck m) made = refl
-no-refusal (A.Open m) made = refl
-no-refusal (A.Stopped k t b l m) made = refl
+-- ---- The run's text, of what the inputs come to
 
--- ---- The run's text, of the reading
+module _ (turns p s : List ℕ) (a : Answer) where
+  refused-text : (C : Reading) → Made C turns a p s → isRefusal a ≡ true → answerText a ≡ printed (ranOn mosts turns C)
+  refused-text C made refusal =
+      let away = refused-is turns p s C made refusal in
+      ap answerText (away .answer) ∙ sym (ap (λ (x : Reading). printed (ranOn mosts turns x)) (away .is))
 
-module _ (turns : List ℕ) {a : Answer} where
-  refused-text : (C : Reading) → a ≡ answerOf (runAnswer mosts turns C) → isRefusal a ≡ true → answerText a ≡ printed (ranOn mosts turns C)
-  refused-text (turnedAway k n) answers refusal = ap answerText answers
-  refused-text (accepted P) answers refusal =
-      let never : isRefusal a ≡ false = no-refusal a (subst Made (sym answers) (run-made P turns)) in
-      let both = sym refusal ∙ never in
-      impossible cc
-
-few-turns : (text turns : List ℕ) → (longText text || longTurns turns) ≡ false → length turns ≤ Most.turns
-unfolding longTurns
-few-turns text turns e = ltb-false Most.turns (length turns) (or-false (longText text) (longTurns turns) e .1)
-
-module _ (text turns state : List ℕ) {a : Answer} {s l l₁ l₂ : List ℕ} {at r : ℕ} where
-  made-text : (C : Reading) → reading mosts (longText text || longTurns turns) false text ≡ C → a ≡ answerOf (runAnswer mosts turns C) → s ≡ stateAfter mosts turns C state
-      → isRefusal a ≡ false → Wrote 40 l l₁ 0 at (answerText a) → Writes 26368 s l₁ l₂ at r Any stateLines → Wrote 26408 l l₂ 0 r (printed (ranOn mosts turns C))
+  made-text : {l l₁ l₂ : List ℕ} {at r : ℕ} (C : Reading) → Made C turns a p s → isRefusal a ≡ false → Wrote 40 l l₁ 0 at (answerText a)
+      → Writes 26368 s l₁ l₂ at r Any stateLines → Wrote 26408 l l₂ 0 r (printed (ranOn mosts turns C))
   unfolding listing
-  made-text (turnedAway k n) is answers leaves made w ws =
-      let never = sym made ∙ ap isRefusal answers in
-      impossible cc
-  made-text (accepted P) is answers leaves made w ws =
+  made-text C made e w ws =
+      let one = made-is turns p s C made e in
+      let P = one .program in
       let S = run mosts P turns .state in
-      let so = reading-accepted mosts (longText text || longTurns turns) false text P is in
-      let fits = fits-run P turns (accepted-valid mosts text P (so .2)) (few-turns text turns (so .0)) in
-      let line : answerText a ≡ answerLine (answer mosts P (run mosts P turns)) = ap answerText answers ∙ answer-line (answer mosts P (run mosts P turns)) in
-      same-text 26408 refl (omega arith) (same-text 40 line (omega arith) w ▹ ws .writes P Most.turns S (drop Most.words state) (record { words = leaves }) fits tt)
+      let line : answerText a ≡ answerLine (answer mosts P (run mosts P turns)) = ap answerText (one .holds .answers) ∙ answer-line (answer mosts P (run mosts P turns)) in
+      rw (one .is) (same-text 26408 refl (omega arith) (same-text 40 line (omega arith) w ▹ ws .writes P Most.turns S [] (one .holds .held) (one .holds .fits) tt))
 
 -- ---- What the printing answers and leaves
 
@@ -104,22 +86,18 @@ pub short-output : (text l : List ℕ) → length l < outputBytes → (Refused N
 unfolding printedOf outputAfter
 short-output text l short = rw (lt-ltb (length l) outputBytes short) (refl, refl)
 
-module _ (text turns program state : List ℕ) {a : Answer} {l l₁ : List ℕ} {at : ℕ} (program-long : Most.words ≤ length program) (state-long : Most.words ≤ length state)
-    (answers : a ≡ answerOf (runAnswer mosts turns (runCall mosts text turns program state))) (long : outputBytes ≤ length l) (w : Wrote 40 l l₁ 0 at (answerText a)) where
-  -- the tables are long enough
-  as-reading : runCall mosts text turns program state ≡ reading mosts (longText text || longTurns turns) false text
-  unfolding runCall shortTable
-  as-reading = rw (le-ltb _ _ program-long, le-ltb _ _ state-long) refl
+module _ (text turns : List ℕ) {a : Answer} {program state p s l l₁ : List ℕ} {at : ℕ} (program-fresh : program ≡ freshTable) (state-fresh : state ≡ freshTable)
+    (made : Makes text turns false program state a p s) (long : outputBytes ≤ length l) (w : Wrote 40 l l₁ 0 at (answerText a)) where
+  by-inputs : Made (reading mosts (longText text || longTurns turns) false text) turns a p s
+  unfolding inputs
+  by-inputs = made .makes program-fresh state-fresh
 
   pub prints-refusal : isRefusal a ≡ true → Prints (runText text turns) l at l₁
   unfolding runText
   prints-refusal refusal =
       in-output (runText text turns) long
-      (same-text 40 (refused-text turns (reading mosts (longText text || longTurns turns) false text) (rw as-reading at answers) refusal) (omega arith) w)
+      (same-text 40 (refused-text turns p s a (reading mosts (longText text || longTurns turns) false text) by-inputs refusal) (omega arith) w)
 
-  pub prints-run : {s l₂ : List ℕ} {r : ℕ} → s ≡ stateAfter mosts turns (runCall mosts text turns program state) state → isRefusal a ≡ false
-      → Writes 26368 s l₁ l₂ at r Any stateLines → Prints (runText text turns) l r l₂
+  pub prints-run : {l₂ : List ℕ} {r : ℕ} → isRefusal a ≡ false → Writes 26368 s l₁ l₂ at r Any stateLines → Prints (runText text turns) l r l₂
   unfolding runText
-  prints-run leaves made ws =
-      in-output (runText text turns) long
-      (made-text text turns state (reading mosts (longText text || longTurns turns) false text) refl (rw as-reading at answers) (rw as-reading at leaves) made w ws)
+  prints-run e ws = in-output (runText text turns) long (made-text turns p s a (reading mosts (longText text || longTurns turns) false text) by-inputs e w ws)

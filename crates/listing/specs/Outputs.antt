@@ -1,6 +1,6 @@
 -- The printed run in a lent output. `printedOf` and `outputAfter` speak of any text.
 use Prim.Native.Nat.{ℕ}
-use mathlib.Core.Bool.{Bool, true, false, _||_, cond}
+use mathlib.Core.Bool.{false, _||_, cond}
 use mathlib.Core.List.{List, _++_}
 use lib.Dec.{ltb}
 use lib.ListN.{length, drop}
@@ -39,11 +39,3 @@ answerText (R.Finished m) = answerLine (ended finished m)
 answerText (R.Stuck m) = answerLine (ended stuck m)
 answerText (R.Open m) = answerLine (ended openEnd m)
 answerText (R.Stopped k t b l m) = answerLine (halted k t b l m)
-
--- a refusal leaves no state to print
-abbrev pub isRefusal : Run.Answer → Bool
-isRefusal (R.Refused k n) = true
-isRefusal (R.Finished m) = false
-isRefusal (R.Stuck m) = false
-isRefusal (R.Open m) = false
-isRefusal (R.Stopped k t b l m) = false

@@ -1,7 +1,7 @@
 // The line of what the run answers.
-use run::Answer;
 use buffer::put_number;
 use buffer::put_text;
+use run::Answer;
 ghost use mathlib.Core.Path.{_≡_};
 ghost use mathlib.Core.List.{_++_};
 ghost use Prim.Native.Nat.{_+_, _≤_};
@@ -10,7 +10,7 @@ ghost use Rattle.rules.specs.Text.{bytes};
 ghost use Rattle.rules.specs.Run.{refused, halted};
 ghost use Rattle.rules.specs.Listing.{answerLine};
 ghost use Rattle.buffer.specs.Writing.{Wrote, numberPart};
-ghost use Rattle.listing.specs.Outputs.{answerText, isRefusal};
+ghost use Rattle.listing.specs.Outputs.{answerText};
 
 pub fn put_refused(buf: &mut [u8], at: usize, number: u16, line: usize) -> usize
     requires { ⌜ at + 22 ≤ length (now buf) ⌝ }
@@ -66,17 +66,5 @@ pub fn put_answer(buf: &mut [u8], at: usize, answer: Answer) -> usize
         Answer::Stopped(number, thread, block, line, moves) => {
             put_stopped(buf, at, number, thread, block, line, moves)
         }
-    }
-}
-
-pub fn is_refusal(answer: Answer) -> bool
-    ensures { λ r. ⌜ r ≡ isRefusal answer ⌝ }
-{
-    match answer {
-        Answer::Refused(_, _) => true,
-        Answer::Finished(_) => false,
-        Answer::Stuck(_) => false,
-        Answer::Open(_) => false,
-        Answer::Stopped(_, _, _, _, _) => false,
     }
 }

@@ -3,15 +3,13 @@ mod answers;
 mod state_lines;
 mod values;
 
-use answers::is_refusal;
 use answers::put_answer;
 use answers::put_refused;
 use state_lines::put_state;
 ghost use mathlib.Core.Path.{_≡_};
-ghost use Prim.Native.Nat.{_≤_};
-ghost use lib.ListN.{length};
 ghost use Rattle.rules.specs.Run.{refused};
 ghost use Rattle.rules.specs.Listing.{answerLine};
+ghost use Rattle.table.specs.ProgramTable.{freshTable};
 ghost use Rattle.listing.specs.Outputs.{runText, printedOf, outputAfter};
 
 // What a printing answers: the output is turned away, with document 01's number and line 0; or how many bytes are written.
@@ -20,7 +18,7 @@ pub enum Printed {
     Written(usize),
 }
 
-// On the two tables that a run needs.
+// In two fresh tables.
 fn print_on(
     text: &[u8],
     turns: &[u8],
@@ -28,16 +26,16 @@ fn print_on(
     state: &mut [u16],
     output: &mut [u8],
 ) -> Printed
-    requires { ⌜ (8192 ≤ length (now program)) × (8192 ≤ length (now state)) ⌝ }
+    requires { ⌜ (now program ≡ freshTable) × (now state ≡ freshTable) ⌝ }
     ensures { λ r. ⌜ r ≡ printedOf (runText (now (text .entry)) (now (turns .entry))) (now (output .entry)) ⌝ }
     ensures { λ _. ⌜ now (output .exit) ≡ outputAfter (runText (now (text .entry)) (now (turns .entry))) (now (output .entry)) ⌝ }
 {
     if output.len() < 32768 {
         return Printed::Refused(rules::numbers::SHORT_TABLE, 0);
     }
-    let answer = run::run(text, turns, program, state);
+    let answer = run::make(text, turns, false, program, state);
     let at = put_answer(output, 0, answer);
-    if is_refusal(answer) {
+    if run::is_refusal(answer) {
         return Printed::Written(at);
     }
     Printed::Written(put_state(output, at, state))

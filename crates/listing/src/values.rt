@@ -1,8 +1,8 @@
 // Values written into a lent buffer, each after a space, which is written with it.
-use rules::Value;
 use buffer::put_byte;
 use buffer::put_number;
 use buffer::put_text;
+use rules::Value;
 ghost use mathlib.Core.List.{_∷_};
 ghost use Prim.Native.Nat.{_+_, _≤_};
 ghost use lib.ListN.{length};

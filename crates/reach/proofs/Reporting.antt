@@ -1,45 +1,41 @@
--- The report: the objects met are what is reached, and in rising order they are the one list of it. Before it: 1, 9, and what the run answers.
+-- The report: the objects met are what is reached, and in rising order they are the one list of it. Before it: what the run answers.
 use Prim.Native.Nat.{ℕ, _%_, _≤_, _<_}
 use native.Mathlib.Nat.{mod-eq-of-lt}
 use native.Mathlib.Omega.{arith}
 use mathlib.Core.Path.{_≡_, refl, sym, ap, _∙_, subst}
-use mathlib.Core.Bool.{Bool, true, not}
+use mathlib.Core.Bool.{Bool, true, false, not}
 use mathlib.Core.List.{List, [], _++_}
 use mathlib.Core.Logic.{_↔_}
-use lib.Dec.{eqb}
-use lib.ListN.{length, getD, drop, replicate, length-append}
-use borrow.Author.Tests.{eqb-true, eqb-false, lt-ltb, le-ltb}
+use lib.Dec.{eqb, ltb}
+use lib.ListN.{length, getD, drop, replicate}
+use borrow.Author.Tests.{eqb-true, eqb-false, lt-ltb, le-ltb, ltb-false}
 use Rattle.rules.specs.declared.Value.{Value}
 use Rattle.rules.specs.Mosts as Most
 use Rattle.rules.specs.Mosts.{mosts}
 use Rattle.rules.specs.Numbers as No
 use Rattle.rules.specs.Script.{Program}
-use Rattle.rules.specs.Reading.{Reading, turnedAway, accepted, reading}
-use Rattle.rules.specs.Valid.{Valid}
+use Rattle.rules.specs.Reading.{Reading, turnedAway}
 use Rattle.rules.specs.State.{Object, State}
 use Rattle.rules.specs.Fits.{Fits}
 use Rattle.rules.specs.Run.{run}
-use Rattle.rules.specs.Tables.{programWords, stateWords}
 use Rattle.rules.specs.Reach.{count, times, ReachedFrom, roots, reachList}
-use Rattle.rules.specs.Calls.{longText, longTurns, shortTable, runCall, runAnswer, reachCall, programAfter, stateAfter, reportOn, reachReport, listWords}
-use Rattle.rules.proofs.ListLaws.{by-bool, of-not}
-use Rattle.rules.proofs.Accepted.{accepted-valid, reading-accepted}
+use Rattle.rules.specs.Calls.{shortTable, inputs, lentInputs, reachCall, reportOn, reachReport, listWords}
+use Rattle.rules.proofs.ListLaws.{by-bool, of-not, or-false}
+use Rattle.rules.proofs.Accepted.{reading-accepted}
 use Rattle.rules.proofs.Counts.{times-among, times-not-among}
-use Rattle.rules.proofs.Keeps.{fits-run}
 use Rattle.rules.proofs.Walks.{walked-reached}
 use Rattle.rules.proofs.Reports.{rising-lists, roots-made, reached-range, reach-lists}
-use Rattle.rules.proofs.TableWords.{program-words-length, state-words-length}
 use Rattle.table.specs.StateTable.{Held, Sees, Any}
 use Rattle.walk.specs.Walking.{Tally, tally}
 use Rattle.walk.proofs.Numbers.{number-met, no-number-not-met, none-numbered}
-use Rattle.turn.proofs.Located.{words-loaded}
 use Rattle.run.specs.declared.Answer.{Answer}
 use Rattle.run.specs.declared.Answer.the-variants.{Refused}
-use Rattle.run.specs.RunAnswers.{answerOf}
-use Rattle.run.proofs.AnswerTells.{IsAccepted, Made, made-is, refusal-is}
+use Rattle.run.specs.RunAnswers.{isRefusal, Ran}
+use Rattle.run.proofs.AnswerTells.{refusal-is}
+use Rattle.run.proofs.Answering.{Stands, ran-stands}
 use Rattle.reach.specs.declared.Report.{Report}
 use Rattle.reach.specs.declared.Report.the-variants as T
-use Rattle.reach.specs.Reported.{Reports, WalkedAll, WalksRoots, metBelow, ReportsState}
+use Rattle.reach.specs.Reported.{Reports, WalkedAll, WalksRoots, metBelow, ReportsState, Reached}
 
 -- ---- The report on a state
 
@@ -71,11 +67,21 @@ met-list {P} {n} {S} t {w} fits walked =
     low : (x : ℕ) → ReachedFrom (S .objects) (roots P S t) x → x < 256
     low x r = omega (arith, fits .few-objects, reached-range fits (roots P S t) (roots-made fits t) x r)
 
+-- nothing is promised of what is too short
+pub no-program : {p s list : List ℕ} {t : ℕ} {r : Report} → length p < Most.words → ReportsState p s t list r list
+no-program short = record { reports = λ p-long s-long list-long P n S rest loaded held valid fits. absurd (omega arith) }
+
+pub no-state : {p s list : List ℕ} {t : ℕ} {r : Report} → length s < Most.words → ReportsState p s t list r list
+no-state short = record { reports = λ p-long s-long list-long P n S rest loaded held valid fits. absurd (omega arith) }
+
+pub no-list : {p s list : List ℕ} {t : ℕ} {r : Report} → length list < Most.reachList → ReportsState p s t list r list
+no-list short = record { reports = λ p-long s-long list-long P n S rest loaded held valid fits. absurd (omega arith) }
+
 module _ {p s list : List ℕ} {t d : ℕ} (counted : Sees s Any (λ S. length (S .threads)) d) where
   pub not-reported : d ≤ t → ReportsState p s t list (T.Refused No.noThread 0) list
   not-reported past =
       record {
-        reports = λ P n S rest loaded held valid fits.
+        reports = λ p-long s-long list-long P n S rest loaded held valid fits.
             let few : length (S .threads) ≤ t = omega (arith, counted .sees S rest held tt) in
             subst (λ (b : Bool). Reports (reportOn P S t b) list (T.Refused No.noThread 0) list) (sym (le-ltb t (length (S .threads)) few)) (record { answers = refl; leaves = refl });
       }
@@ -84,7 +90,7 @@ module _ {p s list : List ℕ} {t d : ℕ} (counted : Sees s Any (λ S. length (
       → r ≡ length (metBelow 256 (w .places)) → list₁ ≡ listWords (metBelow 256 (w .places)) ++ drop Most.reachList list → ReportsState p s t list (T.Reached r) list₁
   reported {order} {w} {r} {list₁} there walks number words =
       record {
-        reports = λ P n S rest loaded held valid fits.
+        reports = λ p-long s-long list-long P n S rest loaded held valid fits.
             let started : t < length (S .threads) = omega (arith, counted .sees S rest held tt) in
             let place : t % 16 ≡ t = mod-eq-of-lt (omega (arith, fits .few-threads)) in
             let walked : WalkedAll S (roots P S t) [] w = rw place at (walks .walks P n S rest [] loaded held valid fits (none-numbered 256 order)) in
@@ -96,90 +102,37 @@ module _ {p s list : List ℕ} {t d : ℕ} (counted : Sees s Any (λ S. length (
             });
       }
 
--- ---- 1 and 9, then what the run is
+-- ---- The report on a run
 
-module _ (text turns program state list : List ℕ) where
-  pub text-long : Most.text < length text → reachCall mosts text turns program state list ≡ turnedAway No.overlong 0
-  unfolding reachCall reading longText
-  text-long long = rw (lt-ltb _ _ long) refl
-
-  pub turns-long : length text ≤ Most.text → Most.turns < length turns → reachCall mosts text turns program state list ≡ turnedAway No.overlong 0
-  unfolding reachCall reading longText longTurns
-  turns-long few long = rw (le-ltb _ _ few, lt-ltb _ _ long) refl
-
-  pub list-short : length text ≤ Most.text → length turns ≤ Most.turns → length list < Most.reachList
-      → reachCall mosts text turns program state list ≡ turnedAway No.shortTable 0
-  unfolding reachCall reading longText longTurns
-  list-short few few-turns short =
-      rw (le-ltb _ _ few, le-ltb _ _ few-turns, lt-ltb _ _ short)
-      (by-bool (shortTable program) (λ t. rw t refl) (λ t. rw t (by-bool (shortTable state) (λ u. rw u refl) (λ u. rw u refl))))
-
-  pub as-run : Most.reachList ≤ length list → reachCall mosts text turns program state list ≡ runCall mosts text turns program state
-  unfolding reachCall runCall
-  as-run long =
-      rw (le-ltb (length list) Most.reachList long)
-      (by-bool (shortTable program) (λ t. rw t refl) (λ t. rw t (by-bool (shortTable state) (λ u. rw u refl) (λ u. rw u refl))))
-
--- ---- What the report ensures, of the reading C
-
-pub record Told (C : Reading) (turns : List ℕ) (t : ℕ) (program state list : List ℕ) (r : Report) (p s list₁ : List ℕ) : Type 0 where
-  pub report : Reports (reachReport mosts turns t C) list r list₁
-  pub program-is : p ≡ programAfter C program
-  pub state-is : s ≡ stateAfter mosts turns C state
-
-pub of-same : {C C′ : Reading} {turns program state list p s list₁ : List ℕ} {t : ℕ} {r : Report} → C ≡ C′ → Told C′ turns t program state list r p s list₁
-    → Told C turns t program state list r p s list₁
-of-same e x = rw e x
-
-pub turned-away : {C : Reading} {k n : ℕ} (turns : List ℕ) (t : ℕ) (program state list : List ℕ) → C ≡ turnedAway k n
-    → Told C turns t program state list (T.Refused k n) program state list
-turned-away turns t program state list e = rw e (record { report = record { answers = refl; leaves = refl }; program-is = refl; state-is = refl })
-
-module _ (C : Reading) (turns : List ℕ) (t : ℕ) (program state list : List ℕ) {p s : List ℕ} {a : Answer} (answers : a ≡ answerOf (runAnswer mosts turns C))
-    (program-is : p ≡ programAfter C program) (state-is : s ≡ stateAfter mosts turns C state) where
+module _ (text turns program state list : List ℕ) (t : ℕ) {a : Answer} {p s : List ℕ}
+    (ran : Ran (lentInputs mosts text turns program state (ltb (length list) Most.reachList)) turns program state a p s) where
   -- the run was turned away
-  pub turned-away-by-run : {k n : ℕ} → a ≡ Refused k n → Told C turns t program state list (T.Refused k n) p s list
-  turned-away-by-run e =
-      let is = refusal-is turns C (sym e ∙ answers) in
-      let same-program = rw is at program-is in
-      let same-state = rw is at state-is in
-      rw (same-program, same-state) (turned-away turns t program state list is)
-
-run-valid : (text turns program state : List ℕ) (P : Program) → runCall mosts text turns program state ≡ accepted P → Valid mosts P
-unfolding runCall
-run-valid text turns program state P e = accepted-valid mosts text P (reading-accepted mosts _ _ text P e .2)
-
-module _ (text turns program state : List ℕ) {s : List ℕ} {a b : Answer} (answers : a ≡ answerOf (runAnswer mosts turns (runCall mosts text turns program state)))
-    (state-is : s ≡ stateAfter mosts turns (runCall mosts text turns program state) state) (is : a ≡ b) (made : Made b) where
-  run-is : IsAccepted (runCall mosts text turns program state)
-  run-is = made-is turns (runCall mosts text turns program state) (subst Made (sym is ∙ answers) made)
-
-  state-there : s ≡ stateWords (run mosts (run-is .program) turns .state) ++ drop Most.words state
-  state-there = state-is ∙ ap (λ (C : Reading). stateAfter mosts turns C state) (run-is .is)
-
-  module _ {p : List ℕ} (program-is : p ≡ programAfter (runCall mosts text turns program state) program) where
-    program-there : p ≡ programWords (run-is .program) ++ drop Most.words program
-    program-there = program-is ∙ ap (λ (C : Reading). programAfter C program) (run-is .is)
-
-    pub tables-there : (Most.words ≤ length p) × (Most.words ≤ length s)
-    tables-there =
-        let P = run-is .program in
-        let S = run mosts P turns .state in (
-          omega (arith, ap length program-there, length-append (programWords P) (drop Most.words program), program-words-length P),
-          omega (arith, ap length state-there, length-append (stateWords S) (drop Most.words state), state-words-length S),
-        )
+  pub reach-away : {k n : ℕ} → a ≡ Refused k n → Reached (reachCall mosts text turns program state list) turns t program state list (T.Refused k n) p s list
+  unfolding reachCall
+  reach-away {k} {n} is =
+      let C = lentInputs mosts text turns program state (ltb (length list) Most.reachList) in
+      let away : C ≡ turnedAway k n = refusal-is turns C (sym is ∙ ran .answers) in
+      record {
+        report = rw away (record { answers = refl; leaves = refl });
+        program-is = ran .program-is;
+        state-is = ran .state-is;
+      }
 
   -- the run was made
-  pub told : {t : ℕ} {p list list₁ : List ℕ} {r : Report} → length turns ≤ Most.turns → p ≡ programAfter (runCall mosts text turns program state) program
-      → ReportsState p s t list r list₁ → Told (runCall mosts text turns program state) turns t program state list r p s list₁
-  told {t} {p} {list} {list₁} {r} few program-is reports =
-      let P = run-is .program in
-      let valid = run-valid text turns program state P (run-is .is) in
-      let loaded = words-loaded P valid (drop Most.words program) (program-there program-is) in
-      let held : Held s (run mosts P turns .state) (drop Most.words state) = record { words = state-there } in
-      record {
-        report = subst (λ (C : Reading). Reports (reachReport mosts turns t C) list r list₁) (sym (run-is .is))
-            (reports .reports P Most.turns (run mosts P turns .state) (drop Most.words state) loaded held valid (fits-run P turns valid few));
-        program-is = program-is;
-        state-is = state-is;
-      }
+  module _ (e : isRefusal a ≡ false) where
+    stands : Stands (lentInputs mosts text turns program state (ltb (length list) Most.reachList)) turns state p s
+    stands = ran-stands text turns program state (ltb (length list) Most.reachList) ran e
+
+    pub reach-told : {list₁ : List ℕ} {r : Report} → ReportsState p s t list r list₁
+        → Reached (reachCall mosts text turns program state list) turns t program state list r p s list₁
+    unfolding reachCall lentInputs inputs
+    reach-told {list₁} {r} reports =
+        let P = stands .program in
+        let S = run mosts P turns .state in
+        let full = or-false (shortTable state) _ (or-false (shortTable program) _ (reading-accepted mosts _ _ text P (stands .is) .1) .1) .1 in
+        record {
+          report = subst (λ (C : Reading). Reports (reachReport mosts turns t C) list r list₁) (sym (stands .is))
+              (reports .reports (stands .long .0) (stands .long .1) (ltb-false _ _ full) P Most.turns S (drop Most.words state) (stands .loaded) (stands .held) (stands .valid) (stands .fits));
+          program-is = ran .program-is;
+          state-is = ran .state-is;
+        }

@@ -1,5 +1,5 @@
 -- What each part of the report does.
-use Prim.Native.Nat.{ℕ, _+_}
+use Prim.Native.Nat.{ℕ, _+_, _≤_}
 use mathlib.Core.Path.{_≡_}
 use mathlib.Core.Bool.{not, cond}
 use mathlib.Core.List.{List}
@@ -7,7 +7,9 @@ use lib.Dec.{eqb, ltb}
 use lib.ListN.{length, getD}
 use Rattle.rules.specs.declared.Value.{Value}
 use Rattle.rules.specs.declared.Value.the-variants.{Absent}
+use Rattle.rules.specs.Mosts as Most
 use Rattle.rules.specs.Mosts.{mosts}
+use Rattle.rules.specs.Reading.{Reading}
 use Rattle.rules.specs.Lists.{rising}
 use Rattle.rules.specs.Script.{Program}
 use Rattle.rules.specs.Valid.{Valid}
@@ -15,17 +17,17 @@ use Rattle.rules.specs.State.{State, threadAt, channelAt}
 use Rattle.rules.specs.Fits.{Fits}
 use Rattle.rules.specs.Reach.{count, slotsOf, inFlight, roots}
 use Rattle.rules.specs.Calls as Calls
-use Rattle.rules.specs.Calls.{unreported, reached, reportOn, listAfter}
+use Rattle.rules.specs.Calls.{unreported, reached, reportOn, reachReport, programAfter, stateAfter, listAfter}
 use Rattle.table.specs.StateTable.{Held}
 use Rattle.walk.specs.Walking.{Tally, Numbered, WalkedTo}
 use Rattle.turn.specs.Performed.{Loaded}
 use Rattle.reach.specs.declared.Report.{Report}
-use Rattle.reach.specs.declared.Report.the-variants.{Refused, Reached}
+use Rattle.reach.specs.declared.Report.the-variants as T
 
 -- the report as the code's enum: "with their number"
 abbrev pub reportOf : Calls.Report → Report
-reportOf (unreported k n) = Refused k n
-reportOf (reached objects) = Reached (length objects)
+reportOf (unreported k n) = T.Refused k n
+reportOf (reached objects) = T.Reached (length objects)
 
 -- the answer is this report's, and so is the list
 pub record Reports (R : Calls.Report) (list : List ℕ) (r : Report) (list₁ : List ℕ) : Type 0 where
@@ -62,7 +64,16 @@ pub record WalksRoots (p s : List ℕ) (w : Tally) (t : ℕ) (w₁ : Tally) : Ty
 abbrev pub metBelow : ℕ → (places : List ℕ) → List ℕ
 metBelow k places = rising k (λ x. not (eqb (getD places x 0) 0))
 
--- the report on the program and the state that a run left
+-- ---- The report
+
+-- on the program and the state that a run left in two tables
 pub record ReportsState (p s : List ℕ) (t : ℕ) (list : List ℕ) (r : Report) (list₁ : List ℕ) : Type 0 where
-  pub reports : (P : Program) (n : ℕ) (S : State) (rest : List ℕ) → Loaded p P → Held s S rest → Valid mosts P → Fits mosts P n S
+  pub reports : Most.words ≤ length p → Most.words ≤ length s → Most.reachList ≤ length list
+      → (P : Program) (n : ℕ) (S : State) (rest : List ℕ) → Loaded p P → Held s S rest → Valid mosts P → Fits mosts P n S
       → Reports (reportOn P S t (ltb t (length (S .threads)))) list r list₁
+
+-- what a report answers and leaves in what it was lent, by what its inputs come to
+pub record Reached (C : Reading) (turns : List ℕ) (t : ℕ) (program state list : List ℕ) (r : Report) (program₁ state₁ list₁ : List ℕ) : Type 0 where
+  pub report : Reports (reachReport mosts turns t C) list r list₁
+  pub program-is : program₁ ≡ programAfter C program
+  pub state-is : state₁ ≡ stateAfter mosts turns C state

@@ -5,4 +5,4 @@ mod LineChecks
 mod Scan
 mod Links
 -- what reading comes to
-mod Outcome
+pub mod Outcome

@@ -3,12 +3,12 @@ use Prim.Native.Nat.{ℕ, suc, _+_, _-_, _≤_, _<_}
 use native.Mathlib.Nat.{add-comm}
 use native.Mathlib.Omega.{arith}
 use mathlib.Core.Path.{_≡_, refl, sym, ap, ap₂, _∙_, subst}
-use mathlib.Core.Bool.{false, not, _||_, cond}
+use mathlib.Core.Bool.{Bool, true, false, not, _||_, cond}
 use mathlib.Core.List.{List, [], _∷_, _++_, append-nil}
 use lib.Dec.{ltb, eqb}
 use lib.ListN.{length, take, drop, replicate, length-replicate, replicate-append-replicate, length-drop}
 use lib.Seq.{take-at, take-all}
-use borrow.Author.Tests.{lt-ltb, le-ltb, eqb-true}
+use borrow.Author.Tests.{lt-ltb, le-ltb, ltb-false, eqb-true}
 use Rattle.rules.specs.declared.Mosts.{Mosts}
 use Rattle.rules.specs.Mosts as Most
 use Rattle.rules.specs.Mosts.{mosts}
@@ -20,12 +20,17 @@ use Rattle.rules.specs.Templates.{took, unfit, fit, scriptT}
 use Rattle.rules.specs.Reading as R
 use Rattle.rules.specs.Reading.{Sofar, nothing, faulty, scanned, Reading, turnedAway, accepted, link, linesBefore, linked, scriptOf, script, reading}
 use Rattle.rules.specs.Tables.{firstLines, editionWord, programWords}
-use Rattle.rules.specs.Calls.{longText, shortTable, readCall}
-use Rattle.rules.proofs.ListLaws.{by-bool, or-false}
+use Rattle.rules.specs.Calls.{longText, shortTable, readCall, programAfter}
+use Rattle.rules.proofs.ListLaws.{impossible, by-bool, or-false}
+use Rattle.rules.proofs.Accepted.{reading-accepted}
+use Rattle.rules.proofs.TableWords.{program-words-length}
 use Rattle.rules.proofs.Scanned.{Scanned, ended, passed, scan-passed, lines-scanned}
 use Rattle.grammar.specs.Decoded.{overLine}
-use Rattle.table.specs.ProgramTable.{lineTable, Filled}
-use Rattle.table.proofs.ProgramTable.{program-words-by-lines}
+use Rattle.table.specs.ProgramTable.{freshTable, lineTable, Filled, Counted}
+use Rattle.table.proofs.ProgramTable.{fresh-length, program-words-by-lines}
+use Rattle.reader.specs.declared.Answer.{Answer}
+use Rattle.reader.specs.declared.Answer.the-variants.{Read, Refused}
+use Rattle.reader.specs.ReadAnswers.{answerOf, Made, Makes}
 use Rattle.reader.specs.Sofar.{editionOf}
 use Rattle.reader.specs.Scanning.{Done-with, ScansTo, Scans}
 use Rattle.reader.specs.declared.scanning.Scan.{Scan}
@@ -35,13 +40,28 @@ use Rattle.reader.proofs.LineChecks.{over-most}
 
 -- ---- 1 and 9
 
-pub too-long : (text table : List ℕ) → Most.text < length text → readCall mosts text table ≡ turnedAway No.overlong 0
-unfolding readCall reading longText
-too-long text table h = rw (lt-ltb _ _ h)
+-- what a text comes to where the caller tells whether a slice is short
+abbrev pub readingOf : List ℕ → Bool → Reading
+readingOf text short = reading mosts (longText text) short text
 
-pub too-short : (text table : List ℕ) → length text ≤ Most.text → length table < Most.words → readCall mosts text table ≡ turnedAway No.shortTable 0
-unfolding readCall reading longText shortTable
-too-short text table h k = rw (le-ltb _ _ h, lt-ltb _ _ k)
+too-long : (text : List ℕ) (short : Bool) → Most.text < length text → readingOf text short ≡ turnedAway No.overlong 0
+unfolding reading longText
+too-long text short h = rw (lt-ltb _ _ h)
+
+too-short : (text : List ℕ) → length text ≤ Most.text → readingOf text true ≡ turnedAway No.shortTable 0
+unfolding reading longText
+too-short text h = rw (le-ltb _ _ h)
+
+module _ (text : List ℕ) {t t₁ : List ℕ} where
+  pub makes-long : (short : Bool) → Most.text < length text → Makes text short t (Refused No.overlong 0) t₁
+  makes-long short h = record { makes = λ fresh. rw (too-long text short h) }
+
+  pub makes-short : {short : Bool} → length text ≤ Most.text → short ≡ true → Makes text short t (Refused No.shortTable 0) t₁
+  makes-short h told = record { makes = λ fresh. rw (told, too-short text h) }
+
+  -- a fresh table has its length
+  pub makes-unfit : (short : Bool) → length t < Most.words → Makes text short t (Refused No.shortTable 0) t₁
+  makes-unfit short h = record { makes = λ fresh. absurd (omega (arith, ap length fresh, fresh-length)) }
 
 -- ---- The table before the first line
 
@@ -60,22 +80,19 @@ all-zero n =
     ap₂ (λ (xs ys : List ℕ). xs ++ ys) (made-up 8 0) (append-nil _ ∙ made-up 64 0) ∙ replicate-append-replicate 8 64 zero-word in
     sym (append-nil _ ∙ ap (λ (xs : List ℕ). pad n zero-word xs) empty ∙ made-up n 72)
 
-pub no-lines : Filled (replicate 8192 0) [] [] []
-unfolding lineTable cells firstLines blocksOf
+no-lines : Filled freshTable [] [] []
+unfolding freshTable lineTable cells firstLines blocksOf
 no-lines = record { words = all-zero 8192; lines = omega arith; blocks = omega arith }
 
 -- ---- What the scan says, by its answer
 
-pub fault-of : {d : Edition} {text t : List ℕ} {x : Scan} {k n : ℕ} → Scans mosts d text (replicate 8192 0) x t → x ≡ Fault k n
+pub fault-of : {d : Edition} {text t t₁ : List ℕ} {x : Scan} {k n : ℕ} → Scans mosts d text t x t₁ → x ≡ Fault k n
     → R.scan mosts (nothing d) 0 (lines text) ≡ faulty k n
-fault-of {d} {text} {t} s e = subst (λ y. ScansTo mosts d text y [] t) e (s .is [] no-lines)
+fault-of {d} {text} {t} {t₁} s e = subst (λ y. ScansTo mosts d text y t t₁) e (s .is)
 
-pub done-with : {d : Edition} {text t : List ℕ} {x : Scan} {kinds blocks count : ℕ} → Scans mosts d text (replicate 8192 0) x t → x ≡ Done kinds blocks count
-    → Done-with mosts d text kinds blocks count [] t
-done-with {d} {text} {t} s e = subst (λ y. ScansTo mosts d text y [] t) e (s .is [] no-lines)
-
-pub few : {d : Edition} {text t : List ℕ} {kinds blocks count : ℕ} → Done-with mosts d text kinds blocks count [] t → (kinds ≤ 32) × (blocks ≤ 64) × (count ≤ 672)
-few d = (d .few-kinds, omega (arith, d .blocks-count, d .filled .blocks), omega (arith, d .line-count, d .filled .lines))
+pub done-with : {d : Edition} {text t t₁ : List ℕ} {x : Scan} {kinds blocks count : ℕ} → Scans mosts d text t x t₁ → x ≡ Done kinds blocks count
+    → Done-with mosts d text kinds blocks count t t₁
+done-with {d} {text} {t} {t₁} s e = subst (λ y. ScansTo mosts d text y t t₁) e (s .is)
 
 -- ---- The lines of a scan exceed no most by themselves
 
@@ -134,51 +151,107 @@ link-later P b (F ∷ Fs) c n =
     let one : suc (n + b) ≡ suc n + b = omega arith in
     by-bool (R.dangles P c F) (λ t. rw t) (λ t. rw t (ap (λ k. link P (R.opened F c) k Fs) one ∙ link-later P b Fs (R.opened F c) (suc n)))
 
--- ---- What follows: a text that is not too long, and a table that is not too short, by its lines behind the one that names the edition
+-- ---- What follows: a text that is not too long, by its lines behind the one that names the edition, where no slice is short
 
-module _ (text table : List ℕ) (fits : length text ≤ Most.text) (room : Most.words ≤ length table)
-    (d : Edition) (body : List ℕ) (reads : script mosts text ≡ scriptOf mosts d body) where
-  by-script : readCall mosts text table ≡ linked d (laterScan (linesBefore d) (R.scan mosts (nothing d) 0 (lines body)))
-  unfolding readCall reading longText shortTable scriptOf
+module _ (text : List ℕ) (fits : length text ≤ Most.text) (d : Edition) (body : List ℕ) (reads : script mosts text ≡ scriptOf mosts d body) where
+  by-script : readingOf text false ≡ linked d (laterScan (linesBefore d) (R.scan mosts (nothing d) 0 (lines body)))
+  unfolding reading longText scriptOf
   by-script =
       let none : linesBefore d ≡ 0 + linesBefore d = omega arith in
-      rw (le-ltb _ _ fits, le-ltb _ _ room)
+      rw (le-ltb _ _ fits)
       (reads ∙ ap (λ k. linked d (R.scan mosts (nothing d) k (lines body))) none ∙ ap (linked d) (scan-later mosts (linesBefore d) (lines body) (nothing d) 0))
 
-  pub scan-faulty : (k n : ℕ) → R.scan mosts (nothing d) 0 (lines body) ≡ faulty k n → readCall mosts text table ≡ turnedAway k (n + linesBefore d)
+  pub scan-faulty : (k n : ℕ) → R.scan mosts (nothing d) 0 (lines body) ≡ faulty k n → readingOf text false ≡ turnedAway k (n + linesBefore d)
   scan-faulty k n e = by-script ∙ rw e
 
-  -- the program of a scan without fault, and where refusal 8 was looked for
-  module _ {kinds blocks count place : ℕ} {t : List ℕ} (done : Done-with mosts d body kinds blocks count [] t) (l : FirstDangling t kinds blocks count place) where
-    links : link (programOf d (done .forms)) 0 0 (done .forms) ≡ cond (ltb place count) (turnedAway No.dangling place) (accepted (programOf d (done .forms)))
-    unfolding programOf
-    links =
-        let Fs = done .forms in
-        let passed-all = scan-passed mosts (lines body) (nothing d) 0 Fs (done .scans) in
-        let same = lines-scanned mosts d Fs passed-all in
-        let holds : Table t (programOf d Fs) = record { counts = []; rest = []; filled = rw same (done .filled); small = rw same (all-small passed-all) } in
-        rw same at (l .is (programOf d Fs) holds (done .kinds-count) (done .blocks-count) (done .line-count ∙ ap length (sym same)))
+  -- the program of a scan without fault in a fresh table, and where refusal 8 was looked for
+  module _ {kinds blocks count : ℕ} {t t₁ : List ℕ} (done : Done-with mosts d body kinds blocks count t t₁) (fresh : t ≡ freshTable) where
+    lines-there : Filled t₁ [] (done .forms) []
+    lines-there = done .filled [] (subst (λ (l : List ℕ). Filled l [] [] []) (sym fresh) no-lines)
 
-    by-links : readCall mosts text table ≡ laterReading (linesBefore d) (cond (ltb place count) (turnedAway No.dangling place) (accepted (programOf d (done .forms))))
-    by-links =
-        let none : linesBefore d ≡ 0 + linesBefore d = omega arith in
-        by-script ∙ rw (done .scans)
-        (ap (λ k. link (programOf d (done .forms)) 0 k (done .forms)) none ∙ link-later (programOf d (done .forms)) (linesBefore d) (done .forms) 0 0
-        ∙ ap (laterReading (linesBefore d)) links)
+    module _ {place : ℕ} (l : FirstDangling t₁ kinds blocks count place) where
+      links : link (programOf d (done .forms)) 0 0 (done .forms) ≡ cond (ltb place count) (turnedAway No.dangling place) (accepted (programOf d (done .forms)))
+      unfolding programOf
+      links =
+          let Fs = done .forms in
+          let passed-all = scan-passed mosts (lines body) (nothing d) 0 Fs (done .scans) in
+          let same = lines-scanned mosts d Fs passed-all in
+          let holds : Table t₁ (programOf d Fs) = record { counts = []; rest = []; filled = rw same lines-there; small = rw same (all-small passed-all) } in
+          rw same at (l .is (programOf d Fs) holds (done .kinds-count) (done .blocks-count) (done .line-count ∙ ap length (sym same)))
 
-    pub dangling : place < count → readCall mosts text table ≡ turnedAway No.dangling (place + linesBefore d)
-    dangling h = by-links ∙ rw (lt-ltb _ _ h)
+      by-links : readingOf text false ≡ laterReading (linesBefore d) (cond (ltb place count) (turnedAway No.dangling place) (accepted (programOf d (done .forms))))
+      by-links =
+          let none : linesBefore d ≡ 0 + linesBefore d = omega arith in
+          by-script ∙ rw (done .scans)
+          (ap (λ k. link (programOf d (done .forms)) 0 k (done .forms)) none ∙ link-later (programOf d (done .forms)) (linesBefore d) (done .forms) 0 0
+          ∙ ap (laterReading (linesBefore d)) links)
 
-    pub all-there : count ≤ place → readCall mosts text table ≡ accepted (programOf d (done .forms))
-    all-there h = by-links ∙ rw (le-ltb _ _ h)
+      pub dangling : place < count → readingOf text false ≡ turnedAway No.dangling (place + linesBefore d)
+      dangling h = by-links ∙ rw (lt-ltb _ _ h)
 
-  -- and its words, once the counts and the edition are there
-  pub words-are : {kinds blocks count : ℕ} {t t₁ : List ℕ} (done : Done-with mosts d body kinds blocks count [] t)
-      → Filled t₁ (kinds ∷ blocks ∷ count ∷ editionWord d ∷ []) (done .forms) [] → t₁ ≡ programWords (programOf d (done .forms))
-  unfolding programOf
-  words-are {kinds} {blocks} {count} {t} {t₁} done f =
-      let Fs = done .forms in
-      let same = lines-scanned mosts d Fs (scan-passed mosts (lines body) (nothing d) 0 Fs (done .scans)) in
-      let full : t₁ ≡ lineTable (kinds ∷ blocks ∷ count ∷ editionWord d ∷ []) Fs = f .words ∙ append-nil _ in
-      let counted : lineTable (kinds ∷ blocks ∷ count ∷ editionWord d ∷ []) Fs ≡ lineTable (length (kindsOf Fs) ∷ length (blocksOf Fs) ∷ length Fs ∷ editionWord d ∷ []) Fs = rw (done .kinds-count, done .blocks-count, done .line-count) in
-      full ∙ counted ∙ sym (rw same at (program-words-by-lines (programOf d Fs)))
+      all-there : count ≤ place → readingOf text false ≡ accepted (programOf d (done .forms))
+      all-there h = by-links ∙ rw (le-ltb _ _ h)
+
+      -- and its words, once the counts and the edition are there
+      pub words-are : {t₂ : List ℕ} → count ≤ place → Counted kinds blocks count (editionWord d) t₁ t₂ → Made (readingOf text false) Read t₂
+      unfolding programOf
+      words-are {t₂} h counted =
+          let Fs = done .forms in
+          let f = counted .counted [] Fs lines-there in
+          let same = lines-scanned mosts d Fs (scan-passed mosts (lines body) (nothing d) 0 Fs (done .scans)) in
+          let full : t₂ ≡ lineTable (kinds ∷ blocks ∷ count ∷ editionWord d ∷ []) Fs = f .words ∙ append-nil _ in
+          let counts : lineTable (kinds ∷ blocks ∷ count ∷ editionWord d ∷ []) Fs ≡ lineTable (length (kindsOf Fs) ∷ length (blocksOf Fs) ∷ length Fs ∷ editionWord d ∷ []) Fs = rw (done .kinds-count, done .blocks-count, done .line-count) in
+          rw (all-there h) (refl, full ∙ counts ∙ sym (rw same at (program-words-by-lines (programOf d Fs))))
+
+-- ---- What `make` promises, by what the text comes to where no slice is short
+
+module _ (text : List ℕ) {short : Bool} {t t₁ : List ℕ} (none : short ≡ false) where
+  pub makes-none : {k n : ℕ} → (t ≡ freshTable → readingOf text false ≡ turnedAway k n) → Makes text short t (Refused k n) t₁
+  makes-none away = record { makes = λ fresh. rw (none, away fresh) }
+
+  pub makes-read : (t ≡ freshTable → Made (readingOf text false) Read t₁) → Makes text short t Read t₁
+  makes-read made = record { makes = λ fresh. rw none (made fresh) }
+
+-- ---- A lent table, by way of a fresh one
+
+-- what the answer tells of the reading
+pub record IsRead (C : Reading) (w : List ℕ) : Type 0 where
+  pub program : Program
+  pub is : C ≡ accepted program
+  pub words : w ≡ programWords program
+
+pub read-is : (C : Reading) {r : Answer} {w : List ℕ} → Made C r w → r ≡ Read → IsRead C w
+read-is (turnedAway k n) made is = let both = sym is ∙ made in impossible cc
+read-is (accepted P) made is = record { program = P; is = refl; words = made .1 }
+
+pub refused-is : (C : Reading) (w : List ℕ) {r : Answer} {k n : ℕ} → Made C r w → r ≡ Refused k n → C ≡ turnedAway k n
+refused-is (turnedAway i j) w {k = k} {n = n} made is =
+    let both = sym made ∙ is in
+    let number : i ≡ k = cc in
+    let line : j ≡ n = cc in
+    rw (number, line)
+refused-is (accepted P) w made is = let both = sym is ∙ made .0 in impossible cc
+
+module _ (text table : List ℕ) {r : Answer} {w : List ℕ} (made : Makes text (ltb (length table) Most.words) (replicate 8192 0) r w) where
+  by-call : Made (readCall mosts text table) r w
+  unfolding readCall shortTable freshTable
+  by-call = made .makes refl
+
+  pub read-away : {k n : ℕ} → r ≡ Refused k n
+      → (Refused k n ≡ answerOf (readCall mosts text table)) × (table ≡ programAfter (readCall mosts text table) table)
+  read-away is = rw (refused-is (readCall mosts text table) w by-call is) (refl, refl)
+
+  module _ (is : r ≡ Read) where
+    read-one : IsRead (readCall mosts text table) w
+    read-one = read-is (readCall mosts text table) by-call is
+
+    pub read-room : (Most.words ≤ length table) × (length w ≡ Most.words)
+    unfolding readCall shortTable
+    read-room = (
+      ltb-false _ _ (reading-accepted mosts _ _ text (read-one .program) (read-one .is) .1),
+      ap length (read-one .words) ∙ program-words-length (read-one .program),
+    )
+
+    pub read-done : {t₁ : List ℕ} → t₁ ≡ w ++ drop 8192 table
+        → (Read ≡ answerOf (readCall mosts text table)) × (t₁ ≡ programAfter (readCall mosts text table) table)
+    read-done copied = rw (read-one .is) (refl, copied ∙ ap (λ (ws : List ℕ). ws ++ drop 8192 table) (read-one .words))

@@ -241,25 +241,34 @@ at-start {m} second text t b = record {
 module _ {m : Mosts} {d : Edition} {text t₀ t : List ℕ} {r : Sofar} {n at : ℕ} (s : Scanning m d text t₀ t r n at) where
   -- where the rest of the scan is faulty, so is the whole
   stops : {k : ℕ} → R.scan m (soFar r) n (lines (drop at text)) ≡ faulty k n → Scans m d text t₀ (Fault k n) t
-  stops {k} e = record { is = λ rest h. s .scans ∙ ap (onto (s .forms)) e ∙ onto-faulty (s .forms) k n }
+  stops {k} e = record { is = s .scans ∙ ap (onto (s .forms)) e ∙ onto-faulty (s .forms) k n }
+
+  -- every line so far has a place in the table
+  pub few-lines : n ≤ 672
+  few-lines =
+      let b = s .bounded in
+      let c = s .tally in
+      omega (arith, s .number, c .lines, c .few-kinds, c .few-blocks, c .few-lets, b .kinds, b .blocks, b .lets)
 
   -- no line is left
   pub at-end : {x : Scan} → length text ≤ at → Finishes r n x → Scans m d text t₀ x t
-  at-end {x} h f = record { is = λ rest t₀-filled. go rest t₀-filled x (f .is) }
+  at-end {x} h f = record { is = go x (f .is) }
     where
       ended : R.scan m (soFar r) n (lines (drop at text)) ≡ R.finish (soFar r) n
       ended = rw (drop-of-length-le text h) (scan-end m (soFar r) n)
 
-      go : (rest : List ℕ) → Filled t₀ [] [] rest → (y : Scan) → Finished (soFar r) n y → ScansTo m d text y rest t
-      go rest t₀-filled (Fault k l) e = s .scans ∙ ap (onto (s .forms)) (ended ∙ e) ∙ onto-faulty (s .forms) k l
-      go rest t₀-filled (Done kinds blocks l) (e, k, b, c) = record {
+      go : (y : Scan) → Finished (soFar r) n y → ScansTo m d text y t₀ t
+      go (Fault k l) e = s .scans ∙ ap (onto (s .forms)) (ended ∙ e) ∙ onto-faulty (s .forms) k l
+      go (Done kinds blocks l) (e, k, b, c) = record {
         forms = s .forms;
         scans = s .scans ∙ ap (onto (s .forms)) (ended ∙ e) ∙ onto-scanned (s .forms) [] ∙ ap scanned (append-nil (s .forms));
         kinds-count = k ∙ s .tally .kinds;
         blocks-count = b ∙ s .tally .blocks;
         line-count = c ∙ s .number;
         few-kinds = omega (arith, k, s .tally .few-kinds);
-        filled = s .filled rest t₀-filled;
+        few-blocks = omega (arith, b, s .tally .few-blocks);
+        few-lines = omega (arith, c, few-lines);
+        filled = s .filled;
       }
 
   module _ {l : Line} (a : LineAt text at l) where
@@ -296,13 +305,6 @@ module _ {m : Mosts} {d : Edition} {text t₀ t : List ℕ} {r : Sofar} {n at : 
           passed = p;
           tally = tally-more m (soFar r .edition) (soFar r .place) (r .kinds) (r .blocks) (r .lets) (s .forms) (a .form) (s .tally) p;
         }
-
-  -- every line so far has a place in the table
-  pub few-lines : n ≤ 672
-  few-lines =
-      let b = s .bounded in
-      let c = s .tally in
-      omega (arith, s .number, c .lines, c .few-kinds, c .few-blocks, c .few-lets, b .kinds, b .blocks, b .lets)
 
   -- the counts fit their words
   pub small : (r .kinds ≤ 65535) × (r .blocks ≤ 65535) × (r .lets ≤ 65535) × (r .filled ≤ 255)

@@ -31,19 +31,21 @@ Finished r n (Done kinds blocks l) = (R.finish r n ≡ scanned []) × (kinds ≡
 pub record Finishes (r : Sofar) (n : ℕ) (s : Scan) : Type 0 where
   pub is : Finished (soFar r) n s
 
--- the scan that the definition gives of a text of this edition, its lines counted from 0; where it has no fault, the table holds its lines
-pub record Done-with (m : Mosts) (e : Edition) (text : List ℕ) (kinds blocks lineCount : ℕ) (rest t : List ℕ) : Type 0 where
+-- the scan that the definition gives of a text of this edition, its lines counted from 0; where it has no fault, a table that held none holds its lines
+pub record Done-with (m : Mosts) (e : Edition) (text : List ℕ) (kinds blocks lineCount : ℕ) (t t′ : List ℕ) : Type 0 where
   pub forms : List Form
   pub scans : R.scan m (R.nothing e) 0 (lines text) ≡ scanned forms
   pub kinds-count : kinds ≡ length (kindsOf forms)
   pub blocks-count : blocks ≡ length (blocksOf forms)
   pub line-count : lineCount ≡ length forms
   pub few-kinds : kinds ≤ m .kinds
-  pub filled : Filled t [] forms rest
+  pub few-blocks : blocks ≤ m .blocks
+  pub few-lines : lineCount ≤ 672
+  pub filled : (rest : List ℕ) → Filled t [] [] rest → Filled t′ [] forms rest
 
-abbrev pub ScansTo : Mosts → Edition → List ℕ → Scan → List ℕ → List ℕ → Type 0
-ScansTo m e text (Fault k n) rest t = R.scan m (R.nothing e) 0 (lines text) ≡ faulty k n
-ScansTo m e text (Done kinds blocks n) rest t = Done-with m e text kinds blocks n rest t
+abbrev pub ScansTo : Mosts → Edition → List ℕ → Scan → (t t′ : List ℕ) → Type 0
+ScansTo m e text (Fault k n) t t′ = R.scan m (R.nothing e) 0 (lines text) ≡ faulty k n
+ScansTo m e text (Done kinds blocks n) t t′ = Done-with m e text kinds blocks n t t′
 
 -- the line of a fault, and the number of lines where there is none
 abbrev pub scanLine : Scan → ℕ
@@ -51,4 +53,4 @@ scanLine (Fault k n) = n
 scanLine (Done kinds blocks n) = n
 
 pub record Scans (m : Mosts) (e : Edition) (text t : List ℕ) (s : Scan) (t′ : List ℕ) : Type 0 where
-  pub is : (rest : List ℕ) → Filled t [] [] rest → ScansTo m e text s rest t′
+  pub is : ScansTo m e text s t t′

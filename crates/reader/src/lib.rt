@@ -15,7 +15,7 @@ ghost use Rattle.rules.specs.Calls.{readCall, programAfter};
 ghost use Rattle.rules.specs.Mosts.{mosts};
 ghost use Rattle.rules.specs.Reading.{linesBefore};
 ghost use Rattle.rules.specs.Tables.{editionWord};
-ghost use Rattle.reader.specs.ReadAnswers.{answerOf};
+ghost use Rattle.reader.specs.ReadAnswers.{answerOf, Makes};
 ghost use Rattle.reader.specs.Sofar.{editionOf};
 
 // What reading answers: the script was read; or it is turned away, with document 01's number and the line.
@@ -39,16 +39,18 @@ fn lines_before(second: bool) -> usize
     if second { 1 } else { 0 }
 }
 
-// Reads a script into a program table. A refusal changes no word.
-pub fn read(text: &[u8], table: &mut [u16]) -> Answer
-    ensures { λ r. ⌜ r ≡ answerOf (readCall mosts (now (text .entry)) (now (table .entry))) ⌝ }
-    ensures { λ _. ⌜ now (table .exit) ≡ programAfter (readCall mosts (now (text .entry)) (now (table .entry))) (now (table .entry)) ⌝ }
+// Reads a script into a fresh table, where no lent slice of the call is short. After a refusal the words are of no use.
+pub fn make(text: &[u8], short: bool, words: &mut [u16]) -> Answer
+    ensures { λ r. ⌜ Makes (now (text .entry)) short (now (words .entry)) r (now (words .exit)) ⌝ }
 {
     if 16384 < text.len() {
         return Answer::Refused(rules::numbers::OVERLONG, 0);
     }
-    if table.len() < 8192 {
+    if short {
         return Answer::Refused(rules::numbers::SHORT_TABLE, 0);
+    }
+    if words.len() < 8192 {
+        return Answer::Refused(rules::numbers::SHORT_TABLE, 0); // no fresh table
     }
     let mosts = rules::Mosts {
         kinds: 32,
@@ -59,16 +61,30 @@ pub fn read(text: &[u8], table: &mut [u16]) -> Answer
     };
     let head = grammar::script_end(text);
     let second = head != 0;
-    let mut words = [0u16; 8192];
-    let scan = scan_lines(mosts, second, &text[head..], &mut words);
+    let scan = scan_lines(mosts, second, &text[head..], words);
     match scan {
         Scan::Fault(number, line) => Answer::Refused(number, line + lines_before(second)),
         Scan::Done(kinds, blocks, lines) => {
-            let line = first_dangling(&words, kinds, blocks, lines);
+            let line = first_dangling(words, kinds, blocks, lines);
             if line < lines {
                 return Answer::Refused(rules::numbers::DANGLING, line + lines_before(second));
             }
-            table::put_counts(&mut words, kinds, blocks, lines, edition_word(second));
+            table::put_counts(words, kinds, blocks, lines, edition_word(second));
+            Answer::Read
+        }
+    }
+}
+
+// Reads a script into a program table. A refusal changes no word.
+pub fn read(text: &[u8], table: &mut [u16]) -> Answer
+    ensures { λ r. ⌜ r ≡ answerOf (readCall mosts (now (text .entry)) (now (table .entry))) ⌝ }
+    ensures { λ _. ⌜ now (table .exit) ≡ programAfter (readCall mosts (now (text .entry)) (now (table .entry))) (now (table .entry)) ⌝ }
+{
+    let mut words = [0u16; 8192];
+    let answer = make(text, table.len() < 8192, &mut words);
+    match answer {
+        Answer::Refused(number, line) => Answer::Refused(number, line),
+        Answer::Read => {
             table::copy_table(table, &words);
             Answer::Read
         }

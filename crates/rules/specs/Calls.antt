@@ -37,8 +37,16 @@ programAfter (accepted P) program = programWords P ++ drop Most.words program
 
 -- ---- "running a script on a list of turns"
 
+-- a run's inputs, and whether any lent slice is under its length
+unfoldable pub inputs : Mosts → (text turns : List ℕ) → (short : Bool) → Reading
+inputs m text turns short = reading m (longText text || longTurns turns) short text
+
+-- with both tables as lent, and whether another slice of the call is under its length
+unfoldable pub lentInputs : Mosts → (text turns program state : List ℕ) → (short : Bool) → Reading
+lentInputs m text turns program state short = inputs m text turns (shortTable program || (shortTable state || short))
+
 unfoldable pub runCall : Mosts → (text turns program state : List ℕ) → Reading
-runCall m text turns program state = reading m (longText text || longTurns turns) (shortTable program || shortTable state) text
+runCall m text turns program state = lentInputs m text turns program state false
 
 abbrev pub runAnswer : Mosts → List ℕ → Reading → Answer
 runAnswer m turns (turnedAway k n) = refused k n
@@ -51,8 +59,7 @@ stateAfter m turns (accepted P) state = stateWords (run m P turns .state) ++ dro
 -- ---- "a reach report": "takes a run's inputs, a thread and a list of 256 words. It runs, then lists ..., then zeros, with their number."
 
 unfoldable pub reachCall : Mosts → (text turns program state list : List ℕ) → Reading
-reachCall m text turns program state list =
-    reading m (longText text || longTurns turns) (shortTable program || (shortTable state || ltb (length list) Most.reachList)) text
+reachCall m text turns program state list = lentInputs m text turns program state (ltb (length list) Most.reachList)
 
 pub data Report : Type 0 where
   unreported : (number line : ℕ) → Report

@@ -1,83 +1,46 @@
--- What a run comes to: 1, 9, the reader's refusal, or the turns played from the fresh start.
+-- What a run comes to: 1 for its turns, the reader's refusal, or the turns played from the fresh start; then the same in lent tables.
 use Prim.Native.Nat.{ℕ, _≤_, _<_}
 use native.Mathlib.Omega.{arith}
-use mathlib.Core.Path.{_≡_, refl, sym, ap, _∙_, subst}
-use mathlib.Core.List.{List, _++_}
+use mathlib.Core.Path.{_≡_, refl, sym, ap, _∙_}
+use mathlib.Core.Bool.{Bool, true, false, _||_}
+use mathlib.Core.List.{List, [], _++_, append-nil}
 use lib.Dec.{ltb}
-use lib.ListN.{length, take, drop, length-append}
+use lib.ListN.{length, take, drop, replicate, length-append}
 use lib.Seq.{take-at}
-use borrow.Author.Tests.{lt-ltb, le-ltb}
+use borrow.Author.Tests.{lt-ltb, le-ltb, ltb-false}
 use Rattle.rules.specs.Mosts as Most
 use Rattle.rules.specs.Mosts.{mosts}
 use Rattle.rules.specs.Numbers as No
 use Rattle.rules.specs.Script.{Program}
 use Rattle.rules.specs.Reading.{Reading, turnedAway, accepted, reading}
 use Rattle.rules.specs.Valid.{Valid}
-use Rattle.rules.specs.State.{start}
+use Rattle.rules.specs.Fits.{Fits}
 use Rattle.rules.specs.Run as R
-use Rattle.rules.specs.Run.{Stop, none, stopped, run, finished, stuck, openEnd, refused, ended, halted, answer}
+use Rattle.rules.specs.Run.{Stop, none, stopped, run, answer}
 use Rattle.rules.specs.Tables.{programWords, stateWords}
-use Rattle.rules.specs.Calls.{longText, longTurns, shortTable, readCall, programAfter, runCall, runAnswer, stateAfter}
-use Rattle.rules.proofs.ListLaws.{impossible, by-bool}
+use Rattle.rules.specs.Calls.{longText, longTurns, shortTable, inputs, lentInputs, runAnswer, programAfter, stateAfter}
+use Rattle.rules.proofs.ListLaws.{impossible, by-bool, or-false}
 use Rattle.rules.proofs.Accepted.{accepted-valid, reading-accepted}
 use Rattle.rules.proofs.Keeps.{fits-run}
 use Rattle.rules.proofs.Demand3.{stripped-matches}
 use Rattle.rules.proofs.TableWords.{program-words-length, state-words-length}
-use Rattle.table.specs.StateTable.{Held}
+use Rattle.table.specs.ProgramTable.{freshTable}
+use Rattle.table.specs.StateTable.{Held, Starts}
+use Rattle.table.proofs.ProgramTable.{fresh-length}
+use Rattle.reader.specs.declared.Answer as Reader
 use Rattle.reader.specs.declared.Answer.the-variants.{Read, Refused}
-use Rattle.reader.specs.ReadAnswers as Reader
+use Rattle.reader.specs.ReadAnswers as ReadAnswers
+use Rattle.reader.proofs.Outcome as Read
 use Rattle.turn.specs.Performed.{Loaded}
 use Rattle.turn.proofs.Located.{words-loaded}
 use Rattle.run.specs.declared.Answer.{Answer}
 use Rattle.run.specs.declared.Answer.the-variants as A
 use Rattle.run.specs.declared.playing.Played.{Played}
 use Rattle.run.specs.declared.playing.Played.the-variants.{Through, Stopped}
-use Rattle.run.specs.RunAnswers.{answerOf, Tells, Guarded, Demand3}
+use Rattle.run.specs.RunAnswers.{answerOf, isRefusal, Guarded, Ran}
 use Rattle.run.specs.Played.{playedBy, Plays, Ends, RunsProgram}
-use Rattle.run.proofs.AnswerTells.{IsAccepted}
-
--- ---- 1 and 9, then the reader's
-
-module _ (text turns program state : List ℕ) where
-  pub text-long : Most.text < length text → runCall mosts text turns program state ≡ turnedAway No.overlong 0
-  unfolding runCall reading longText
-  text-long long = rw (lt-ltb _ _ long) refl
-
-  pub turns-long : length text ≤ Most.text → Most.turns < length turns → runCall mosts text turns program state ≡ turnedAway No.overlong 0
-  unfolding runCall reading longText longTurns
-  turns-long few long = rw (le-ltb _ _ few, lt-ltb _ _ long) refl
-
-  module _ (few : length text ≤ Most.text) (few-turns : length turns ≤ Most.turns) where
-    pub state-short : length state < Most.words → runCall mosts text turns program state ≡ turnedAway No.shortTable 0
-    unfolding runCall reading longText longTurns shortTable
-    state-short short =
-        rw (le-ltb _ _ few, le-ltb _ _ few-turns, lt-ltb _ _ short)
-        (by-bool (ltb (length program) Most.words) (λ t. rw t refl) (λ t. rw t refl))
-
-    pub as-read : Most.words ≤ length state → runCall mosts text turns program state ≡ readCall mosts text program
-    unfolding runCall readCall reading longText longTurns shortTable
-    as-read long =
-        rw (le-ltb _ _ few, le-ltb _ _ few-turns, le-ltb _ _ long)
-        (by-bool (ltb (length program) Most.words) (λ t. rw t refl) (λ t. rw t refl))
-
--- what the reader answers tells the reading
-pub refusal-is : (C : Reading) {k n : ℕ} → Refused k n ≡ Reader.answerOf C → C ≡ turnedAway k n
-refusal-is (turnedAway i j) {k} {n} e =
-    let number : i ≡ k = cc in
-    let line : j ≡ n = cc in
-    rw (number, line) refl
-refusal-is (accepted P) e = impossible cc
-
-read-is : (C : Reading) → Read ≡ Reader.answerOf C → IsAccepted C
-read-is (turnedAway k n) e = impossible cc
-read-is (accepted P) e = record { program = P; is = refl }
-
--- ---- A program that was read
-
-module _ (text program : List ℕ) (P : Program) (is : readCall mosts text program ≡ accepted P) where
-  pub valid : Valid mosts P
-  unfolding readCall
-  valid = accepted-valid mosts text P (reading-accepted mosts _ _ text P is .2)
+use Rattle.run.specs.Made.{Made, Makes}
+use Rattle.run.proofs.AnswerTells.{IsMade, made-is, refused-is, IsAccepted, accepted-is}
 
 -- ---- The turns played, from the fresh start
 
@@ -94,106 +57,154 @@ through-is : (x : Stop) (m : ℕ) {n : ℕ} → Through n ≡ playedBy x m → (
 through-is none m e = (refl, cc)
 through-is (stopped i u c j) m e = impossible cc
 
-module _ {p turns s₁ s₂ : List ℕ} (s : List ℕ) {x : Played} (fresh : s₁ ≡ stateWords start ++ drop Most.words s) (plays : Plays p s₁ turns x s₂) where
-  held : Held s₁ start (drop Most.words s)
-  held = record { words = fresh }
-
-  left-words : (P : Program) → Loaded p P → Valid mosts P → s₂ ≡ stateWords (run mosts P turns .state) ++ drop Most.words s
-  left-words P of-program ok = plays .leaves P (drop Most.words s) of-program ok held .words
-
+module _ {p turns s s₁ s₂ : List ℕ} {x : Played} (begun : Starts s s₁) (plays : Plays p s₁ turns x s₂) where
   pub runs-stopped : {k t b l m : ℕ} → x ≡ Stopped k t b l m → RunsProgram p turns s (A.Stopped k t b l m) s₂
   unfolding answer R.answerOf
   runs-stopped is =
       record {
-        answers = λ P of-program ok.
-            let both = stopped-is (run mosts P turns .stop) (run mosts P turns .moves) (sym is ∙ plays .answers P (drop Most.words s) of-program ok held) in
+        answers = λ P loaded valid fresh.
+            let both = stopped-is (run mosts P turns .stop) (run mosts P turns .moves) (sym is ∙ plays .answers P [] loaded valid (begun .starts fresh)) in
             rw (both .0, both .1) refl;
-        leaves = left-words;
+        leaves = λ P loaded valid fresh. plays .leaves P [] loaded valid (begun .starts fresh);
       }
 
   pub runs-through : {m : ℕ} {r : Answer} → length turns ≤ Most.turns → x ≡ Through m → Ends p s₂ m r → RunsProgram p turns s r s₂
   unfolding answer R.answerOf
   runs-through few is ends =
       record {
-        answers = λ P of-program ok.
-            let both = through-is (run mosts P turns .stop) (run mosts P turns .moves) (sym is ∙ plays .answers P (drop Most.words s) of-program ok held) in
+        answers = λ P loaded valid fresh.
+            let both = through-is (run mosts P turns .stop) (run mosts P turns .moves) (sym is ∙ plays .answers P [] loaded valid (begun .starts fresh)) in
             rw (both .0, both .1)
-            (ends .is P _ (run mosts P turns .state) (drop Most.words s) of-program (plays .leaves P (drop Most.words s) of-program ok held) ok (fits-run P turns ok few));
-        leaves = left-words;
+            (ends .is P _ (run mosts P turns .state) [] loaded (plays .leaves P [] loaded valid (begun .starts fresh)) valid (fits-run P turns valid few));
+        leaves = λ P loaded valid fresh. plays .leaves P [] loaded valid (begun .starts fresh);
       }
 
--- ---- Demand 3, said of what the code answers and leaves
+-- ---- In fresh tables
 
-pub guarded : (P : Program) (turns rest : List ℕ) {r : Answer} {state : List ℕ} → r ≡ answerOf (answer mosts P (run mosts P turns))
+-- few turns: what is left is the reader's
+as-read : (text turns : List ℕ) (short : Bool) → length turns ≤ Most.turns → inputs mosts text turns short ≡ reading mosts (longText text) short text
+unfolding inputs longTurns
+as-read text turns short few = rw (le-ltb _ _ few) (by-bool (longText text) (λ t. rw t) (λ t. rw t))
+
+module _ (text turns : List ℕ) (short : Bool) {p s p₁ s₁ : List ℕ} where
+  pub makes-long : Most.turns < length turns → Makes text turns short p s (A.Refused No.overlong 0) p₁ s₁
+  unfolding inputs reading longTurns
+  makes-long h = record { makes = λ p-fresh s-fresh. rw (lt-ltb _ _ h) (by-bool (longText text) (λ t. rw t) (λ t. rw t)) }
+
+  -- a fresh table has its length
+  pub makes-no-program : length p < Most.words → Makes text turns short p s (A.Refused No.shortTable 0) p₁ s₁
+  makes-no-program h = record { makes = λ p-fresh s-fresh. absurd (omega (arith, ap length p-fresh, fresh-length)) }
+
+  pub makes-no-state : length s < Most.words → Makes text turns short p s (A.Refused No.shortTable 0) p₁ s₁
+  makes-no-state h = record { makes = λ p-fresh s-fresh. absurd (omega (arith, ap length s-fresh, fresh-length)) }
+
+  module _ (few : length turns ≤ Most.turns) {x : Reader.Answer} (read : ReadAnswers.Makes text short p x p₁) where
+    pub makes-away : {k n : ℕ} → x ≡ Refused k n → Makes text turns short p s (A.Refused k n) p₁ s₁
+    makes-away is = record { makes = λ p-fresh s-fresh. rw (as-read text turns short few, Read.refused-is (reading mosts (longText text) short text) p₁ (read .makes p-fresh) is) }
+
+    pub makes-run : {r : Answer} → x ≡ Read → RunsProgram p₁ turns s r s₁ → Makes text turns short p s r p₁ s₁
+    makes-run is runs = record {
+      makes = λ p-fresh s-fresh.
+          let of = Read.read-is (reading mosts (longText text) short text) (read .makes p-fresh) is in
+          let P = of .program in
+          let valid = accepted-valid mosts text P (reading-accepted mosts (longText text) short text P (of .is) .2) in
+          let loaded = words-loaded P valid [] (of .words ∙ sym (append-nil (programWords P))) in
+          let held = runs .leaves P loaded valid s-fresh in
+          rw (as-read text turns short few, of .is)
+          (record {
+            answers = runs .answers P loaded valid s-fresh;
+            program-words = of .words;
+            state-words = held .words ∙ append-nil (stateWords (run mosts P turns .state));
+            valid = valid;
+            loaded = loaded;
+            held = held;
+            fits = fits-run P turns valid few;
+          });
+    }
+
+-- ---- In lent tables
+
+-- demand 3, said of what the code answers and leaves
+guarded : (P : Program) (turns rest : List ℕ) {r : Answer} {state : List ℕ} → r ≡ answerOf (answer mosts P (run mosts P turns))
     → state ≡ stateWords (run mosts P turns .state) ++ rest → Guarded P turns r state
 guarded P turns rest answers words =
     let S = run mosts P turns .state in
     record { answers = answers; leaves = ap (take Most.words) words ∙ take-at (stateWords S) rest Most.words (state-words-length S); matches = stripped-matches mosts P turns }
 
--- ---- What the run ensures, of the reading C
+module _ (text turns program state : List ℕ) (short : Bool) {r : Answer} {p s : List ℕ}
+    (made : Makes text turns (ltb (length program) Most.words || (ltb (length state) Most.words || short)) (replicate 8192 0) (replicate 8192 0) r p s) where
+  by-lent : Made (lentInputs mosts text turns program state short) turns r p s
+  unfolding lentInputs shortTable freshTable
+  by-lent = made .makes refl refl
 
-pub record Ran (C : Reading) (turns program state : List ℕ) (r : Answer) (p s : List ℕ) : Type 0 where
-  pub answers : r ≡ answerOf (runAnswer mosts turns C)
-  pub program-is : p ≡ programAfter C program
-  pub state-is : s ≡ stateAfter mosts turns C state
-  pub demand-3 : Demand3 C turns r s
+  pub ran-away : isRefusal r ≡ true → Ran (lentInputs mosts text turns program state short) turns program state r program state
+  ran-away e =
+      let away = refused-is turns p s (lentInputs mosts text turns program state short) by-lent e in
+      rw (away .is) (record { answers = away .answer; program-is = refl; state-is = refl; demand-3 = tt })
 
-pub of-same : {C C′ : Reading} {turns program state p s : List ℕ} {r : Answer} → C ≡ C′ → Ran C′ turns program state r p s → Ran C turns program state r p s
-of-same e x = rw e x
+  module _ (e : isRefusal r ≡ false) where
+    one : IsMade (lentInputs mosts text turns program state short) turns r p s
+    one = made-is turns p s (lentInputs mosts text turns program state short) by-lent e
 
-pub turned-away : {k n : ℕ} (C : Reading) (turns program state : List ℕ) → C ≡ turnedAway k n → Ran C turns program state (A.Refused k n) program state
-turned-away C turns program state e = rw e (record { answers = refl; program-is = refl; state-is = refl; demand-3 = tt })
+    none-short : (shortTable program || (shortTable state || short)) ≡ false
+    unfolding lentInputs inputs
+    none-short = reading-accepted mosts _ _ text (one .program) (one .is) .1
 
--- the reader turned the script away
-pub turned-away-by-reader : {k n : ℕ} (C : Reading) (turns program state : List ℕ) {p : List ℕ} → Refused k n ≡ Reader.answerOf C → p ≡ programAfter C program
-    → Ran C turns program state (A.Refused k n) p state
-turned-away-by-reader C turns program state e words =
-    let is = refusal-is C e in
-    let same = rw is at words in
-    rw (is, same) (record { answers = refl; program-is = refl; state-is = refl; demand-3 = tt })
+    pub room : (Most.words ≤ length program) × (Most.words ≤ length state) × (length p ≡ Most.words) × (length s ≡ Most.words)
+    unfolding shortTable
+    room =
+        let others = or-false _ _ none-short in
+        let P = one .program in (
+          ltb-false _ _ (others .0),
+          ltb-false _ _ (or-false _ _ (others .1) .0),
+          ap length (one .holds .program-words) ∙ program-words-length P,
+          ap length (one .holds .state-words) ∙ state-words-length (run mosts P turns .state),
+        )
 
-module _ (text turns program state : List ℕ) {p : List ℕ} (read : Read ≡ Reader.answerOf (readCall mosts text program))
-    (words : p ≡ programAfter (readCall mosts text program) program) where
-  is-read : IsAccepted (readCall mosts text program)
-  is-read = read-is (readCall mosts text program) read
+    pub ran-on : {program₁ state₁ : List ℕ} → program₁ ≡ p ++ drop Most.words program → state₁ ≡ s ++ drop Most.words state
+        → Ran (lentInputs mosts text turns program state short) turns program state r program₁ state₁
+    ran-on program-copied state-copied =
+        let holds = one .holds in
+        let state-there = state-copied ∙ ap (λ (ws : List ℕ). ws ++ drop Most.words state) (holds .state-words) in
+        rw (one .is)
+        (record {
+          answers = holds .answers;
+          program-is = program-copied ∙ ap (λ (ws : List ℕ). ws ++ drop Most.words program) (holds .program-words);
+          state-is = state-there;
+          demand-3 = guarded (one .program) turns (drop Most.words state) (holds .answers) state-there;
+        })
 
-  program-there : p ≡ programWords (is-read .program) ++ drop Most.words program
-  program-there = words ∙ ap (λ (R : Reading). programAfter R program) (is-read .is)
+-- ---- What stands in lent tables where the run was made
 
-  -- the program table is as long as it must be
-  pub words-there : Most.words ≤ length p
-  words-there =
-      let P = is-read .program in
-      omega (arith, ap length program-there, length-append (programWords P) (drop Most.words program), program-words-length P)
+pub record Stands (C : Reading) (turns state p s : List ℕ) : Type 0 where
+  pub program : Program
+  pub is : C ≡ accepted program
+  pub valid : Valid mosts program
+  pub loaded : Loaded p program
+  pub held : Held s (run mosts program turns .state) (drop Most.words state)
+  pub fits : Fits mosts program Most.turns (run mosts program turns .state)
+  pub long : (Most.words ≤ length p) × (Most.words ≤ length s)
 
-  pub ran : {s : List ℕ} {r : Answer} → RunsProgram p turns state r s → Ran (readCall mosts text program) turns program state r p s
-  ran runs =
-      let P = is-read .program in
-      let ok = valid text program P (is-read .is) in
-      let of-program = words-loaded P ok (drop Most.words program) program-there in
-      rw (is-read .is)
-      (record {
-        answers = runs .answers P of-program ok;
-        program-is = program-there;
-        state-is = runs .leaves P of-program ok;
-        demand-3 = guarded P turns (drop Most.words state) (runs .answers P of-program ok) (runs .leaves P of-program ok);
-      })
-
--- ---- The answer by its numbers
-
-abbrev TellsBy : R.Answer → Answer → Type 0
-TellsBy a (A.Finished m) = Tells a 0 0 0 0 0 m
-TellsBy a (A.Stuck m) = Tells a 1 0 0 0 0 m
-TellsBy a (A.Open m) = Tells a 2 0 0 0 0 m
-TellsBy a (A.Stopped k t b l m) = Tells a 3 k t b l m
-TellsBy a (A.Refused k n) = Tells a 4 k 0 0 n 0
-
-tells : (a : R.Answer) → TellsBy a (answerOf a)
-tells (refused k n) = record { end-is = refl; number-is = refl; thread-is = refl; block-is = refl; line-is = refl; moves-is = refl }
-tells (ended finished m) = record { end-is = refl; number-is = refl; thread-is = refl; block-is = refl; line-is = refl; moves-is = refl }
-tells (ended stuck m) = record { end-is = refl; number-is = refl; thread-is = refl; block-is = refl; line-is = refl; moves-is = refl }
-tells (ended openEnd m) = record { end-is = refl; number-is = refl; thread-is = refl; block-is = refl; line-is = refl; moves-is = refl }
-tells (halted k t b l m) = record { end-is = refl; number-is = refl; thread-is = refl; block-is = refl; line-is = refl; moves-is = refl }
-
-pub tells-answer : (a : R.Answer) {r : Answer} → r ≡ answerOf a → TellsBy a r
-tells-answer a e = subst (TellsBy a) (sym e) (tells a)
+pub ran-stands : (text turns program state : List ℕ) (short : Bool) {r : Answer} {p s : List ℕ}
+    → Ran (lentInputs mosts text turns program state short) turns program state r p s → isRefusal r ≡ false
+    → Stands (lentInputs mosts text turns program state short) turns state p s
+unfolding lentInputs inputs longTurns
+ran-stands text turns program state short {r} {p} {s} ran e =
+    let of = accepted-is (lentInputs mosts text turns program state short) turns (ran .answers) e in
+    let P = of .program in
+    let so = reading-accepted mosts _ _ text P (of .is) in
+    let valid = accepted-valid mosts text P (so .2) in
+    let program-there : p ≡ programWords P ++ drop Most.words program = ran .program-is ∙ ap (λ (C : Reading). programAfter C program) (of .is) in
+    let state-there : s ≡ stateWords (run mosts P turns .state) ++ drop Most.words state = ran .state-is ∙ ap (λ (C : Reading). stateAfter mosts turns C state) (of .is) in
+    record {
+      program = P;
+      is = of .is;
+      valid = valid;
+      loaded = words-loaded P valid (drop Most.words program) program-there;
+      held = record { words = state-there };
+      fits = fits-run P turns valid (ltb-false Most.turns (length turns) (or-false (longText text) _ (so .0) .1));
+      long = (
+        omega (arith, ap length program-there, length-append (programWords P) (drop Most.words program), program-words-length P),
+        omega (arith, ap length state-there, length-append (stateWords (run mosts P turns .state)) (drop Most.words state), state-words-length (run mosts P turns .state)),
+      );
+    }

@@ -4,4 +4,4 @@ mod TurnByTurn
 mod EndLaws
 -- what the answer tells of the reading; from the text to the answer
 pub mod AnswerTells
-mod Answering
+pub mod Answering

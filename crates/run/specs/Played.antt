@@ -2,16 +2,14 @@
 use Prim.Native.Nat.{ℕ}
 use mathlib.Core.Path.{_≡_}
 use mathlib.Core.Bool.{Bool}
-use mathlib.Core.List.{List, _++_}
-use lib.ListN.{drop}
-use Rattle.rules.specs.Mosts as Most
+use mathlib.Core.List.{List, []}
 use Rattle.rules.specs.Mosts.{mosts}
 use Rattle.rules.specs.Script.{Program}
 use Rattle.rules.specs.Valid.{Valid}
 use Rattle.rules.specs.State.{State, start}
 use Rattle.rules.specs.Run.{Stop, none, stopped, run, ended, endOf, allWait, answer}
 use Rattle.rules.specs.Fits.{Fits}
-use Rattle.rules.specs.Tables.{stateWords}
+use Rattle.table.specs.ProgramTable.{freshTable}
 use Rattle.table.specs.StateTable.{Held}
 use Rattle.turn.specs.Performed.{Loaded}
 use Rattle.run.specs.declared.Answer.{Answer}
@@ -37,7 +35,7 @@ pub record Ends (p s : List ℕ) (moves : ℕ) (r : Answer) : Type 0 where
   pub is : (P : Program) (n : ℕ) (S : State) (rest : List ℕ) → Loaded p P → Held s S rest → Valid mosts P → Fits mosts P n S
       → r ≡ answerOf (ended (endOf mosts P S) moves)
 
--- a program that was read: the answer, and every word of the state table
+-- a program that was read, in a fresh table: the answer, and every word of the state table
 pub record RunsProgram (p turns s : List ℕ) (r : Answer) (s₁ : List ℕ) : Type 0 where
-  pub answers : (P : Program) → Loaded p P → Valid mosts P → r ≡ answerOf (answer mosts P (run mosts P turns))
-  pub leaves : (P : Program) → Loaded p P → Valid mosts P → s₁ ≡ stateWords (run mosts P turns .state) ++ drop Most.words s
+  pub answers : (P : Program) → Loaded p P → Valid mosts P → s ≡ freshTable → r ≡ answerOf (answer mosts P (run mosts P turns))
+  pub leaves : (P : Program) → Loaded p P → Valid mosts P → s ≡ freshTable → Held s₁ (run mosts P turns .state) []

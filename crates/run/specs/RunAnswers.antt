@@ -1,6 +1,7 @@
 -- Document 01's answer to a run, as the code's enum and as numbers; and demand 3, said of what the code answers and leaves.
 use Prim.Native.Nat.{ℕ}
 use mathlib.Core.Path.{_≡_}
+use mathlib.Core.Bool.{Bool, true, false}
 use mathlib.Core.List.{List}
 use lib.ListN.{take}
 use Rattle.rules.specs.Mosts as Most
@@ -11,6 +12,7 @@ use Rattle.rules.specs.Run as R
 use Rattle.rules.specs.Run.{finished, stuck, openEnd, refused, ended, halted, run, answer}
 use Rattle.rules.specs.Stripped.{Matches}
 use Rattle.rules.specs.Tables.{stateWords}
+use Rattle.rules.specs.Calls.{runAnswer, programAfter, stateAfter}
 use Rattle.run.specs.declared.Answer.{Answer}
 use Rattle.run.specs.declared.Answer.the-variants.{Refused, Finished, Stuck, Open, Stopped}
 
@@ -63,6 +65,14 @@ pub record Tells (a : R.Answer) (end number thread block line moves : ℕ) : Typ
   pub line-is : line ≡ lineOf a
   pub moves-is : moves ≡ movesOf a
 
+-- a refusal leaves no run
+abbrev pub isRefusal : Answer → Bool
+isRefusal (Refused k n) = true
+isRefusal (Finished m) = false
+isRefusal (Stuck m) = false
+isRefusal (Open m) = false
+isRefusal (Stopped k t b l m) = false
+
 -- the code's answer and its table are the guarded run's, and the stripped run matches it
 pub record Guarded (P : Program) (turns : List ℕ) (r : Answer) (state : List ℕ) : Type 0 where
   pub answers : r ≡ answerOf (answer mosts P (run mosts P turns))
@@ -72,3 +82,10 @@ pub record Guarded (P : Program) (turns : List ℕ) (r : Answer) (state : List �
 abbrev pub Demand3 : Reading → List ℕ → Answer → List ℕ → Type 0
 Demand3 (turnedAway k n) turns r state = Unit {0}
 Demand3 (accepted P) turns r state = Guarded P turns r state
+
+-- what a run answers and leaves in the tables that it was lent, by what its inputs come to
+pub record Ran (C : Reading) (turns program state : List ℕ) (r : Answer) (program₁ state₁ : List ℕ) : Type 0 where
+  pub answers : r ≡ answerOf (runAnswer mosts turns C)
+  pub program-is : program₁ ≡ programAfter C program
+  pub state-is : state₁ ≡ stateAfter mosts turns C state
+  pub demand-3 : Demand3 C turns r state₁

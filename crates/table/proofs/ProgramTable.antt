@@ -5,7 +5,7 @@ use native.Mathlib.Numerals.{add-one}
 use native.Mathlib.Omega.{arith}
 use mathlib.Core.Path.{_≡_, refl, sym, ap, _∙_}
 use mathlib.Core.List.{List, [], _∷_, _++_, append-assoc, append-nil}
-use lib.ListN.{length, getD, set, take, drop, length-append, length-set, List·getD-append}
+use lib.ListN.{length, getD, set, take, drop, length-append, length-replicate, length-set, List·getD-append}
 use lib.Seq.{set-append-left, sets-eq}
 use Rattle.rules.specs.Mosts as Most
 use Rattle.rules.specs.Mosts.{mosts}
@@ -13,7 +13,7 @@ use Rattle.rules.specs.Lists.{pad, cells}
 use Rattle.rules.specs.Script.{Sort, thread, method, Form, kind, opens, line, blocksOf, Program, linesOf}
 use Rattle.rules.specs.Tables.{lineWords, row, firstLines, editionWord, usedProgramWords, programWords}
 use Rattle.rules.proofs.ListLaws.{length-snoc, length-pad, length-cells, get-past, set-past, get-cell, cells-snoc, get-pad, set-pad, pad-more, pad-snoc}
-use Rattle.table.specs.ProgramTable.{lineTable, Filled, noForm, sortNumber}
+use Rattle.table.specs.ProgramTable.{freshTable, lineTable, Filled, noForm, sortNumber}
 
 -- eight words written one after the other
 pub eight-set : {A : Type 0} (t : List A) (p : ℕ) (a b c d e f g h : A) → p + 8 ≤ length t
@@ -24,6 +24,10 @@ eight-set t p a b c d e f g h l =
     (sets-eq (a ∷ b ∷ c ∷ d ∷ e ∷ f ∷ g ∷ h ∷ []) t p l ∙ append-assoc (take p t) _ _)
 
 -- ---- The parts of the table
+
+pub fresh-length : length freshTable ≡ Most.words
+unfolding freshTable
+fresh-length = length-replicate {A = ℕ} Most.words 0
 
 -- the words before the zeros at the end
 unfoldable usedWords : List ℕ → List Form → List ℕ

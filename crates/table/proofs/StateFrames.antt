@@ -3,9 +3,9 @@ use Prim.Native.Nat.{ℕ, suc, _+_, _*_, _%_, _≤_, _<_}
 use native.Mathlib.Omega.{arith}
 use native.Mathlib.Numerals.{add-one}
 use mathlib.Core.Path.{_≡_, refl, sym, ap, _∙_}
-use mathlib.Core.List.{List, _++_, append-assoc}
-use lib.ListN.{length, getD, set, take, drop, replicate, length-set, length-replicate, getD-replicate, List·getD-eq-default}
-use lib.Seq.{paste, paste-suc, set-append-left, take-all}
+use mathlib.Core.List.{List, append-assoc, append-nil}
+use lib.ListN.{length, getD, set, take, replicate, length-set, length-replicate, getD-replicate, List·getD-eq-default}
+use lib.Seq.{paste, paste-suc}
 use Rattle.rules.specs.Lists.{pad, cells}
 use Rattle.rules.specs.declared.Value.{Value}
 use Rattle.rules.specs.Script.{Program, linesOf, blockAt}
@@ -14,8 +14,8 @@ use Rattle.rules.specs.Turn.{putThread}
 use Rattle.rules.specs.Tables.{word, noFrame, objectWords, frameWords, outermostFirst, threadWords, channelWords, usedStateWords, stateWords}
 use Rattle.rules.proofs.ListLaws.{get-before}
 use Rattle.rules.proofs.TableWords.{length-outermost}
-use Rattle.table.specs.StateTable.{Held, OnLine, frameAt, Innermost, callee, called, left}
-use Rattle.table.specs.ProgramTable.{Filled}
+use Rattle.table.specs.StateTable.{Held, Starts, OnLine, frameAt, Innermost, callee, called, left}
+use Rattle.table.specs.ProgramTable.{freshTable, Filled}
 use Rattle.table.specs.declared.state.Here.{Here}
 use Rattle.table.proofs.ProgramLines.{blocks-of-lines, line-there, line-part-is}
 use Rattle.table.proofs.StateTable.{splice, Part, part-set, frame-part, sender-put, frame-pushed, frame-dropped}
@@ -42,20 +42,14 @@ zero-more l at n i p e h k =
     rw (e, add-one i) (ap (set (paste l at (zeros n) i) (at + i)) (sym (get-zeros n i k)) ∙ paste-suc l at (zeros n) i 0 h (rw (length-zeros n) k))
 
 -- the state at the start is zeros but for three words
-start-words : set (set (set (zeros 8192) 1 1) 2056 1) 2060 1 ≡ stateWords start
-unfolding zeros stateWords usedStateWords start pad cells objectWords threadWords frameWords channelWords outermostFirst
+start-words : set (set (set freshTable 1 1) 2056 1) 2060 1 ≡ stateWords start
+unfolding freshTable stateWords usedStateWords start pad cells objectWords threadWords frameWords channelWords outermostFirst
 start-words = refl
 
-pub all-zero-but-three : (l : List ℕ) → set (set (set (paste l 0 (zeros 8192) 8192) 1 1) 2056 1) 2060 1 ≡ stateWords start ++ drop 8192 l
-all-zero-but-three l =
-    let z : List ℕ = zeros 8192 in
-    let long : length z ≡ 8192 = length-zeros 8192 in
-    let r : List ℕ = drop 8192 l in
-    ap (λ (x : List ℕ). set (set (set (x ++ r) 1 1) 2056 1) 2060 1) (take-all 8192 z (omega arith))
-    ∙ ap (λ x. set (set x 2056 1) 2060 1) (set-append-left z r 1 1 (omega arith))
-    ∙ ap (λ x. set x 2060 1) (set-append-left (set z 1 1) r 2056 1 (simp length-set (omega arith)))
-    ∙ set-append-left (set (set z 1 1) 2056 1) r 2060 1 (simp length-set (omega arith))
-    ∙ ap (λ (x : List ℕ). x ++ r) start-words
+pub all-zero-but-three : (l : List ℕ) → Starts l (set (set (set l 1 1) 2056 1) 2060 1)
+all-zero-but-three l = record {
+  starts = λ fresh. record { words = ap (λ (t : List ℕ). set (set (set t 1 1) 2056 1) 2060 1) fresh ∙ start-words ∙ sym (append-nil (stateWords start)) };
+}
 
 -- ---- Frames
 

@@ -3,12 +3,16 @@ use Prim.Native.Nat.{ℕ, suc, _≤_, _<_}
 use mathlib.Core.Path.{_≡_}
 use mathlib.Core.Bool.{Bool, true, false}
 use mathlib.Core.List.{List, [], _∷_, _++_, map}
-use lib.ListN.{length, getD, take}
+use lib.ListN.{length, getD, take, replicate}
 use Rattle.rules.specs.Mosts as Most
 use Rattle.rules.specs.Mosts.{mosts}
 use Rattle.rules.specs.Lists.{pad, cells}
 use Rattle.rules.specs.Script.{Sort, thread, method, Form, opens, blocksOf, Program, linesOf, kindAt, noBlock}
 use Rattle.rules.specs.Tables.{row, firstLines}
+
+-- a table in which nothing is written: its words are all 0
+unfoldable pub freshTable : List ℕ
+freshTable = replicate Most.words 0
 
 -- counts and the edition, first lines of blocks, lines; `programWords P` has those of P
 unfoldable pub lineTable : (counts : List ℕ) → List Form → List ℕ

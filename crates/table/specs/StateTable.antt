@@ -13,10 +13,10 @@ use Rattle.rules.specs.Mosts.{mosts}
 use Rattle.rules.specs.Lists.{pad, Every}
 use Rattle.rules.specs.Script.{Operand, line, Program, rank, linesOf, blockAt, lineAt}
 use Rattle.rules.specs.Reading.{slotOf}
-use Rattle.rules.specs.State.{Object, Frame, Sender, ready, waiting, State, objectAt, threadAt, channelAt, slotAt}
+use Rattle.rules.specs.State.{Object, Frame, Sender, ready, waiting, State, objectAt, threadAt, channelAt, slotAt, start}
 use Rattle.rules.specs.Turn.{putThread, putObjects, putChannel, setField, withSlots, filled}
 use Rattle.rules.specs.Tables.{operandItem, row, word, outermostFirst, noFrame, stateWords}
-use Rattle.table.specs.ProgramTable.{Filled}
+use Rattle.table.specs.ProgramTable.{freshTable, Filled}
 use Rattle.table.specs.declared.state.Here.{Here}
 
 -- ---- Values
@@ -36,6 +36,10 @@ InTable (Chan c) = c < mosts .threads
 -- a table that holds the state; `rest` stands past its 8,192 words
 pub record Held (t : List ℕ) (S : State) (rest : List ℕ) : Type 0 where
   pub words : t ≡ stateWords S ++ rest
+
+-- a fresh table becomes that of the start of every run
+pub record Starts (t t₁ : List ℕ) : Type 0 where
+  pub starts : t ≡ freshTable → Held t₁ start []
 
 -- what is read of a table that holds a state of which P holds
 pub record Sees {A : Type 0} (t : List ℕ) (P : State → Type 0) (f : State → A) (r : A) : Type 0 where

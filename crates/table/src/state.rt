@@ -4,15 +4,15 @@ use rules::Cap;
 use rules::Value;
 ghost use mathlib.Core.Path.{_≡_};
 ghost use mathlib.Core.Bool.{cond};
-ghost use mathlib.Core.List.{[], _∷_, _++_};
+ghost use mathlib.Core.List.{[], _∷_};
 ghost use Prim.Native.Nat.{_+_, _-_, _*_, _/_, _%_, _≤_, _<_};
 ghost use lib.Dec.{eqb};
-ghost use lib.ListN.{length, drop, getD, set};
+ghost use lib.ListN.{length, getD, set};
 ghost use Rattle.rules.specs.declared.Value.the-variants.{Absent};
-ghost use Rattle.rules.specs.State.{objectAt, threadAt, channelAt, slotAt, start};
-ghost use Rattle.rules.specs.Tables.{capOf, word, senderWord, stateWords};
+ghost use Rattle.rules.specs.State.{objectAt, threadAt, channelAt, slotAt};
+ghost use Rattle.rules.specs.Tables.{capOf, word, senderWord};
 ghost use Rattle.rules.specs.Turn.{started};
-ghost use Rattle.table.specs.StateTable.{valueOf, InTable, Sees, Becomes, Any, Placed, Stands, frameAt, given, cleared, HasRoom, HasSlot, FieldIn, HasField, stored, channelled, Puts, sending, Pushes, MadeOf, Makes, Copies, Next, Innermost, callee, called, left};
+ghost use Rattle.table.specs.StateTable.{valueOf, InTable, Starts, Sees, Becomes, Any, Placed, Stands, frameAt, given, cleared, HasRoom, HasSlot, FieldIn, HasField, stored, channelled, Puts, sending, Pushes, MadeOf, Makes, Copies, Next, Innermost, callee, called, left};
 
 // Where a thread stands: its number, its innermost frame's number from the outermost, and the places of that frame's words and of its line's.
 pub struct Here {
@@ -461,16 +461,12 @@ pub fn drop_frame(s: &mut [u16], h: Here)
     s[2057 + t * 306] = 0;
 }
 
-// "no object, no channel, no move, and thread 0 alone, before the first line of block 0, its slot 0 absent".
+// "no object, no channel, no move, and thread 0 alone, before the first line of block 0, its slot 0 absent", in words that are all 0.
 pub fn start_state(s: &mut [u16])
     requires { ⌜ 8192 ≤ length (now s) ⌝ }
-    ensures { λ _. ⌜ now (s .exit) ≡ stateWords start ++ drop 8192 (now (s .entry)) ⌝ }
+    ensures { λ _. ⌜ now (s .exit) ≡ set (set (set (now (s .entry)) 1 1) 2056 1) 2060 1 ⌝ }
+    ensures { λ _. ⌜ Starts (now (s .entry)) (now (s .exit)) ⌝ }
 {
-    let mut i: usize = 0;
-    while i < 8192 {
-        s[i] = 0;
-        i += 1;
-    }
     s[1] = 1;
     s[2056] = 1;
     s[2060] = 1;

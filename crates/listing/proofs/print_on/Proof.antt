@@ -1,6 +1,9 @@
 -- `listing::print_on` meets its contract: a short output stays; otherwise the answer is printed, and the state of a run that was made.
 use denote.Ref.{now}
-use mathlib.Core.Path.{sym, _∙_}
+use native.Mathlib.Omega.{arith}
+use mathlib.Core.Path.{sym, ap, _∙_}
+use lib.ListN.{length}
+use Rattle.table.proofs.ProgramTable.{fresh-length}
 use Rattle.listing.specs.Outputs.{runText}
 use Rattle.listing.proofs.PrintOutcomes.{short-output, prints-refusal, prints-run}
 use borrow.Author.Needs.{needs}
@@ -8,10 +11,12 @@ use Rattle.listing.proofs.print_on.Statement.{statement}
 use Rattle.listing.proofs.print_on.Tie as tie
 
 returns : tie.Need-returns
-returns c = let a = c .before .before .before .before .before .before .args in short-output (runText (now (a .text)) (now (a .turns))) (now (a .output)) (c .if1 .taken)
+returns c =
+    let a = c .before .before .before .before .before .before .args in
+    short-output (runText (now (a .text)) (now (a .turns))) (now (a .output)) (c .if1 .taken)
 
-run-requires : tie.Need-run-requires
-run-requires c κs = search needs
+make-requires : tie.Need-make-requires
+make-requires c κs = search needs
 
 put-answer-requires : tie.Need-put-answer-requires
 put-answer-requires c κs = search needs
@@ -31,16 +36,17 @@ same-length-3 c = search needs
 returns-2 : tie.Need-returns-2
 returns-2 c =
     let at-put-answer = c .before .before .before .before in
-    let at-run = at-put-answer .before .before .before .before .before .before in
-    let at-if1 = at-run .before .before .before in
+    let at-make = at-put-answer .before .before .before .before .before .before in
+    let at-if1 = at-make .before .before .before in
     let at-args = at-if1 .before .before .before .before .before .before in
     let a = at-args .args in
-    let x = prints-refusal (now (a .text)) (now (a .turns)) (now (a .program)) (now (a .state)) (at-args .pre .0) (at-args .pre .1) (at-run .run .ensures .0) (at-if1 .if1 .left)
-    (at-put-answer .put-answer .ensures) (sym (c .before .is-refusal .ensures) ∙ c .if2 .taken) in
+    let x = prints-refusal (now (a .text)) (now (a .turns)) (at-args .pre .0) (at-args .pre .1) (at-make .make .ensures) (at-if1 .if1 .left) (at-put-answer .put-answer .ensures) (sym (c .before .is-refusal .ensures) ∙ c .if2 .taken) in
     (x .answers, x .leaves)
 
 put-state-requires : tie.Need-put-state-requires
-put-state-requires c κs = search needs
+put-state-requires c κs =
+    let at-pre = c .before .before .before .before .before .before .before .before .before .before .before .before .before .before .before .before .before .before .before .before .before in
+    (search needs, omega (arith, ap length (at-pre .pre .1), fresh-length))
 
 same-length-4 : tie.Need-same-length-4
 same-length-4 c = search needs
@@ -54,14 +60,13 @@ same-length-6 c = search needs
 returns-3 : tie.Need-returns-3
 returns-3 c =
     let at-if2 = c .before .before .before .before .before in
-    let at-put-answer = at-if2 .before .before .before .before in
-    let at-run = at-put-answer .before .before .before .before .before .before in
-    let at-if1 = at-run .before .before .before in
+    let at-is-refusal = at-if2 .before in
+    let at-put-answer = at-is-refusal .before .before .before in
+    let at-make = at-put-answer .before .before .before .before .before .before in
+    let at-if1 = at-make .before .before .before in
     let at-args = at-if1 .before .before .before .before .before .before in
     let a = at-args .args in
-    let x = prints-run (now (a .text)) (now (a .turns)) (now (a .program)) (now (a .state)) (at-args .pre .0) (at-args .pre .1) (at-run .run .ensures .0) (at-if1 .if1 .left)
-    (at-put-answer .put-answer .ensures)
-    (at-run .run .ensures .1 .1 .0) (sym (at-if2 .before .is-refusal .ensures) ∙ at-if2 .if2 .left) (c .before .before .put-state .ensures) in
+    let x = prints-run (now (a .text)) (now (a .turns)) (at-args .pre .0) (at-args .pre .1) (at-make .make .ensures) (at-if1 .if1 .left) (at-put-answer .put-answer .ensures) (sym (at-is-refusal .is-refusal .ensures) ∙ at-if2 .if2 .left) (c .before .before .put-state .ensures) in
     (x .answers, x .leaves)
 
 pub print-on-spec : {M : Type 1} → statement M
@@ -69,7 +74,7 @@ print-on-spec =
     tie.close
     (tie.spec
     returns
-    run-requires
+    make-requires
     put-answer-requires
     is-refusal-requires
     same-length

@@ -26,18 +26,17 @@ returns : tie.Need-returns
 returns c =
     let at-play = c .before .before .before .before .before in
     let at-start-state = at-play .before .before .before .before in
-    runs-stopped _ (at-start-state .start-state .ensures) (at-play .play .ensures) (c .before .played .given .1)
+    runs-stopped (at-start-state .start-state .ensures .1) (at-play .play .ensures) (c .before .played .given .1)
 
 same-length-2 : tie.Need-same-length-2
 same-length-2 c = search needs
 
 returns-2 : tie.Need-returns-2
 returns-2 c =
-    let at-played2 = c .before .before .before in
-    let at-play = at-played2 .before .before .before .before in
+    let at-play = c .before .before .before .before .before .before .before in
     let at-start-state = at-play .before .before .before .before in
     let at-pre = at-start-state .before .before .before .before .before in
-    runs-through _ (at-start-state .start-state .ensures) (at-play .play .ensures) (at-pre .pre .2) (at-played2 .played2 .given .1) (c .end .ensures)
+    runs-through (at-start-state .start-state .ensures .1) (at-play .play .ensures) (at-pre .pre .2) (c .before .before .before .played2 .given .1) (c .end .ensures)
 
 pub run-program-spec : {M : Type 1} → statement M
 run-program-spec =
