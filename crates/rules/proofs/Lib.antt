@@ -5,7 +5,7 @@ pub mod Printing
 pub mod OneForm
 pub mod Scanned
 pub mod Accepted
--- numbers and objects counted in lists; the walk through fields meets what is reached, each object once
+-- numbers and objects counted in lists; the walk through fields meets what is reached
 pub mod Counts
 pub mod Walks
 -- the inversion of a moving turn; what it leaves of other threads; the state fits its program

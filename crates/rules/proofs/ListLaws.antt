@@ -1,4 +1,4 @@
--- Laws of tests and lists that the theorems share.
+-- Laws of tests and lists that the proofs share.
 use Prim.Native.Nat.{ℕ, zero, suc, _+_, _-_, _*_, _≤_, _<_}
 use native.Mathlib.Nat.{le-of-suc-le-suc, not-suc-le-zero, suc-mul, zero-mul, add-comm, add-assoc, zero-add, suc-add}
 use native.Mathlib.Omega.{arith}

@@ -193,7 +193,7 @@ pub decode-is : (i : ℕ) (l : List ℕ) → i < length forms → (f : Fits-line
 unfolding _>>=_
 decode-is i l i<n f = decode-by i l i<n (λ j j<n g. one-form j i l j<n i<n g f) ∙ rw (f .fits)
 
--- ---- And back: a form written as its line reads as that form, where its numbers have at most three digits
+-- ---- And back: what a form's line prints reads as that form, where its numbers have at most three digits
 
 -- in each form a part ends before a character that cannot go on with it
 forms-parted : all (λ r. parted (r .template)) forms ≡ true

@@ -1,4 +1,4 @@
--- A report lists exactly what a thread reaches, in rising order: the objects met, put in that order, are the one such list. Capabilities play no part.
+-- A report lists exactly what a thread reaches, in rising order: the objects met, put in that order, are the one such list.
 use Prim.Native.Nat.{ℕ, _<_}
 use mathlib.Core.Path.{_≡_}
 use mathlib.Core.Bool.{Bool, true}

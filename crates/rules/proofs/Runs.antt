@@ -1,4 +1,4 @@
--- A run, turn by turn: one turn more is one step more, and a later state is reached by the turns that move.
+-- A run, turn by turn: one turn more is one step more.
 use Prim.Native.Nat.{ℕ, zero, suc, _<_}
 use native.Mathlib.Nat.{le-of-suc-le-suc, not-suc-le-zero}
 use mathlib.Core.Path.{_≡_, refl}

@@ -1,4 +1,4 @@
--- Both tables are 8,192 words of 16 bits, and a state's words tell the state: each part is made up to its length, each number is within its most.
+-- Both tables are 8,192 words, since each part is made up to its length; and what is packed into one word is told by it.
 use Prim.Native.Nat.{ℕ, suc, _+_, _*_, _/_, _%_}
 use native.Mathlib.Omega.{arith}
 use mathlib.Core.Path.{_≡_, refl, sym, ap, _∙_}
@@ -58,7 +58,7 @@ unfolding outermostFirst
 every-outermost Q [] e = tt
 every-outermost Q (f ∷ fs) e = every-snoc Q (outermostFirst fs) f (e .0) (every-outermost Q fs (e .1))
 
--- ---- the words of a state that fits tell it
+-- ---- what a word tells
 
 pub cap-of-rank : (k : Cap) → capOf (rank k) ≡ k
 cap-of-rank Imm = refl

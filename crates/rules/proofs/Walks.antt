@@ -1,5 +1,4 @@
--- The walk meets exactly what is reached, each object once: what is reached is met or lies behind a value to come, an object is met only where it
--- has not been met, and the visits suffice.
+-- The walk meets exactly what is reached: what is reached is met or lies behind a value to come, and the visits suffice.
 use Prim.Native.Nat.{ℕ, zero, suc, _+_, _≤_, _<_, zero-le}
 use native.Mathlib.Omega.{arith}
 use mathlib.Core.Path.{_≡_, refl, ap}

@@ -1,5 +1,5 @@
--- The copied graph is the source's, its numbers renamed: the objects met are those reached, each at one place of the walk, and the place is what a copy's
--- number adds to the old objects.
+-- The copied graph is the source's, its numbers renamed: the objects met are those reached, each at one place of the walk, and the place is what a
+-- copy's number adds to the old objects.
 use Prim.Native.Nat.{ℕ, _+_, _-_, _≤_, _<_}
 use native.Mathlib.Omega.{arith}
 use mathlib.Core.Path.{_≡_, refl, sym, ap, _∙_}

@@ -1,5 +1,5 @@
--- A message is its sender's until it is received: only the sender's own turn takes it off its send, and that waits while the channel holds the message;
--- only a recv empties a channel; and a put, which needs an empty one, raises its number, so that no number comes back.
+-- A message is its sender's until it is received: only the sender's own turn takes it off its send, and that waits while the channel holds the
+-- message; only a recv empties a channel; and a put, which needs an empty one, raises its number, so that no number comes back.
 use Prim.Native.Nat.{ℕ, zero, suc, _+_, _≤_, _<_}
 use native.Mathlib.Omega.{arith}
 use mathlib.Core.Path.{_≡_, refl, sym, ap, _∙_, subst}

@@ -9,19 +9,21 @@ use borrow.Author.Tests.{eqb-true, eq-eqb}
 use Rattle.rules.specs.declared.Value.{Value}
 use Rattle.rules.specs.declared.Value.the-variants.{Obj}
 use Rattle.rules.specs.Lists.{placeOf, Every}
-use Rattle.rules.specs.Reach.{countOne, times, Walked, done, skip, meet}
 use Rattle.rules.specs.State.{Object}
+use Rattle.rules.specs.Reach.{countOne, times, Walked, done, skip, meet}
 use Rattle.rules.proofs.ListLaws.{by-bool}
 use Rattle.rules.proofs.Counts.{object-self, times-snoc, eqb-sym, in-rest}
 
 -- ---- The place of a number
 
+-- what holds of each number of the list holds of one that is in it
 pub time-of-every : (Q : ℕ → Type 0) (xs : List ℕ) → Every Q xs → (x : ℕ) → 1 ≤ times x xs → Q x
 unfolding times
 time-of-every Q [] q x h = absurd (omega arith)
 time-of-every Q (y ∷ xs) q x h =
     by-bool (eqb y x) (λ e. rw (← eqb-true y x e) (q .0)) (λ e. time-of-every Q xs (q .1) x (in-rest x y xs (rw (eqb-sym x y) e) h))
 
+-- at its place it is
 pub get-place : (x : ℕ) (xs : List ℕ) (d : ℕ) → 1 ≤ times x xs → getD xs (placeOf x xs) d ≡ x
 unfolding times placeOf
 get-place x [] d h = absurd (omega arith)

@@ -5,17 +5,17 @@ use mathlib.Core.Path.{_≡_, refl, ap}
 use mathlib.Core.Bool.{Bool}
 use mathlib.Core.List.{List, [], _∷_, _++_, append-nil}
 use lib.ListN.{length, length-map}
-use Rattle.rules.specs.Lists.{rising, among}
-use Rattle.rules.specs.Reach.{slotsOf, messageOn, sendTarget, putBy, inFlight, roots, reachList}
 use Rattle.rules.specs.declared.Value.{Value}
 use Rattle.rules.specs.declared.Value.the-variants.{Absent, Obj, Chan}
+use Rattle.rules.specs.Lists.{rising, among}
 use Rattle.rules.specs.Script.{Program, value, field, swap, call, new, cast, spawn, send, recv, copy, Line, bind, give, lineAt}
 use Rattle.rules.specs.State.{Object, Frame, Sender, ready, waiting, State, threadAt, channelAt}
-use Rattle.rules.specs.Stripped.{stripExpr, strip, eraseObject, erase}
 use Rattle.rules.specs.Walk.{metFrom}
+use Rattle.rules.specs.Stripped.{stripExpr, strip, eraseObject, erase}
+use Rattle.rules.specs.Reach.{slotsOf, messageOn, sendTarget, putBy, inFlight, roots, reachList}
 use Rattle.rules.proofs.ListLaws.{by-bool, length-snoc}
-use Rattle.rules.proofs.Simulation.{stripLine, lineAt-stripped}
 use Rattle.rules.proofs.Walks.{met-erased}
+use Rattle.rules.proofs.Simulation.{stripLine, lineAt-stripped}
 
 length-rising : (f : ℕ → Bool) (n : ℕ) → length (rising n f) ≤ n
 unfolding rising
