@@ -1,7 +1,7 @@
 #!/usr/bin/env python3
 """definitions.py SEED ..: the definitions against the second interpreter. For each seed, random inputs of boxrun are given to the
 second interpreter, and the prover computes what `boxrun` of crates/rules/specs prints for them: both must be the same bytes.
-The cases are written into a copy of the crate, outside the repository. Last line: 'N passed, M failed'."""
+The cases are written into a crate over a copy of rules, outside the repository. Last line: 'N passed, M failed'."""
 import os
 import re
 import shutil
@@ -19,12 +19,12 @@ LEAST_COPIES = 5       # and so do fewer accepted ones with a copy in them
 
 HEAD = '''-- What the definitions print for random inputs, computed.
 use mathlib.Core.Path.{_≡_, refl}
 use Rattle.rules.specs.Mosts.{mosts}
 use Rattle.rules.specs.Text.{bytes, join}
 use Rattle.rules.specs.Reading.{reading}
 use Rattle.rules.specs.Calls.{longText, longTurns}
 use Rattle.rules.specs.Input.{boxrun, outcome, turnsOf, lastLine, linesBefore}
-use Rattle.rules.proofs.Computing.{reads-texts, runs-programs, prints-runs}
+use Rattle.agreement.proofs.Computing.{reads-texts, runs-programs, prints-runs}
 '''
 CASE = '''
 case-%d : boxrun mosts (bytes "%s") ≡ bytes "%s"
@@ -51,6 +51,13 @@ def has_copy(text, printed):
     return b'(copy ' in text and not printed.startswith(b'(refused')
 
 
+def write(folder, name, text):
+    path = os.path.join(folder, name)
+    os.makedirs(os.path.dirname(path), exist_ok=True)
+    with open(path, 'w') as f:
+        f.write(text)
+
+
 def main():
     inputs = [second(['one', seed, str(n)]) for seed in sys.argv[1:] for n in range(INPUTS)]
     pairs = [(i, second([], i)) for i in inputs if quotable(i)]
@@ -60,14 +67,13 @@ def main():
     cases = [CASE % (n, quoted(i), quoted(o), n) for n, (i, o) in enumerate(pairs)]
     with tempfile.TemporaryDirectory() as folder:
         shutil.copytree(os.path.join(ROOT, 'crates/rules'), os.path.join(folder, 'crates/rules'), ignore=shutil.ignore_patterns('must-fail'))
-        proofs = os.path.join(folder, 'crates/rules/proofs')
-        with open(os.path.join(folder, 'crates.txt'), 'w') as f:
-            f.write('rules:\n')
-        with open(os.path.join(proofs, 'Lib.antt'), 'a') as f:
-            f.write('\nmod Agreement\n')
-        with open(os.path.join(proofs, 'Agreement.antt'), 'w') as f:
-            f.write(HEAD + ''.join(cases))
-        check = subprocess.run(['rt', 'check', 'rules'], cwd=folder, stdout=subprocess.PIPE, stderr=subprocess.STDOUT, text=True)
+        write(folder, 'crates.txt', 'rules:\nagreement: rules\n')
+        agreement = os.path.join(folder, 'crates/agreement')
+        write(agreement, 'src/lib.rt', '// No code: cases alone.\n')
+        write(agreement, 'proofs/Lib.antt', 'mod Computing\nmod Agreement\n')
+        write(agreement, 'proofs/Agreement.antt', HEAD + ''.join(cases))
+        shutil.copy(os.path.join(ROOT, 'crates/theorems/proofs/Computing.antt'), os.path.join(agreement, 'proofs'))
+        check = subprocess.run(['rt', 'check', 'agreement'], cwd=folder, stdout=subprocess.PIPE, stderr=subprocess.STDOUT, text=True)
     failed = sorted(set(int(n) for n in re.findall(r'error: `case-(\d+)`', check.stdout)))
     for n in failed:
         print('the definitions print something else for\n' + pairs[n][0].decode())

@@ -16,7 +16,7 @@ use Rattle.rules.specs.Listing.{answerLine}
 use Rattle.rules.specs.Writer as Writer
 use Rattle.rules.specs.Writer.{wrote, shortBuffer, WriteCall}
 use Rattle.rules.proofs.ListLaws.{impossible}
-use Rattle.rules.proofs.Theorems.{every-text-comes-back}
+use Rattle.rules.proofs.Writer.{comes-back}
 use Rattle.reader.specs.ReadAnswers.{answerOf}
 use Rattle.reader.specs.declared.Answer.the-variants as Reader
 use Rattle.listing.specs.declared.Printed.{Printed}
@@ -75,7 +75,7 @@ module _ (text table : List ℕ) (wide : length table ≡ Most.words) where
       of-reading (accepted P) is same =
           let its : table₁ ≡ programAfter (accepted P) table = leaves ∙ ap (λ (x : Reading). programAfter x table) is in (
             ap (λ (x : Reading). savedAs x text) (sym same-reading ∙ is),
-            every-text-comes-back text table output P is (le-ltb (length output) Most.text (omega arith)) answer after (subst (λ (t : List ℕ). WriteCall mosts t output answer after) its call),
+            comes-back mosts text table output P is (le-ltb (length output) Most.text (omega arith)) answer after (subst (λ (t : List ℕ). WriteCall mosts t output answer after) its call),
           )
 
 -- as the writer's own answer has it

@@ -15,8 +15,7 @@ use Rattle.rules.specs.Calls.{longText, readCall}
 use Rattle.rules.specs.Writer.{shortBuffer, WriteCall}
 use Rattle.rules.proofs.Accepted.{reading-accepted}
 use Rattle.rules.proofs.TableWords.{program-words-length}
-use Rattle.rules.proofs.Writer.{reads-into}
-use Rattle.rules.proofs.Theorems.{every-text-comes-back}
+use Rattle.rules.proofs.Writer.{reads-into, comes-back}
 use Rattle.host.specs.Bytes.{bytesOf, wordsOf}
 use Rattle.host.specs.ByteCalls.{shortBytes, tableAfter, readBytes, writeNumber, writeLength, WritesBytes}
 
@@ -44,6 +43,6 @@ script-comes-back text program script P read room number bytes after saved =
     let past : drop Most.words table ≡ rest = drop-at (programWords P) rest Most.words (program-words-length P) in
     let words : wordsOf (tableAfter programWords (accepted P) program) ≡ programWords P ++ drop Most.words table =
     stored-and-loaded (programWords P) _ ∙ ap (programWords P ++_) (sym past) in
-    let written = every-text-comes-back text table script P (read-words text program P read table long) (le-ltb (length script) Most.text room) (saved .answer) after
+    let written = comes-back mosts text table script P (read-words text program P read table long) (le-ltb (length script) Most.text room) (saved .answer) after
     (subst (λ (t : List ℕ). WriteCall mosts t script (saved .answer) after) words (saved .writes)) in
     (saved .number-is ∙ ap writeNumber (written .answers), saved .length-is ∙ ap writeLength (written .answers), written .leaves)

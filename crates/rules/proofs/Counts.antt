@@ -1,13 +1,12 @@
 -- `count` and `times` as sums: an object or a number is in a list where it counts at least once, and then it has a place there.
 use Prim.Native.Nat.{ℕ, zero, suc, _+_, _≤_, _<_}
 use native.Mathlib.Omega.{arith}
-use mathlib.Core.Path.{_≡_, refl, sym, ap, _∙_}
+use mathlib.Core.Path.{_≡_, refl, sym, _∙_}
 use mathlib.Core.Bool.{Bool, true, false, cond, true≢false}
 use mathlib.Core.List.{List, [], _∷_, _++_}
 use mathlib.Core.Logic.{_⊎_, inl, inr}
 use lib.Dec.{T, eqb, eqb→eq, eqb-refl, eqb·zero-suc, eqb·suc-zero, eqb·suc-suc}
-use lib.ListN.{length, getD}
-use borrow.Author.Tests.{eqb-true, eq-eqb}
+use lib.ListN.{length}
 use Rattle.rules.specs.declared.Value.{Value}
 use Rattle.rules.specs.declared.Value.the-variants.{Absent, Obj, Chan}
 use Rattle.rules.specs.Lists.{among, placeOf, Every}
@@ -72,7 +71,7 @@ count-range o c x (v ∷ vs) e h = go (sum-cases (countOne x v) (count x vs) h) 
 
 -- ---- the test of `among` asks for the count
 
-eqb-sym : (m n : ℕ) → eqb m n ≡ eqb n m
+pub eqb-sym : (m n : ℕ) → eqb m n ≡ eqb n m
 eqb-sym zero zero = refl
 eqb-sym zero (suc n) = eqb·zero-suc n ∙ sym (eqb·suc-zero n)
 eqb-sym (suc m) zero = eqb·suc-zero m ∙ sym (eqb·zero-suc m)
@@ -102,15 +101,9 @@ every-time Q [] q = tt
 every-time Q (x ∷ xs) q = (q x (omega (arith, object-self x)), every-time Q xs (λ y h. q y (omega arith)))
 
 -- past a number that it is not
-in-rest : (x y : ℕ) (xs : List ℕ) → eqb x y ≡ false → 1 ≤ times x (y ∷ xs) → 1 ≤ times x xs
+pub in-rest : (x y : ℕ) (xs : List ℕ) → eqb x y ≡ false → 1 ≤ times x (y ∷ xs) → 1 ≤ times x xs
 unfolding times
 in-rest x y xs other h = let none : cond {A = ℕ} (eqb y x) 1 0 ≡ 0 = rw (eqb-sym y x, other) in omega arith
-
-pub time-of-every : (Q : ℕ → Type 0) (xs : List ℕ) → Every Q xs → (x : ℕ) → 1 ≤ times x xs → Q x
-unfolding times
-time-of-every Q [] q x h = absurd (omega arith)
-time-of-every Q (y ∷ xs) q x h =
-    by-bool (eqb y x) (λ e. rw (← eqb-true y x e) (q .0)) (λ e. time-of-every Q xs (q .1) x (in-rest x y xs (rw (eqb-sym x y) e) h))
 
 -- ---- the place of a number
 
@@ -121,31 +114,3 @@ place-there x [] h = absurd (omega arith)
 place-there x (y ∷ xs) h =
     by-bool (eqb x y) (λ e. rw e (omega arith))
     (λ e. rw e (omega (arith, place-there x xs (in-rest x y xs e h))))
-
-pub get-place : (x : ℕ) (xs : List ℕ) (d : ℕ) → 1 ≤ times x xs → getD xs (placeOf x xs) d ≡ x
-unfolding times placeOf
-get-place x [] d h = absurd (omega arith)
-get-place x (y ∷ xs) d h =
-    by-bool (eqb x y) (λ e. rw e (sym (eqb-true x y e)))
-    (λ e. rw e (get-place x xs d (in-rest x y xs e h)))
-
--- numbers in the list that have one place are one number
-pub place-tells : (x y : ℕ) (xs : List ℕ) → 1 ≤ times x xs → 1 ≤ times y xs → placeOf x xs ≡ placeOf y xs → x ≡ y
-place-tells x y xs hx hy e = sym (get-place x xs 0 hx) ∙ ap (λ i. getD xs i 0) e ∙ get-place y xs 0 hy
-
--- what is at a place is in the list
-pub times-get : (xs : List ℕ) (i d : ℕ) → i < length xs → 1 ≤ times (getD xs i d) xs
-unfolding times
-times-get [] i d h = absurd (omega arith)
-times-get (x ∷ xs) zero d h = omega (arith, object-self x)
-times-get (x ∷ xs) (suc i) d h = omega (arith, times-get xs i d (omega arith))
-
--- and where each number is there once, that is its place
-pub place-get : (xs : List ℕ) (i d : ℕ) → ((x : ℕ) → times x xs ≤ 1) → i < length xs → placeOf (getD xs i d) xs ≡ i
-unfolding times placeOf
-place-get [] i d once h = absurd (omega arith)
-place-get (x ∷ xs) zero d once h = rw (eq-eqb x x refl)
-place-get (x ∷ xs) (suc i) d once h =
-    by-bool (eqb (getD xs i d) x)
-    (λ e. absurd (omega (arith, object-self x, once x, rw (eqb-true (getD xs i d) x e) at (times-get xs i d (omega arith)))))
-    (λ e. rw e (ap suc (place-get xs i d (λ y. omega (arith, once y)) (omega arith))))

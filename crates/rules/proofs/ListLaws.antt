@@ -1,4 +1,4 @@
--- Laws of tests and lists that the theorems share.
+-- Laws of tests and lists that the proofs share.
 use Prim.Native.Nat.{ℕ, zero, suc, _+_, _-_, _*_, _≤_, _<_}
 use native.Mathlib.Nat.{le-of-suc-le-suc, not-suc-le-zero, suc-mul, zero-mul, add-comm, add-assoc, zero-add, suc-add}
 use native.Mathlib.Omega.{arith}
@@ -7,7 +7,7 @@ use mathlib.Core.Bool.{Bool, true, false, not, Bool·not-not, _&&_, _||_, cond, 
 use mathlib.Core.List.{List, [], _∷_, _++_, map, map-append, append-assoc, append-nil}
 use lib.Dec.{ltb, eqb, ltb→lt}
 use lib.ListN.{length, getD, set, take, replicate, length-append, length-take, length-replicate, drop, replicate-append-replicate, List·getD-append, List·getD-eq-default}
-use lib.Seq.{take-at, drop-at, take-append-seam, drop-append-seam, take-append-add, take-append-le, drop-append-add, getD-append-add, getD-set-other, getD-take, set-append-left, set-getD, set-split, take-set-lt}
+use lib.Seq.{take-at, drop-at, take-append-add, take-append-le, drop-append-add, getD-append-add, getD-set-other, getD-take, set-append-left, set-getD, set-split, take-set-lt}
 use borrow.Author.Tests.{eqb-true, eqb-false}
 use Rattle.rules.specs.Lists.{any, all, pad, cells, Every}
 
@@ -193,26 +193,11 @@ pub every-pad : {A : Type 0} (Q : A → Type 0) (n : ℕ) (d : A) (xs : List A) 
 unfolding pad
 every-pad Q n d xs h e = every-take Q n (xs ++ replicate n d) (every-append Q xs (replicate n d) e (every-replicate Q n d h))
 
-pub every-cells : {A : Type 0} (Q : ℕ → Type 0) (f : A → List ℕ) (xs : List A) → Every (λ x. Every Q (f x)) xs → Every Q (cells f xs)
-unfolding cells
-every-cells Q f [] e = tt
-every-cells Q f (x ∷ xs) e = every-append Q (f x) (cells f xs) (e .0) (every-cells Q f xs (e .1))
-
-pub append-cut : {A : Type 0} (xs ys us vs : List A) → length xs ≡ length ys → xs ++ us ≡ ys ++ vs → (xs ≡ ys) × (us ≡ vs)
-append-cut xs ys us vs l e = (
-  sym (take-at xs us (length ys) l) ∙ ap (take (length ys)) e ∙ take-append-seam ys vs,
-  sym (drop-at xs us (length ys) l) ∙ ap (drop (length ys)) e ∙ drop-append-seam ys vs,
-)
-
 pub pad-front : {A : Type 0} (n : ℕ) (d : A) (xs : List A) → length xs ≤ n → pad n d xs ≡ xs ++ take (n - length xs) (replicate n d)
 unfolding pad
 pad-front n d xs h =
     let e : n ≡ length xs + (n - length xs) = omega arith in
     ap (λ k. take k (xs ++ replicate n d)) e ∙ take-append-add xs (replicate n d) (n - length xs)
-
--- lists of one length that are not cut are told apart
-pub pad-tells : {A : Type 0} (n : ℕ) (d : A) (xs ys : List A) → length xs ≡ length ys → length xs ≤ n → pad n d xs ≡ pad n d ys → xs ≡ ys
-pad-tells n d xs ys l h e = append-cut xs ys _ _ l (sym (pad-front n d xs h) ∙ e ∙ pad-front n d ys (omega arith)) .0
 
 -- n records of w words
 

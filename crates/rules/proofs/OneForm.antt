@@ -9,13 +9,12 @@ use mathlib.Core.List.{List, [], _∷_, _++_, append-nil, append-assoc}
 use lib.Dec.{eqb}
 use lib.ListN.{length, getD}
 use borrow.Author.Tests.{eqb-false}
-use Rattle.rules.specs.Lists.{placeOf, all, Every}
+use Rattle.rules.specs.Lists.{placeOf, all}
 use Rattle.rules.specs.Text.{bytes}
-use Rattle.rules.specs.Script.{Operand, reads, takes, value, field, swap, call, new, cast, spawn, send, recv, copy, bind, give, thread, method, Form, kind, opens, line}
-use Rattle.rules.specs.Templates.{Taken, took, unfit, _>>=_, orElse, decimal, printOperand, Part, character, oneNumber, oneOperand, oneCap, manyNumbers, manyOperands, Holds, fit, whole, print, Rule, forms, ruleAt, firstFit, decode, show}
-use Rattle.rules.specs.Reading.{slotOf, targetsIn, operandsIn, numbersIn, slotsIn}
-use Rattle.rules.proofs.ListLaws.{by-bool, and-true, all-true, every-at, every-mapped}
-use Rattle.rules.proofs.Printing.{Small, Short, fit-prints, starts, parted, fit-back}
+use Rattle.rules.specs.Script.{Operand, reads, takes, Form}
+use Rattle.rules.specs.Templates.{Taken, took, unfit, _>>=_, orElse, decimal, printOperand, Part, character, oneNumber, oneOperand, oneCap, manyNumbers, manyOperands, Holds, fit, whole, print, Rule, forms, ruleAt, firstFit, decode}
+use Rattle.rules.proofs.ListLaws.{by-bool, and-true, all-true, every-at}
+use Rattle.rules.proofs.Printing.{Short, fit-prints, starts, parted, fit-back}
 
 -- ---- What a form's line begins with
 
@@ -194,7 +193,7 @@ pub decode-is : (i : ℕ) (l : List ℕ) → i < length forms → (f : Fits-line
 unfolding _>>=_
 decode-is i l i<n f = decode-by i l i<n (λ j j<n g. one-form j i l j<n i<n g f) ∙ rw (f .fits)
 
--- ---- And back: a form written as its line reads as that form, where its numbers have at most three digits
+-- ---- And back: what a form's line prints reads as that form, where its numbers have at most three digits
 
 -- in each form a part ends before a character that cannot go on with it
 forms-parted : all (λ r. parted (r .template)) forms ≡ true
@@ -210,20 +209,3 @@ print-fits i p l i<n h =
 
 pub print-decodes : (i : ℕ) (p : Holds (ruleAt i .template)) → i < length forms → Short (ruleAt i .template) p → decode (print (ruleAt i .template) p) ≡ took (ruleAt i .make p) []
 print-decodes i p i<n h = decode-is i _ i<n (record { parts = p; fits = rw append-nil at (print-fits i p [] i<n h) })
-
-pub decode-show : (F : Form) → Every Small (slotsIn F) → Every Small (numbersIn F) → decode (show F) ≡ took F []
-unfolding show slotsIn targetsIn operandsIn numbersIn
-decode-show (kind K) s n = print-decodes 0 (K .fields, (K .methods, tt)) (omega arith) (n .0, (n .1, tt))
-decode-show (opens thread) s n = print-decodes 1 tt (omega arith) tt
-decode-show (opens method) s n = print-decodes 2 tt (omega arith) tt
-decode-show (line (give w)) s n = print-decodes 3 (w, tt) (omega arith) s
-decode-show (line (bind (value w))) s n = print-decodes 4 (w, tt) (omega arith) s
-decode-show (line (bind (field x f))) s n = print-decodes 5 (x, (f, tt)) (omega arith) (s .0, n)
-decode-show (line (bind (swap x f w))) s n = print-decodes 6 (x, (f, (w, tt))) (omega arith) (s .0, (n .0, s .1))
-decode-show (line (bind (call x i w))) s n = print-decodes 7 (x, (i, (w, tt))) (omega arith) (s .0, (n .0, s .1))
-decode-show (line (bind (new k i ws))) s n = print-decodes 8 (k, (i, (ws, tt))) (omega arith) (n .0, (every-mapped Small slotOf ws s, tt))
-decode-show (line (bind (cast k w))) s n = print-decodes 9 (k, (w, tt)) (omega arith) s
-decode-show (line (bind (spawn b))) s n = print-decodes 10 (b, tt) (omega arith) n
-decode-show (line (bind (send x w))) s n = print-decodes 11 (x, (w, tt)) (omega arith) s
-decode-show (line (bind (recv x))) s n = print-decodes 12 (x, tt) (omega arith) s
-decode-show (line (bind (copy k x))) s n = print-decodes 13 (k, (x, tt)) (omega arith) s

@@ -1,27 +1,25 @@
--- A report lists exactly what a thread reaches, in rising order: the objects met, put in that order, are the one such list. Capabilities play no part.
-use Prim.Native.Nat.{ℕ, _≤_, _<_}
-use mathlib.Core.Path.{_≡_, refl, ap}
+-- A report lists exactly what a thread reaches, in rising order: the objects met, put in that order, are the one such list.
+use Prim.Native.Nat.{ℕ, _<_}
+use mathlib.Core.Path.{_≡_}
 use mathlib.Core.Bool.{Bool, true}
-use mathlib.Core.List.{List, [], _∷_, _++_}
+use mathlib.Core.List.{List, [], _∷_}
 use mathlib.Core.Logic.{_↔_}
 use lib.Dec.{eqb}
-use lib.ListN.{length, length-map}
+use lib.ListN.{length}
 use Rattle.rules.specs.declared.Value.{Value}
 use Rattle.rules.specs.declared.Value.the-variants.{Absent, Obj, Chan}
 use Rattle.rules.specs.declared.Mosts.{Mosts}
 use Rattle.rules.specs.Lists.{among, rising, Every}
-use Rattle.rules.specs.Script.{Program, value, field, swap, call, new, cast, spawn, send, recv, copy, Line, bind, give, lineAt}
+use Rattle.rules.specs.Script.{Program, lineAt}
 use Rattle.rules.specs.State.{Object, Frame, Sender, ready, waiting, State, threadAt, channelAt}
-use Rattle.rules.specs.Stripped.{stripExpr, strip, eraseObject, erase}
 use Rattle.rules.specs.Fits.{InRange, Fits}
 use Rattle.rules.specs.Reach.{ReachedFrom, slotsOf, messageOf, messageOn, sendTarget, putBy, inFlight, roots, Lists, OneList, reachList}
 use Rattle.rules.specs.Walk.{metFrom}
 use Rattle.rules.proofs.ListLaws.{by-bool, every-map, every-append, every-snoc}
 use Rattle.rules.proofs.Keeps.{fields-in-range, each-frame, thread-fits, channel-fits}
-use Rattle.rules.proofs.Simulation.{stripLine, lineAt-stripped}
 use Rattle.rules.proofs.Counts.{times-among, among-times}
-use Rattle.rules.proofs.Rising.{rising-has, rising-holds, length-rising, rising-rises, rising-one}
-use Rattle.rules.proofs.Walks.{walked-range, met-walked, met-reached, met-erased}
+use Rattle.rules.proofs.Rising.{rising-has, rising-holds, rising-rises, rising-one}
+use Rattle.rules.proofs.Walks.{walked-range, met-walked, met-reached}
 
 -- ---- the one list of what is reached
 
@@ -37,10 +35,6 @@ rising-lists n f is low =
       reached = λ x. ((λ h. is x .0 (rising-holds f n x h .1)), (λ r. rising-has f n x (low x r) (is x .1 r)));
       rises = rising-rises n f;
     }
-
-pub reach-few : (os : List Object) (vs : List Value) → length (reachList os vs) ≤ length os
-unfolding reachList
-reach-few os vs = length-rising (λ x. among x (metFrom os vs)) (length os)
 
 -- ---- only made objects are reached
 
@@ -88,41 +82,3 @@ module _ {m : Mosts} {P : Program} {n : ℕ} {S : State} (fits : Fits m P n S) w
       (λ x. ((λ h. met-reached (S .objects) (roots P S t) x .0 (times-among x _ h)), (λ r. among-times x _ (met-reached (S .objects) (roots P S t) x .1 r))))
       (reached-range (roots P S t) (roots-made t)) in
       record { lists = lists; only = λ other l. lists-one l lists }
-
--- a send stays what it is
-send-stripped : (x : Line) (vs : List Value) → sendTarget (stripLine x) vs ≡ sendTarget x vs
-unfolding sendTarget stripLine stripExpr
-send-stripped (bind (value w)) vs = refl
-send-stripped (bind (field s f)) vs = refl
-send-stripped (bind (swap s f w)) vs = refl
-send-stripped (bind (call s i w)) vs = refl
-send-stripped (bind (new k n ws)) vs = refl
-send-stripped (bind (cast k w)) vs = refl
-send-stripped (bind (spawn b)) vs = refl
-send-stripped (bind (send s w)) vs = refl
-send-stripped (bind (recv s)) vs = refl
-send-stripped (bind (copy k s)) vs = refl
-send-stripped (give w) vs = refl
-
-message-erased : (S : State) (i : ℕ) (v : Value) → messageOn (erase S) i v ≡ messageOn S i v
-unfolding messageOn erase channelAt
-message-erased S i Absent = refl
-message-erased S i (Obj n) = refl
-message-erased S i (Chan c) = refl
-
-put-erased : (P : Program) (S : State) (d : Sender) (fs : List Frame) → putBy (strip P) (erase S) d fs ≡ putBy P S d fs
-unfolding putBy
-put-erased P S ready fs = refl
-put-erased P S (waiting i) [] = refl
-put-erased P S (waiting i) (f ∷ fs) =
-    rw (lineAt-stripped P (f .block) (f .line), send-stripped (lineAt P (f .block) (f .line)) (f .slots)) (message-erased S i (sendTarget (lineAt P (f .block) (f .line)) (f .slots)))
-
-roots-erased : (P : Program) (S : State) (t : ℕ) → roots (strip P) (erase S) t ≡ roots P S t
-unfolding roots inFlight erase threadAt
-roots-erased P S t = ap (λ v. slotsOf (threadAt S t .frames) ++ (v ∷ [])) (put-erased P S (threadAt S t .sender) (threadAt S t .frames))
-
--- a thread reaches the same objects, in the same order, in the erased state of the stripped script
-pub reach-erased : (P : Program) (S : State) (t : ℕ) → reachList (erase S .objects) (roots (strip P) (erase S) t) ≡ reachList (S .objects) (roots P S t)
-unfolding reachList erase
-reach-erased P S t =
-    rw (roots-erased P S t, length-map (S .objects) eraseObject) (ap (λ (xs : List ℕ). rising (length (S .objects)) (λ x. among x xs)) (met-erased (S .objects) (roots P S t)))

@@ -1,5 +1,5 @@
 -- Lists that rise: the numbers below n of which f holds are one, and two lists that rise and hold the same numbers are equal.
-use Prim.Native.Nat.{ℕ, zero, suc, _+_, _≤_, _<_, zero-le}
+use Prim.Native.Nat.{ℕ, zero, suc, _≤_, _<_, zero-le}
 use native.Mathlib.Nat.{add-zero, zero-add, le-refl}
 use native.Mathlib.Omega.{arith}
 use mathlib.Core.Path.{_≡_, refl, sym, ap, _∙_}
@@ -7,11 +7,10 @@ use mathlib.Core.Bool.{Bool, true, false, cond}
 use mathlib.Core.List.{List, [], _∷_, _++_, append-nil}
 use mathlib.Core.Logic.{_↔_}
 use lib.Dec.{eqb, ltb}
-use lib.ListN.{length}
 use borrow.Author.Tests.{eqb-true, eqb-false, eq-eqb, ne-eqb, ltb-true, ltb-false, lt-ltb, le-ltb}
 use Rattle.rules.specs.Lists.{rising}
 use Rattle.rules.specs.Reach.{times, RisingFrom}
-use Rattle.rules.proofs.ListLaws.{by-bool, length-snoc}
+use Rattle.rules.proofs.ListLaws.{by-bool}
 use Rattle.rules.proofs.Counts.{times-append}
 
 -- ---- How often a number stands among them
@@ -54,12 +53,6 @@ module _ (f : ℕ → Bool) where
     where
       few : times x (rising n f) ≡ 0 → ⊥
       few e = omega (arith, e)
-
-  pub length-rising : (n : ℕ) → length (rising n f) ≤ n
-  unfolding rising
-  length-rising zero = zero-le
-  length-rising (suc n) =
-      by-bool (f n) (λ t. rw t (omega (arith, length-rising n, length-snoc (rising n f) n))) (λ t. rw (t, append-nil (rising n f)) (omega (arith, length-rising n)))
 
 -- ---- They rise
 

@@ -1,23 +1,19 @@
--- The walk meets exactly what is reached, each object once: what is reached is met or lies behind a value to come, an object is met only where it
--- has not been met, and the visits suffice.
+-- The walk meets exactly what is reached: what is reached is met or lies behind a value to come, and the visits suffice.
 use Prim.Native.Nat.{ℕ, zero, suc, _+_, _≤_, _<_, zero-le}
 use native.Mathlib.Omega.{arith}
 use mathlib.Core.Path.{_≡_, refl, ap}
 use mathlib.Core.Bool.{Bool, true, false}
 use mathlib.Core.List.{List, [], _∷_, _++_, map}
 use mathlib.Core.Logic.{_⊎_, inl, inr, _↔_}
-use lib.Dec.{eqb}
 use lib.ListN.{length, length-append, List·getD-map}
-use borrow.Author.Tests.{eqb-true, eq-eqb}
 use Rattle.rules.specs.declared.Value.{Value}
 use Rattle.rules.specs.declared.Value.the-variants.{Absent, Obj, Chan}
-use Rattle.rules.specs.Lists.{among, placeOf, Every}
+use Rattle.rules.specs.Lists.{among, Every}
 use Rattle.rules.specs.State.{Object, noObject, objectAt}
 use Rattle.rules.specs.Stripped.{eraseObject}
 use Rattle.rules.specs.Fits.{InRange}
 use Rattle.rules.specs.Reach.{countOne, count, times, Reaches, here, more, ReachedFrom, Walked, done, skip, meet}
 use Rattle.rules.specs.Walk.{walk, visit, visits, metFrom}
-use Rattle.rules.proofs.ListLaws.{by-bool}
 use Rattle.rules.proofs.Counts.{sum-cases, object-self, object-equal, object-met, count-append, times-snoc, count-range, times-among, times-not-among}
 
 module _ (os : List Object) where
@@ -94,29 +90,6 @@ module _ (os : List Object) where
   unfolding times
   walked-range o c fields {vs} slots w =
       met-only (λ x. x < o) (λ y x there h. count-range o c x (objectAt os y .fields) (fields y there) h) w (λ x h. count-range o c x vs slots (omega arith))
-
-  -- each object is met once
-  pub walked-once : {met out : List ℕ} {vs : List Value} → Walked os met vs out → ((x : ℕ) → times x met ≤ 1) → (x : ℕ) → times x out ≤ 1
-  walked-once done once x = once x
-  walked-once (skip k w) once x = walked-once w once x
-  walked-once (meet {met = met} {n = n} k w) once x = walked-once w again x
-    where
-      again : (y : ℕ) → times y (met ++ (n ∷ [])) ≤ 1
-      again y = by-bool (eqb n y)
-          (λ e. rw (← eqb-true n y e) (omega (arith, times-snoc n met n, object-self n)))
-          (λ e. let other : countOne y (Obj n) ≡ 0 = rw e in omega (arith, times-snoc y met n, once y))
-
-  -- what is met first stays in its place, so a walk begins with the first value's object
-  stays-first : {n : ℕ} {met out : List ℕ} {vs : List Value} → Walked os (n ∷ met) vs out → placeOf n out ≡ 0
-  unfolding placeOf
-  stays-first {n} done = rw (eq-eqb n n refl)
-  stays-first (skip k w) = stays-first w
-  stays-first (meet k w) = stays-first w
-
-  pub walked-first : {n : ℕ} {out : List ℕ} {vs : List Value} → Walked os [] (Obj n ∷ vs) out → placeOf n out ≡ 0
-  unfolding times
-  walked-first {n} (skip k w) = absurd (omega (arith, k n, object-self n))
-  walked-first (meet k w) = stays-first w
 
   -- a walk meets the same objects in the same order as any other from the same numbers met over the same values
   pub walked-one : {met a b : List ℕ} {vs : List Value} → Walked os met vs a → Walked os met vs b → a ≡ b

@@ -20,10 +20,8 @@ pub mod Fits
 pub mod Tables
 -- "Guarded and stripped": demand 3
 pub mod Stripped
--- the reach report; what a copy comes to; messages that are sent and not yet received; what the calls answer and leave in what was lent; a script written back out
+-- the reach report; what the calls answer and leave in what was lent; a script written back out
 pub mod Reach
-pub mod Copies
-pub mod InFlight
 pub mod Calls
 pub mod Writer
 -- "The printed run": the listing, and boxrun's own input

@@ -2,7 +2,7 @@
 use Prim.Native.Nat.{ℕ, zero, suc, _+_}
 use mathlib.Core.Bool.{Bool, true, false, cond}
 use mathlib.Core.List.{List, [], _∷_, _++_}
-use lib.ListN.{length, take}
+use lib.ListN.{length}
 use Rattle.rules.specs.declared.Mosts.{Mosts}
 use Rattle.rules.specs.Lists.{all}
 use Rattle.rules.specs.Script.{Program}
@@ -51,10 +51,6 @@ runFrom m P r (t ∷ ts) = runFrom m P (advance m P (r .state) (r .moves) (r .st
 
 unfoldable pub run : Mosts → Program → List ℕ → Run
 run m P ts = runFrom m P fresh ts
-
--- the state after k turns of the list
-unfoldable pub stateAt : Mosts → Program → List ℕ → ℕ → State
-stateAt m P ts k = run m P (take k ts) .state
 
 -- ---- "The end is finished (all threads finished), stuck (some unfinished, and each of these would wait), else open."
 

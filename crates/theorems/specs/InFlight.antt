@@ -3,14 +3,18 @@ use Prim.Native.Nat.{ℕ, suc, _≤_, _<_}
 use mathlib.Core.Path.{_≡_}
 use mathlib.Core.Bool.{Bool, true, false, not}
 use mathlib.Core.List.{List, [], _∷_}
-use lib.ListN.{length, getD}
+use lib.ListN.{length, getD, take}
 use Rattle.rules.specs.declared.Value.the-variants.{Chan}
 use Rattle.rules.specs.declared.Mosts.{Mosts}
 use Rattle.rules.specs.Script.{Program, Operand, send, recv, bind, lineAt}
 use Rattle.rules.specs.State.{Frame, waiting, State, threadAt, channelAt, slotAt}
 use Rattle.rules.specs.Turn.{isAbsent, filled}
-use Rattle.rules.specs.Run.{stateAt}
+use Rattle.rules.specs.Run.{run}
 use Rattle.rules.specs.Reach.{ReachedFrom, slotsOf, messageOf, roots}
+
+-- the state after k turns of the list
+unfoldable pub stateAt : Mosts → Program → List ℕ → ℕ → State
+stateAt m P ts k = run m P (take k ts) .state
 
 -- whether channel c still holds its message i
 unfoldable pub holds : State → (c i : ℕ) → Bool

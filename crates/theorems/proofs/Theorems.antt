@@ -4,32 +4,33 @@ use native.Mathlib.Omega.{arith}
 use mathlib.Core.Path.{_≡_}
 use mathlib.Core.List.{List, _++_, map}
 use lib.ListN.{length}
 use Rattle.rules.specs.declared.Cap.{Cap}
 use Rattle.rules.specs.Mosts as Most
 use Rattle.rules.specs.Mosts.{mosts}
 use Rattle.rules.specs.Lists.{Every}
 use Rattle.rules.specs.Text.{join}
 use Rattle.rules.specs.Script.{Program, linesOf}
 use Rattle.rules.specs.Templates.{show, headOf}
 use Rattle.rules.specs.Reading.{accepted, script}
 use Rattle.rules.specs.State.{Frame, State}
 use Rattle.rules.specs.Run.{run}
 use Rattle.rules.specs.Tables.{programWords, stateWords}
 use Rattle.rules.specs.Stripped.{Matches}
 use Rattle.rules.specs.Valid.{Valid}
 use Rattle.rules.specs.Fits.{Fits}
 use Rattle.rules.specs.Reach.{roots, OneList, reachList}
-use Rattle.rules.specs.Copies.{AtCopy, CopyTurn}
-use Rattle.rules.specs.InFlight.{SendersKeep}
+use Rattle.theorems.specs.Copies.{AtCopy, CopyTurn}
+use Rattle.theorems.specs.InFlight.{SendersKeep}
 use Rattle.rules.specs.Writer.{ComesBack}
 use Rattle.rules.proofs.Accepted.{accepted-valid, accepted-prints}
 use Rattle.rules.proofs.Keeps.{keeps-run, moves-few, fits-run}
 use Rattle.rules.proofs.Demand3.{stripped-matches}
-use Rattle.rules.proofs.Reports.{reach-few, reach-lists}
-use Rattle.rules.proofs.Copies.{copy-turn}
-use Rattle.rules.proofs.InFlight.{senders-keep}
-use Rattle.rules.proofs.TableWords.{In16Bits, program-words-small, state-words-small}
+use Rattle.rules.proofs.Reports.{reach-lists}
 use Rattle.rules.proofs.Writer.{comes-back}
+use Rattle.theorems.proofs.SmallWords.{In16Bits, program-words-small, state-words-small}
+use Rattle.theorems.proofs.ReportLaws.{reach-few}
+use Rattle.theorems.proofs.Copies.{copy-turn}
+use Rattle.theorems.proofs.InFlight.{senders-keep}
 
 module _ (text : List ℕ) (P : Program) (is-accepted : script mosts text ≡ accepted P) where
   -- its program guarantees what the run relies on

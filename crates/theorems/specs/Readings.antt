@@ -1,22 +1,22 @@
 -- What the orders of refusals and checks and the four "Readings that sound reasonable" come to: cases in which another order or reading
--- would give something else, computed from their texts; what copies give; and what messages in flight add to the reports.
+-- would give something else; what copies give; and what messages in flight add to the reports.
 use Prim.Native.Nat.{ℕ}
 use Prim.Native.String as S
-use mathlib.Core.Path.{_≡_, refl}
+use mathlib.Core.Path.{_≡_}
 use mathlib.Core.List.{List, [], _∷_, map}
 use Rattle.rules.specs.declared.Cap.{Cap}
 use Rattle.rules.specs.declared.Cap.the-variants.{Imm, Local, Unsafe}
 use Rattle.rules.specs.declared.Value.the-variants.{Obj}
 use Rattle.rules.specs.Mosts.{mosts}
 use Rattle.rules.specs.Text.{bytes}
 use Rattle.rules.specs.Reading.{Reading, turnedAway, accepted, script}
 use Rattle.rules.specs.State.{ready, State}
 use Rattle.rules.specs.Turn.{Res, stop, copyLine}
 use Rattle.rules.specs.Run.{run, refused, ended, halted, finished, stuck, openEnd}
 use Rattle.rules.specs.Reach.{roots, reachList}
-use Rattle.rules.proofs.Computing.{Case, guarded, stripped, prints, answers, AllHold, computed, reaches-objects}
+use Rattle.theorems.specs.Cases.{Case, guarded, stripped, prints, answers}
 
-refusals : List Case
+unfoldable pub refusals : List Case
 refusals =
     -- Two refusals hold of a line: 2 before 3, 3 before 4, 4 before 5, 5 before 6. A 6 goes before what is found after all lines.
     answers "(thraed!)\n" [] guarded (refused 2 0)
@@ -35,11 +35,7 @@ refusals =
     ∷ answers "(kind (fields 0) (does 0))\n(method)\n(let (spawn 9))\n(give (read 1))\n" [] guarded (refused 8 1)
     ∷ []
 
-every-refusal : AllHold refusals
-unfolding refusals computed
-every-refusal = refl
-
-cases : List Case
+unfoldable pub cases : List Case
 cases =
     -- Thread 1 holds an object that is local to thread 0, and its kind has no field and no method: 11 and 12 go before 20.
     answers "(kind (fields 0) (does))\n(kind (fields 1) (does))\n(thread)\n(let (spawn 1))\n(let (new local 0))\n(let (new unsafe 1 (read 2)))\n(let (send 1 (read 3)))\n(give (read 1))\n(thread)\n(let (recv 0))\n(let (field 1 0))\n(let (field 2 0))\n(give (read 1))\n" (0 ∷ 0 ∷ 0 ∷ 0 ∷ 1 ∷ 1 ∷ 1 ∷ []) guarded (halted 11 1 1 2 6)
@@ -71,12 +67,8 @@ cases =
     ∷ answers "(kind (fields 0) (does))\n(thread)\n(let (spawn 1))\n(let (new imm 0))\n(let (send 1 (read 2)))\n(give (read 1))\n(thread)\n(let (recv 0))\n(let (send 0 (read 1)))\n(give (read 0))\n" (0 ∷ 0 ∷ 0 ∷ 1 ∷ 1 ∷ 0 ∷ []) guarded (ended openEnd 6)
     ∷ []
 
-every-case : AllHold cases
-unfolding cases computed
-every-case = refl
-
 -- Document 02, L5: "Where several hold, 20 goes before 19 and 19 before 14 within one line's permission check; operands still go first."
-grounds : List Case
+unfoldable pub grounds : List Case
 grounds =
     -- Thread 1 holds an object that is local to thread 0 and whose field holds an iso, in slot 2; what was sent, an unsafe object, is in slot 1.
     -- Field: the target is foreign and its field holds an iso. 20 goes before 19.
@@ -98,13 +90,9 @@ grounds =
     ∷ answers "(kind (fields 0) (does))\n(kind (fields 1) (does 2))\n(kind (fields 2) (does))\n(thread)\n(let (spawn 1))\n(let (new iso 0))\n(let (new local 1 (take 2)))\n(let (new unsafe 1 (read 3)))\n(let (send 1 (read 4)))\n(give (read 1))\n(thread)\n(let (recv 0))\n(let (field 1 0))\n(let (send 0 (read 2)))\n(give (read 1))\n(method)\n(give (read 1))\n" (0 ∷ 0 ∷ 0 ∷ 0 ∷ 0 ∷ 1 ∷ 1 ∷ 1 ∷ []) guarded (halted 14 1 1 2 7)
     ∷ []
 
-every-ground : AllHold grounds
-unfolding grounds computed
-every-ground = refl
-
 -- ---- Copies (document 02, L6)
 
-editions : List Case
+unfoldable pub editions : List Case
 editions =
     -- The first line names the edition and counts in the numbers of lines.
     answers "(script 2)\n" [] guarded (refused 7 1)
@@ -122,16 +110,12 @@ editions =
     ∷ answers "(script 2)\n(thread)\n(let (copy imm 1))\n(give (read 0))\n" [] guarded (refused 5 2)
     ∷ []
 
-every-edition : AllHold editions
-unfolding editions computed
-every-edition = refl
-
 -- thread 1 gets an unsafe object that holds an object local to thread 0, and copies it
-foreignWithin : S.String
+unfoldable pub foreignWithin : S.String
 foreignWithin =
     "(script 2)\n(kind (fields 0) (does))\n(kind (fields 1) (does))\n(thread)\n(let (spawn 1))\n(let (new local 0))\n(let (new unsafe 1 (read 2)))\n(let (send 1 (read 3)))\n(give (read 1))\n(thread)\n(let (recv 0))\n(let (copy imm 1))\n(give (read 2))\n"
 
-copies : List Case
+unfoldable pub copies : List Case
 copies =
     -- Objects 1 and 2 hold each other, and both hold object 0. The copy of 2 meets 2, 1 and 0: they become 3, 4 and 5.
     record {
@@ -150,12 +134,8 @@ copies =
     ∷ answers foreignWithin (0 ∷ 0 ∷ 0 ∷ 0 ∷ 1 ∷ 1 ∷ 1 ∷ []) stripped (ended openEnd 7)
     ∷ []
 
-every-copy : AllHold copies
-unfolding foreignWithin copies computed
-every-copy = refl
-
 -- Thread 1 of a box with room for one object copies an object that is local to thread 0: 20 goes before 16. For an unsafe one it is 16.
-copyWithin : ℕ → Cap → Res State
+unfoldable pub copyWithin : ℕ → Cap → Res State
 copyWithin room c =
     copyLine (record { kinds = 0; blocks = 0; lets = 0; objects = room; threads = 0 })
     (record {
@@ -167,29 +147,32 @@ copyWithin room c =
     })
     Imm 0
 
-every-room : (copyWithin 1 Local ≡ stop 20) × (copyWithin 1 Unsafe ≡ stop 16)
-unfolding copyWithin computed
-every-room = (refl, refl)
+abbrev pub ForeignBeforeRoom : Type 0
+ForeignBeforeRoom = (copyWithin 1 Local ≡ stop 20) × (copyWithin 1 Unsafe ≡ stop 16)
 
 -- ---- Reach reports (document 02, L1 and L4)
 
 -- what a thread reaches after these turns
-record Reach : Type 0 where
-  text : S.String
-  turns : List ℕ
-  thread : ℕ
-  reached : List ℕ
+pub record Reach : Type 0 where
+  pub text : S.String
+  pub turns : List ℕ
+  pub thread : ℕ
+  pub reached : List ℕ
 
-reachedIn : List ℕ → ℕ → Reading → List ℕ
+unfoldable pub reachedIn : List ℕ → ℕ → Reading → List ℕ
 reachedIn ts t (turnedAway k n) = []
 reachedIn ts t (accepted P) = let S = run mosts P ts .state in reachList (S .objects) (roots P S t)
 
+-- every report of a table comes out as stated
+abbrev pub AllReached : List Reach → Type 0
+AllReached cs = map (λ (c : Reach). reachedIn (c .turns) (c .thread) (script mosts (bytes (c .text)))) cs ≡ map (λ (c : Reach). c .reached) cs
+
 -- thread 0 sends object 1, which holds object 0; thread 1 receives it and sends it back
-echo : S.String
+unfoldable pub echo : S.String
 echo =
     "(kind (fields 0) (does))\n(kind (fields 1) (does))\n(thread)\n(let (spawn 1))\n(let (new iso 0))\n(let (new iso 1 (take 2)))\n(let (send 1 (take 3)))\n(give (read 1))\n(thread)\n(let (recv 0))\n(let (send 0 (take 1)))\n(give (read 0))\n"
 
-reports : List Reach
+unfoldable pub reports : List Reach
 reports =
     -- the message in the channel, and what it reaches, is its sender's; it is not yet the receiver's
     record { text = echo; turns = 0 ∷ 0 ∷ 0 ∷ 0 ∷ []; thread = 0; reached = 0 ∷ 1 ∷ [] }
@@ -201,7 +184,3 @@ reports =
     ∷ record { text = echo; turns = 0 ∷ 0 ∷ 0 ∷ 0 ∷ 1 ∷ 1 ∷ []; thread = 0; reached = [] }
     ∷ record { text = echo; turns = 0 ∷ 0 ∷ 0 ∷ 0 ∷ 1 ∷ 1 ∷ []; thread = 1; reached = 0 ∷ 1 ∷ [] }
     ∷ []
-
-every-report : map (λ (c : Reach). reachedIn (c .turns) (c .thread) (script mosts (bytes (c .text)))) reports ≡ map (λ (c : Reach). c .reached) reports
-unfolding echo reports reachedIn computed reaches-objects
-every-report = refl

@@ -1,5 +1,5 @@
--- A message is its sender's until it is received: only the sender's own turn takes it off its send, and that waits while the channel holds the message;
--- only a recv empties a channel; and a put, which needs an empty one, raises its number, so that no number comes back.
+-- A message is its sender's until it is received: only the sender's own turn takes it off its send, and that waits while the channel holds the
+-- message; only a recv empties a channel; and a put, which needs an empty one, raises its number, so that no number comes back.
 use Prim.Native.Nat.{ℕ, zero, suc, _+_, _≤_, _<_}
 use native.Mathlib.Omega.{arith}
 use mathlib.Core.Path.{_≡_, refl, sym, ap, _∙_, subst}
@@ -10,24 +10,24 @@ use lib.Dec.{eqb}
 use lib.ListN.{length, getD}
 use lib.Seq.{getD-set-same, getD-set-other}
 use borrow.Author.Tests.{eqb-true, eqb-false, eq-eqb, ne-eqb}
 use Rattle.rules.specs.declared.Value.{Value}
 use Rattle.rules.specs.declared.Value.the-variants.{Absent, Obj, Chan}
 use Rattle.rules.specs.declared.Mosts.{Mosts}
 use Rattle.rules.specs.Script.{Program, Operand, Line, bind, send, recv, lineAt}
 use Rattle.rules.specs.State.{Frame, Sender, ready, waiting, Thread, noThread, Channel, emptyChannel, State, threadAt, channelAt, slotAt, start}
 use Rattle.rules.specs.Turn.{ok, isAbsent, Here, putThread, putObjects, putChannel, filled, withSlots, gives, started, turn}
 use Rattle.rules.specs.Lists.{Every}
-use Rattle.rules.specs.Run.{runFrom, run, stateAt}
+use Rattle.rules.specs.Run.{runFrom, run}
 use Rattle.rules.specs.Valid.{Valid}
 use Rattle.rules.specs.Fits.{InRange, Fits}
-use Rattle.rules.specs.InFlight.{holds, WaitsOn, HasSender, Received, SendersKeep}
+use Rattle.theorems.specs.InFlight.{stateAt, holds, WaitsOn, HasSender, Received, SendersKeep}
 use Rattle.rules.specs.Reach.{count, ReachedFrom, slotsOf, messageOf, messageOn, sendTarget, putBy, inFlight, roots}
 use Rattle.rules.proofs.ListLaws.{impossible, by-bool, of-not, length-snoc}
 use Rattle.rules.proofs.Moves.{Step, by-value, by-field, by-swap, by-call, by-new, by-cast, by-spawn, by-put, by-sent, by-recv, by-copy, by-return, by-finish, moved, hereAt, MessagePut, MessageReceived, nextNumber, putMessage, emptied}
-use Rattle.rules.proofs.Runs.{Later, now, then, one-turn, later, from-start}
 use Rattle.rules.proofs.Counts.{count-append}
 use Rattle.rules.proofs.OtherThreads.{Other, kept, begun, turn-other}
 use Rattle.rules.proofs.Keeps.{HereFits, here-fits, slot-range, left-range, keeps-turn, keeps-run}
+use Rattle.theorems.proofs.LaterStates.{Later, now, then, one-turn, later, from-start}
 
 -- ---- What a channel holds
 

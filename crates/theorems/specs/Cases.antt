@@ -1,15 +1,64 @@
--- The starred bench cases of document 01, D as document 02, L5, has it, as one table: each is computed from its text.
+-- Cases: a script and its turns, and what is stated of it. The starred bench cases of document 01, D as document 02, L5, has it, are one table.
+use Prim.Native.Nat.{ℕ}
 use Prim.Native.String as S
-use mathlib.Core.Path.{refl}
-use mathlib.Core.List.{List, [], _∷_}
+use mathlib.Core.Path.{_≡_}
+use mathlib.Core.List.{List, map, [], _∷_}
+use Rattle.rules.specs.Mosts.{mosts}
 use Rattle.rules.specs.Text.{bytes}
-use Rattle.rules.specs.Run.{refused, ended, halted, finished, stuck, openEnd}
-use Rattle.rules.proofs.Computing.{Case, guarded, stripped, prints, answers, AllHold, computed}
+use Rattle.rules.specs.Reading.{Reading, turnedAway, accepted, script}
+use Rattle.rules.specs.Run.{Answer, answer, refused, ended, halted, finished, stuck, openEnd}
+use Rattle.rules.specs.Stripped.{strip}
+use Rattle.rules.specs.Calls.{runAnswer}
+use Rattle.rules.specs.Input.{ranOn, printed}
 
-caseD : S.String
+-- guarded, or with every K changed to unsafe once it is read
+pub data Way : Type 0 where
+  guarded stripped : Way
+
+-- what is stated of a case: its answer, and for some what is printed
+pub data Output : Type 0 where
+  unstated : Output
+  prints : List ℕ → Output
+
+pub record Case : Type 0 where
+  pub text : S.String
+  pub turns : List ℕ
+  pub way : Way
+  pub answer : Answer
+  pub output : Output
+
+unfoldable pub readFor : Way → Reading → Reading
+readFor guarded r = r
+readFor stripped (turnedAway k n) = turnedAway k n
+readFor stripped (accepted P) = accepted (strip P)
+
+unfoldable pub readingOf : Case → Reading
+readingOf c = readFor (c .way) (script mosts (bytes (c .text)))
+
+unfoldable pub outputFor : Output → List ℕ → Output
+outputFor unstated l = unstated
+outputFor (prints _) l = prints l
+
+unfoldable pub found : Case → Answer × Output
+found c = (runAnswer mosts (c .turns) (readingOf c), outputFor (c .output) (printed (ranOn mosts (c .turns) (readingOf c))))
+
+unfoldable pub answers : S.String → List ℕ → Way → Answer → Case
+answers s ts w a = record { text = s; turns = ts; way = w; answer = a; output = unstated }
+
+-- what is stated of it
+unfoldable pub stated : Case → Answer × Output
+stated c = (c .answer, c .output)
+
+-- every case of a table comes out as stated
+abbrev pub AllHold : List Case → Type 0
+AllHold cs = map found cs ≡ map stated cs
+
+-- ---- The starred cases
+
+unfoldable pub caseD : S.String
 caseD = "(kind (fields 0) (does))\n(thread)\n(let (new iso 0))\n(give (read 1))\n"
 
-cases : List Case
+unfoldable pub cases : List Case
 cases =
     -- A
     record {
@@ -40,8 +89,3 @@ cases =
     -- I: thread 0 waits for what nobody sends
     ∷ answers "(thread)\n(let (spawn 1))\n(let (recv 1))\n(give (read 2))\n(thread)\n(give (read 0))\n" (0 ∷ 1 ∷ 0 ∷ []) guarded (ended stuck 2)
     ∷ []
-
--- the one fact
-every-case : AllHold cases
-unfolding caseD cases computed
-every-case = refl

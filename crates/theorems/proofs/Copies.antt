@@ -1,5 +1,5 @@
--- The copied graph is the source's, its numbers renamed: the objects met are those reached, each at one place of the walk, and the place is what a copy's
--- number adds to the old objects.
+-- The copied graph is the source's, its numbers renamed: the objects met are those reached, each at one place of the walk, and the place is what a
+-- copy's number adds to the old objects.
 use Prim.Native.Nat.{ℕ, _+_, _-_, _≤_, _<_}
 use native.Mathlib.Omega.{arith}
 use mathlib.Core.Path.{_≡_, refl, sym, ap, _∙_}
@@ -9,22 +9,23 @@ use lib.Dec.{leb}
 use lib.ListN.{length, getD, length-append, length-map, List·getD-map, List·getD-append}
 use lib.Seq.{getD-append-add}
 use borrow.Author.Tests.{le-leb, lt-leb}
 use Rattle.rules.specs.declared.Cap.{Cap}
 use Rattle.rules.specs.declared.Value.{Value}
 use Rattle.rules.specs.declared.Value.the-variants.{Absent, Obj, Chan}
 use Rattle.rules.specs.declared.Ground.the-variants.{Foreign}
 use Rattle.rules.specs.declared.Mosts.{Mosts}
 use Rattle.rules.specs.Numbers as No
 use Rattle.rules.specs.Lists.{placeOf, any}
 use Rattle.rules.specs.Script.{Program, copy, bind}
 use Rattle.rules.specs.State.{Object, noObject, Frame, State, objectAt, slotAt}
 use Rattle.rules.specs.Turn.{ok, stop, _>>=_, _>>_, check, permit, isForeign, asObject, Here, objectsOf, object, putThread, putObjects, filled, gives, renamed, copyOf, copyLine, letLine, perform, turnOf, turn}
 use Rattle.rules.specs.Reach.{count, times, Reaches, Walked}
-use Rattle.rules.specs.Copies.{renamedBy, AtCopy, Copied, CopyTurn}
+use Rattle.theorems.specs.Copies.{renamedBy, AtCopy, Copied, CopyTurn}
 use Rattle.rules.proofs.ListLaws.{by-bool, get-there, any-false, any-none}
-use Rattle.rules.proofs.Counts.{object-self, object-equal, every-time, time-of-every, place-there, get-place, place-tells, times-get, place-get}
-use Rattle.rules.proofs.Walks.{walked-first, walked-once, walked-one, met-walked, met-reached}
+use Rattle.rules.proofs.Counts.{object-self, object-equal, every-time, place-there}
+use Rattle.rules.proofs.Walks.{walked-one, met-walked, met-reached}
 use Rattle.rules.proofs.Moves.{metHere, withCopies, copiedState, Step, by-copy, hereAt, stepped}
+use Rattle.theorems.proofs.MetPlaces.{time-of-every, get-place, place-tells, times-get, place-get, walked-once, walked-first}
 
 -- ---- What is met from one object is what it reaches, each once
 

@@ -1,0 +1,20 @@
+-- What is proved of the definitions and no code relies on. Theorems gathers what holds of every accepted script.
+
+-- the starred cases, and the cases that another order or reading would change, computed
+mod Computing
+mod Cases
+mod Readings
+-- a form written as its line reads as that form
+mod ShownForms
+-- each word fits in 16 bits; a state's words tell it
+mod SmallWords
+mod WordsTell
+-- a copied graph is the source's, its numbers renamed
+mod MetPlaces
+mod Copies
+-- a message is its sender's until it is received
+mod LaterStates
+mod InFlight
+-- a report fits its list, and capabilities play no part in it
+mod ReportLaws
+mod Theorems
