@@ -15,11 +15,11 @@ ROOT = os.path.dirname(os.path.dirname(os.path.abspath(__file__)))
 LIST = 'include/calls.txt'
 HEADER = 'include/box.h'
 HOST = 'crates/host/src/lib.rt'
-ROW = re.compile(r'(?P<name>box_\w+)  +(?P<answers>\w+)  +(?P<refuses>1 9|9 1|1|9|-)  +(?P<takes>\S.*)')
+ROW = re.compile(r'(?P<name>box_\w+)  +(?P<answers>\w+)  +(?P<checks>-|\w+(?: \w+)*)  +(?P<takes>\S.*)')
 TAKEN = re.compile(r'(?P<name>\w+): (?:(?P<slice>read|write)(?: \.\.(?P<most>\d+)| (?P<least>\d+)\.\.)?|(?P<number>number|gets))')
 TYPES = {'refusal': ('uint16_t', 'u16'), 'end': ('uint16_t', 'u16'), 'length': ('size_t', 'usize')}
 
-Call = namedtuple('Call', 'name answers refuses takes')
+Call = namedtuple('Call', 'name answers checks takes')
 Taken = namedtuple('Taken', 'name kind least most')  # kind: read, write, number or gets
 
 
@@ -41,12 +41,11 @@ def call(row):
     if not found or found['answers'] not in TYPES:
         sys.exit('%s: no row of a call: %s' % (LIST, row))
     takes = [taken(text, found['name']) for text in found['takes'].split(', ')]
-    call = Call(found['name'], found['answers'], found['refuses'].replace('-', '').split(), takes)
-    by_length = {'1': any(t.most for t in takes), '9': any(t.least for t in takes)}
-    told = [t.name for t in takes if t.kind == 'gets']
-    if sorted(call.refuses) != [n for n in '19' if by_length[n]]:
-        sys.exit('%s: %s refuses something else by its lengths' % (LIST, call.name))
-    if call.answers == 'end' and 'number' not in told or call.answers == 'length' and call.refuses:
+    call = Call(found['name'], found['answers'], found['checks'].replace('-', '').split(), takes)
+    gets = [t.name for t in takes if t.kind == 'gets']
+    if sorted(call.checks) != sorted(t.name for t in takes if t.least or t.most):
+        sys.exit('%s: %s checks other slices than those that must have a length' % (LIST, call.name))
+    if call.answers == 'end' and 'number' not in gets or call.answers == 'length' and call.checks:
         sys.exit('%s: %s has nothing that says which refusal it is' % (LIST, call.name))
     if len(set(t.name for t in takes)) < len(takes):
         sys.exit('%s: %s takes two of one name' % (LIST, call.name))
@@ -102,7 +101,7 @@ def passed_on(call):
 
 
 ROW_IN_C = '''    {
-        .name = "%s", .make = make_%s, .answers = %s, .first = %s,
+        .name = "%s", .make = make_%s, .answers = %s,
         .slices = {%s}, .slice_count = %d,
         .number_count = %d,
         .gets = {%s}, .get_count = %d,
@@ -113,9 +112,10 @@ ROW_IN_C = '''    {
 def row_in_c(call):
     slices = [t for t in call.takes if t.kind in ('read', 'write')]
     gets = [t for t in call.takes if t.kind == 'gets']
-    slice_rows = ['{"%s", %d, %d, %s}' % (t.name, t.kind == 'write', t.least or 0, t.most or 'SIZE_MAX') for t in slices]
+    turn = lambda t: call.checks.index(t.name) if t.name in call.checks else 0
+    slice_rows = ['{"%s", %d, %d, %s, %d}' % (t.name, t.kind == 'write', t.least or 0, t.most or 'SIZE_MAX', turn(t)) for t in slices]
     numbers = len(call.takes) - len(slices) - len(gets)
-    return ROW_IN_C % (call.name, call.name, 'ANSWERS_' + call.answers.upper(), (call.refuses + ['0'])[0], ', '.join(slice_rows), len(slices), numbers,
+    return ROW_IN_C % (call.name, call.name, 'ANSWERS_' + call.answers.upper(), ', '.join(slice_rows), len(slices), numbers,
                        ', '.join('"%s"' % t.name for t in gets), len(gets))
 
 
@@ -208,9 +208,10 @@ def main():
         return 0
     if len(sys.argv) > 1:
         sys.exit(__doc__)
-    header = list(declarations())
-    faults = list(compared(HEADER, calls, {name: text for name, text, _ in header}, declaration))
-    faults += compared('the comments of ' + HEADER, calls, {name: explained for name, _, explained in header}, lambda call: [t.name for t in call.takes])
+    texts = {name: text for name, text, _ in declarations()}
+    comments = {name: explained for name, _, explained in declarations()}
+    faults = list(compared(HEADER, calls, texts, declaration))
+    faults += compared('the comments of ' + HEADER, calls, comments, lambda call: [t.name for t in call.takes])
     faults += compared(HOST, calls, dict(functions()), signature)
     print('\n'.join(faults + ['%d passed, %d failed' % (max(3 * len(calls) - len(faults), 0), len(faults))]))
     return 1 if faults else 0

@@ -5,14 +5,14 @@
 enum answers { ANSWERS_REFUSAL, ANSWERS_END, ANSWERS_LENGTH };
 enum { MOST_SLICES = 8, MOST_NUMBERS = 4, MOST_GETS = 8 };
 
-struct slice { const char *name; int written; size_t least, most; };
+/* What a row says of a slice; `turn` is its place among those whose length is checked. */
+struct slice { const char *name; int written; size_t least, most, turn; };
 
-/* A row. `first` is the refusal by length that is checked first, 0 where there is none. */
 struct call {
     const char *name;
     size_t (*make)(const struct part *slices, const size_t *numbers, size_t *gets);
     enum answers answers;
-    size_t first, slice_count, number_count, get_count;
+    size_t slice_count, number_count, get_count;
     struct slice slices[MOST_SLICES];
     const char *gets[MOST_GETS];
 };
@@ -149,30 +149,33 @@ static void refused_text(const char *name, const char *text, size_t number, size
             }
 }
 
-/* Over its most a slice is refused with 1, also where every other is too short, if 1 goes first; at its most it is not. */
+/* Over its most a slice is refused with 1, also where one or all that are checked after it are too short; at its most it is not. */
 static void long_slices(void)
 {
     EACH_CALL(call)
         EACH_SLICE(call, n) {
-            size_t most = call->slices[n].most;
-            if (most == SIZE_MAX)
+            const struct slice *slice = &call->slices[n];
+            if (slice->most == SIZE_MAX)
                 continue;
-            struct made one_less = lend_call(call, 0, 0), empty = lend_call(call, 0, 0), made = lend_call(call, 0, 0), at_most = lend_call(call, 0, 0);
-            EACH_SLICE(call, m)
-                if (call->slices[m].least > 0) {
-                    cut(&one_less, m, call->slices[m].least - 1);
-                    cut(&empty, m, 0);
-                }
-            lend_instead(&one_less, n, lend_old(most + 1));
-            lend_instead(&empty, n, lend_old(most + 1));
-            lend_instead(&made, n, lend_old(most + 1));
-            lend_instead(&at_most, n, lend_old(most));
-            refuses("a byte too many", made, 1, 0);
-            refuses("a byte too many, others a byte short", one_less, call->first, 0);
-            refuses("a byte too many, others empty", empty, call->first, 0);
+            struct made at_most = lend_call(call, 0, 0), made = lend_call(call, 0, 0);
+            lend_instead(&at_most, n, lend_old(slice->most));
             make(&at_most);
-            check(refusal_of(&at_most) != 1, "%s: %zu bytes of %s are not too many", call->name, most, call->slices[n].name);
+            check(refusal_of(&at_most) != 1, "%s: %zu bytes of %s are not too many", call->name, slice->most, slice->name);
             give_call_back(&at_most);
+            lend_instead(&made, n, lend_old(slice->most + 1));
+            refuses("a byte too many", made, 1, 0);
+            for (size_t m = 0; m <= call->slice_count; m++)
+                for (size_t less = 0; less < 2; less++) {
+                    size_t number = 1;
+                    made = lend_call(call, 0, 0);
+                    lend_instead(&made, n, lend_old(slice->most + 1));
+                    EACH_SLICE(call, other)
+                        if (call->slices[other].least > 0 && (other == m || m == call->slice_count)) {
+                            cut(&made, other, less ? 0 : call->slices[other].least - 1);
+                            number = call->slices[other].turn < slice->turn ? 9 : number;
+                        }
+                    refuses("a byte too many, others short", made, number, 0);
+                }
         }
 }
 
