@@ -103,20 +103,24 @@ def passed_on(call):
 ROW_IN_C = '''    {
         .name = "%s", .make = make_%s, .answers = %s,
         .slices = {%s}, .slice_count = %d,
-        .number_count = %d,
+        .numbers = {%s}, .number_count = %d,
         .gets = {%s}, .get_count = %d,
     },
 '''
 
 
 def row_in_c(call):
-    slices = [t for t in call.takes if t.kind in ('read', 'write')]
-    gets = [t for t in call.takes if t.kind == 'gets']
-    turn = lambda t: call.checks.index(t.name) if t.name in call.checks else 0
-    slice_rows = ['{"%s", %d, %d, %s, %d}' % (t.name, t.kind == 'write', t.least or 0, t.most or 'SIZE_MAX', turn(t)) for t in slices]
-    numbers = len(call.takes) - len(slices) - len(gets)
-    return ROW_IN_C % (call.name, call.name, 'ANSWERS_' + call.answers.upper(), ', '.join(slice_rows), len(slices), numbers,
-                       ', '.join('"%s"' % t.name for t in gets), len(gets))
+    def slice_row(t):
+        turn = call.checks.index(t.name) if t.name in call.checks else 0
+        return '{"%s", %d, %d, %s, %d}' % (t.name, t.kind == 'write', t.least or 0, t.most or 'SIZE_MAX', turn)
+
+    def names(kind):
+        return ['"%s"' % t.name for t in call.takes if t.kind == kind] or ['NULL']
+
+    slices = [slice_row(t) for t in call.takes if t.kind in ('read', 'write')]
+    count = lambda kind: sum(t.kind == kind for t in call.takes)
+    return ROW_IN_C % (call.name, call.name, 'ANSWERS_' + call.answers.upper(), ', '.join(slices), len(slices),
+                       ', '.join(names('number')), count('number'), ', '.join(names('gets')), count('gets'))
 
 
 def rows(calls):

@@ -3,7 +3,7 @@
  * changes nothing; bytes past what a call needs stay; an empty slice may be null; every number that is lent is written.
  */
 enum answers { ANSWERS_REFUSAL, ANSWERS_END, ANSWERS_LENGTH };
-enum { MOST_SLICES = 8, MOST_NUMBERS = 4, MOST_GETS = 8 };
+enum { MOST_SLICES = 8, MOST_NUMBERS = 4, MOST_GETS = 16 };
 
 /* What a row says of a slice; `turn` is its place among those whose length is checked. */
 struct slice { const char *name; int written; size_t least, most, turn; };
@@ -14,7 +14,7 @@ struct call {
     enum answers answers;
     size_t slice_count, number_count, get_count;
     struct slice slices[MOST_SLICES];
-    const char *gets[MOST_GETS];
+    const char *numbers[MOST_NUMBERS], *gets[MOST_GETS];
 };
 
 #include "calls.h" /* by tests/calls.py */
