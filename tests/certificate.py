@@ -8,7 +8,7 @@ A name stands in backticks, as one of
     M/CRATE: name, ..                       must-fail edits of a crate, crates/CRATE/must-fail/NAME.edit
     E/CRATE: name, ..                       the same beside the gate, crates/CRATE/tried/NAME.edit
     T/FILE: name, ..                        tests of the second interpreter, tests/second/tests/FILE.rs
-    C: name, ..                             parts of the C test, tests/host/host_test.c
+    C: name, ..                             parts of the C test, tests/host/host_test.c and every_call.h
     G: name, ..                             parts of the gate, scripts/test
     CRATE::name, CRATE::MODULE::name        functions, types and constants: of the crate's root or passed on there; of src/MODULE.rt
     a/path, README.md                       files and folders of the repository
@@ -67,7 +67,8 @@ def stands(cited):
     if kind in EDITS and names:
         return [(n, bool(read('crates/%s/%s/%s.edit' % (rest, EDITS[kind], n)))) for n in names]
     if place == 'C' and names:
-        return [(n, in_file('tests/host/host_test.c', r'^static \w+ \*?%s\(')(n)) for n in names]
+        files = ('tests/host/host_test.c', 'tests/host/every_call.h')
+        return [(n, any(in_file(file, r'^static \w+ \*?%s\(')(n) for file in files)) for n in names]
     if place == 'G' and names:
         return [(n, in_file('scripts/test', r'^ *part %s ')(n)) for n in names]
     if re.fullmatch(r'\w+(::\w+){1,2}', cited):

@@ -1,6 +1,7 @@
-//! The compiled box: in `bytes` the calls of a C host, the only unsafe code of the tests; and the same on tables of words.
+//! The compiled box: in `calls` the calls of a C host, in `bytes` what they answer; and the same on tables of words.
 
 pub mod bytes;
+mod calls;
 
 use second::machine::{End, Stop};
 use second::numbers::Refusal;
