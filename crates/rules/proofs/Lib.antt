@@ -23,9 +23,10 @@ pub mod Simulation
 pub mod Demand3
 -- a copied graph is the source's, its numbers renamed
 pub mod Copies
--- a report's list; the words of both tables
+-- a report's list; the numbers of the forms; the words of both tables
 pub mod Rising
 pub mod Reports
+pub mod FormNumbers
 -- a message is its sender's until it is received
 pub mod InFlight
 pub mod TableWords
