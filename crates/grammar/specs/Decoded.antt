@@ -6,11 +6,13 @@ use mathlib.Core.List.{List, [], _∷_}
 use lib.Dec.{ltb, eqb}
 use lib.ListN.{length, drop, getD}
 use Prim.Native.Char.{code}
+use Rattle.rules.specs.declared.forms.Form.the-variants as N
 use Rattle.rules.specs.Mosts as Most
 use Rattle.rules.specs.Lists.{any}
 use Rattle.rules.specs.Script.{Operand, Form, kind, opens, line}
 use Rattle.rules.specs.Templates.{Taken, took, unfit, _>>=_, orElse, Part, template, Holds, fit, Rule, forms, ruleAt}
 use Rattle.rules.specs.Reading.{slotOf, operandsIn, slotsIn, takesFirst, over255}
+use Rattle.rules.specs.Forms.{formNumber}
 use Rattle.rules.specs.Tables.{operandWord, row}
 use Rattle.grammar.specs.Items.{past}
 use Rattle.grammar.specs.declared.forms.Line.{Line}
@@ -66,21 +68,21 @@ pub record PlaceRest (form : ℕ) (before : Bool) (s : List ℕ) (at : ℕ) (r :
   pub need : r .need ≡ max (target + 1) (slotOf operand + 1)
   pub own : r .own ≡ takesFirst operand
 
--- the number, from 1, of the only form that a text can begin with, by a few of its bytes; 5 where none can
+-- the number of the only form that a text can begin with, by a few of its bytes; a value's where none can
 unfoldable pub letForm : List ℕ → ℕ
 letForm l =
-    cond (eqb (getD l 6 0) (code "f")) 6
-    (cond (eqb (getD l 6 0) (code "n")) 9
-    (cond (eqb (getD l 6 0) (code "c")) (cond (eqb (getD l 8 0) (code "l")) 8 (cond (eqb (getD l 7 0) (code "o")) 14 10))
-    (cond (eqb (getD l 6 0) (code "s")) (cond (eqb (getD l 7 0) (code "w")) 7 (cond (eqb (getD l 7 0) (code "p")) 11 12))
-    (cond (eqb (getD l 6 0) (code "r")) (cond (eqb (getD l 8 0) (code "c")) 13 5) 5))))
+    cond (eqb (getD l 6 0) (code "f")) (formNumber N.Field)
+    (cond (eqb (getD l 6 0) (code "n")) (formNumber N.New)
+    (cond (eqb (getD l 6 0) (code "c")) (cond (eqb (getD l 8 0) (code "l")) (formNumber N.Call) (cond (eqb (getD l 7 0) (code "o")) (formNumber N.Copy) (formNumber N.Cast)))
+    (cond (eqb (getD l 6 0) (code "s")) (cond (eqb (getD l 7 0) (code "w")) (formNumber N.Swap) (cond (eqb (getD l 7 0) (code "p")) (formNumber N.Spawn) (formNumber N.Send)))
+    (cond (eqb (getD l 6 0) (code "r")) (cond (eqb (getD l 8 0) (code "c")) (formNumber N.Recv) (formNumber N.Value)) (formNumber N.Value)))))
 
 unfoldable pub onlyForm : List ℕ → ℕ
 onlyForm l =
-    cond (eqb (getD l 1 0) (code "k")) 1
-    (cond (eqb (getD l 1 0) (code "t")) 2
-    (cond (eqb (getD l 1 0) (code "m")) 3
-    (cond (eqb (getD l 1 0) (code "g")) 4 (letForm l))))
+    cond (eqb (getD l 1 0) (code "k")) (formNumber N.Kind)
+    (cond (eqb (getD l 1 0) (code "t")) (formNumber N.Thread)
+    (cond (eqb (getD l 1 0) (code "m")) (formNumber N.Method)
+    (cond (eqb (getD l 1 0) (code "g")) (formNumber N.Give) (letForm l))))
 
 -- the line at a place
 pub record LineAt (s : List ℕ) (at : ℕ) (r : Line) : Type 0 where

@@ -75,7 +75,14 @@ fn kind_at(s: &[u8], at: usize) -> Line
             both(fields.ok, both(parted, both(methods.ok, closed))),
         ),
     );
-    let mut l = short_line(ok, 1, fields.word, methods.a, methods.b, methods.end + 3);
+    let mut l = short_line(
+        ok,
+        rules::forms::KIND,
+        fields.word,
+        methods.a,
+        methods.b,
+        methods.end + 3,
+    );
     l.d = methods.c;
     l.e = methods.d;
     l.over = either(4 < fields.word, methods.over);
@@ -89,7 +96,7 @@ fn thread_at(s: &[u8], at: usize) -> Line
 {
     let opened = begins_at(s, at, b"(thread");
     let closed = begins_at(s, at + 7, b")\n");
-    short_line(both(opened, closed), 2, 0, 0, 0, at + 9)
+    short_line(both(opened, closed), rules::forms::THREAD, 0, 0, 0, at + 9)
 }
 
 // (method)
@@ -99,17 +106,17 @@ fn method_at(s: &[u8], at: usize) -> Line
 {
     let opened = begins_at(s, at, b"(method");
     let closed = begins_at(s, at + 7, b")\n");
-    short_line(both(opened, closed), 3, 0, 0, 0, at + 9)
+    short_line(both(opened, closed), rules::forms::METHOD, 0, 0, 0, at + 9)
 }
 
-// (give W) by its number 4, (let W) by 5
+// (give W) or (let W), by the form's number
 fn give_or_value_at(s: &[u8], at: usize, form: u16) -> Line
     requires { ⌜ (8 ≤ length (now s)) × (length (now s) ≤ 65536) × (at ≤ length (now s)) ⌝ }
     ensures { λ r. ⌜ EitherFormAt 3 form (now (s .entry)) at r ⌝ }
 {
     let mut opened = begins_at(s, at, b"(let ");
     let mut rest = at + 5;
-    if form == 4 {
+    if form == rules::forms::GIVE {
         opened = begins_at(s, at, b"(give ");
         rest = at + 6;
     }
@@ -139,7 +146,14 @@ fn field_at(s: &[u8], at: usize) -> Line
         opened,
         both(named, both(target.ok, both(parted, both(field.ok, closed)))),
     );
-    let mut l = short_line(ok, 6, target.word, field.word, 0, field.end + 3);
+    let mut l = short_line(
+        ok,
+        rules::forms::FIELD,
+        target.word,
+        field.word,
+        0,
+        field.end + 3,
+    );
     l.over = either(over(target.word), over(field.word));
     l.need = target.word + 1;
     l
@@ -171,14 +185,14 @@ fn place_rest(s: &[u8], at: usize, before: bool, form: u16) -> Line
     l
 }
 
-// (let (swap S F W)) by its number 7, (let (call S M W)) by 8
+// (let (swap S F W)) or (let (call S M W)), by the form's number
 fn swap_or_call_at(s: &[u8], at: usize, form: u16) -> Line
     requires { ⌜ (8 ≤ length (now s)) × (length (now s) ≤ 65536) × (at ≤ length (now s)) ⌝ }
     ensures { λ r. ⌜ EitherFormAt 6 form (now (s .entry)) at r ⌝ }
 {
     let opened = begins_at(s, at, b"(let (");
     let mut named = begins_at(s, at + 6, b"call ");
-    if form == 7 {
+    if form == rules::forms::SWAP {
         named = begins_at(s, at + 6, b"swap ");
     }
     place_rest(s, at + 11, both(opened, named), form)
@@ -203,7 +217,14 @@ fn new_at(s: &[u8], at: usize) -> Line
             both(cap.ok, both(parted, both(kind.ok, both(given.ok, closed)))),
         ),
     );
-    let mut l = short_line(ok, 9, cap.word, kind.word, given.a, given.end + 3);
+    let mut l = short_line(
+        ok,
+        rules::forms::NEW,
+        cap.word,
+        kind.word,
+        given.a,
+        given.end + 3,
+    );
     l.d = given.b;
     l.e = given.c;
     l.f = given.d;
@@ -229,7 +250,7 @@ fn cast_at(s: &[u8], at: usize) -> Line
         both(named, both(cap.ok, both(parted, both(w.ok, closed)))),
     );
     let slot = w.word / 2;
-    let mut l = short_line(ok, 10, cap.word, w.word, 0, w.end + 3);
+    let mut l = short_line(ok, rules::forms::CAST, cap.word, w.word, 0, w.end + 3);
     l.over = over(slot);
     l.need = slot + 1;
     l.own = w.word == 1;
@@ -246,7 +267,7 @@ fn spawn_at(s: &[u8], at: usize) -> Line
     let block = number_at(s, at + 12);
     let closed = begins_at(s, block.end, b"))\n");
     let ok = both(opened, both(named, both(block.ok, closed)));
-    let mut l = short_line(ok, 11, block.word, 0, 0, block.end + 3);
+    let mut l = short_line(ok, rules::forms::SPAWN, block.word, 0, 0, block.end + 3);
     l.over = over(block.word);
     l
 }
@@ -267,7 +288,7 @@ fn send_at(s: &[u8], at: usize) -> Line
         both(named, both(target.ok, both(parted, both(w.ok, closed)))),
     );
     let slot = w.word / 2;
-    let mut l = short_line(ok, 12, target.word, w.word, 0, w.end + 3);
+    let mut l = short_line(ok, rules::forms::SEND, target.word, w.word, 0, w.end + 3);
     l.over = either(over(target.word), over(slot));
     l.need = most(target.word + 1, slot + 1);
     l.own = w.word == 1;
@@ -284,7 +305,7 @@ fn recv_at(s: &[u8], at: usize) -> Line
     let target = number_at(s, at + 11);
     let closed = begins_at(s, target.end, b"))\n");
     let ok = both(opened, both(named, both(target.ok, closed)));
-    let mut l = short_line(ok, 13, target.word, 0, 0, target.end + 3);
+    let mut l = short_line(ok, rules::forms::RECV, target.word, 0, 0, target.end + 3);
     l.over = over(target.word);
     l.need = target.word + 1;
     l
@@ -305,7 +326,7 @@ fn copy_at(s: &[u8], at: usize) -> Line
         opened,
         both(named, both(cap.ok, both(parted, both(slot.ok, closed)))),
     );
-    let mut l = short_line(ok, 14, cap.word, slot.word, 0, slot.end + 3);
+    let mut l = short_line(ok, rules::forms::COPY, cap.word, slot.word, 0, slot.end + 3);
     l.over = over(slot.word);
     l.need = slot.word + 1;
     l
@@ -318,25 +339,35 @@ fn let_form(s: &[u8], at: usize) -> u16
 {
     let first = byte(s, at + 6);
     match first {
-        b'f' => 6,
-        b'n' => 9,
+        b'f' => rules::forms::FIELD,
+        b'n' => rules::forms::NEW,
         b'c' => {
             if byte(s, at + 8) == b'l' {
-                8
+                rules::forms::CALL
             } else {
-                if byte(s, at + 7) == b'o' { 14 } else { 10 }
+                if byte(s, at + 7) == b'o' {
+                    rules::forms::COPY
+                } else {
+                    rules::forms::CAST
+                }
             }
         }
         b's' => {
             let second = byte(s, at + 7);
             match second {
-                b'w' => 7,
-                b'p' => 11,
-                _ => 12,
+                b'w' => rules::forms::SWAP,
+                b'p' => rules::forms::SPAWN,
+                _ => rules::forms::SEND,
             }
         }
-        b'r' => { if byte(s, at + 8) == b'c' { 13 } else { 5 } }
-        _ => 5,
+        b'r' => {
+            if byte(s, at + 8) == b'c' {
+                rules::forms::RECV
+            } else {
+                rules::forms::VALUE
+            }
+        }
+        _ => rules::forms::VALUE,
     }
 }
 
@@ -347,10 +378,10 @@ fn form_at(s: &[u8], at: usize) -> u16
 {
     let first = byte(s, at + 1);
     match first {
-        b'k' => 1,
-        b't' => 2,
-        b'm' => 3,
-        b'g' => 4,
+        b'k' => rules::forms::KIND,
+        b't' => rules::forms::THREAD,
+        b'm' => rules::forms::METHOD,
+        b'g' => rules::forms::GIVE,
         _ => let_form(s, at),
     }
 }
@@ -365,18 +396,18 @@ pub fn line_at(s: &[u8], at: usize) -> Line
     }
     let form = form_at(s, at);
     match form {
-        1 => kind_at(s, at),
-        2 => thread_at(s, at),
-        3 => method_at(s, at),
-        4 | 5 => give_or_value_at(s, at, form),
-        6 => field_at(s, at),
-        7 | 8 => swap_or_call_at(s, at, form),
-        9 => new_at(s, at),
-        10 => cast_at(s, at),
-        11 => spawn_at(s, at),
-        12 => send_at(s, at),
-        13 => recv_at(s, at),
-        14 => copy_at(s, at),
+        rules::forms::KIND => kind_at(s, at),
+        rules::forms::THREAD => thread_at(s, at),
+        rules::forms::METHOD => method_at(s, at),
+        rules::forms::GIVE | rules::forms::VALUE => give_or_value_at(s, at, form),
+        rules::forms::FIELD => field_at(s, at),
+        rules::forms::SWAP | rules::forms::CALL => swap_or_call_at(s, at, form),
+        rules::forms::NEW => new_at(s, at),
+        rules::forms::CAST => cast_at(s, at),
+        rules::forms::SPAWN => spawn_at(s, at),
+        rules::forms::SEND => send_at(s, at),
+        rules::forms::RECV => recv_at(s, at),
+        rules::forms::COPY => copy_at(s, at),
         _ => short_line(false, 0, 0, 0, 0, 0),
     }
 }

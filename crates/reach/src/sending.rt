@@ -1,4 +1,5 @@
 // The message that a waiting sender put: document 02's L1 counts it as the sender's, as long as the channel holds it.
+use rules::Form;
 use rules::Value;
 ghost use Prim.Native.Nat.{_≤_, _<_};
 ghost use lib.ListN.{length};
@@ -29,13 +30,29 @@ pub fn in_flight(p: &[u16], s: &[u16], t: usize) -> Value
         return Value::Absent;
     }
     let h = table::locate(p, s, t, n);
-    if table::part(p, h, 0) != 12 {
-        return Value::Absent; // at no send
-    }
-    let x = table::slot(s, h, table::part(p, h, 1) as usize % 16);
-    match x {
-        Value::Absent => Value::Absent,
-        Value::Obj(_) => Value::Absent,
-        Value::Chan(c) => message_for(s, c, table::sender(s, t)),
+    let form = rules::form_of(table::part(p, h, 0));
+    match form {
+        Form::Send => {
+            let x = table::slot(s, h, table::part(p, h, 1) as usize % 16);
+            match x {
+                Value::Absent => Value::Absent,
+                Value::Obj(_) => Value::Absent,
+                Value::Chan(c) => message_for(s, c, table::sender(s, t)),
+            }
+        }
+        Form::NoForm
+        | Form::Kind
+        | Form::Thread
+        | Form::Method
+        | Form::Give
+        | Form::Value
+        | Form::Field
+        | Form::Swap
+        | Form::Call
+        | Form::New
+        | Form::Cast
+        | Form::Spawn
+        | Form::Recv
+        | Form::Copy => Value::Absent,
     }
 }

@@ -5,20 +5,27 @@ use native.Mathlib.Omega.{arith}
 use mathlib.Core.Path.{_≡_, refl, sym, ap, _∙_, subst}
 use mathlib.Core.Bool.{Bool, true, false, not, _&&_, _||_, cond, or-false, or-true, or-assoc, or-comm, false≢true}
 use mathlib.Core.List.{List, [], _∷_}
-use lib.Dec.{ltb, leb, eqb}
+use mathlib.Core.Logic.{inl, inr}
+use lib.Dec.{T, ltb, leb, eqb}
 use lib.ListN.{getD}
 use borrow.Author.Tests.{lt-ltb, le-ltb, leb-true, leb-false, ltb-true, ltb-false, eqb-true, ne-eqb, not-true}
+use mir.Val.{hasKey}
+use types.Run.{OneOf}
 use Rattle.rules.specs.declared.Cap.{Cap}
+use Rattle.rules.specs.declared.forms.Form.{Form as Name}
+use Rattle.rules.specs.declared.forms.Form.the-variants as N
 use Rattle.rules.specs.declared.Mosts.{Mosts}
 use Rattle.rules.specs.Mosts as Most
 use Rattle.rules.specs.Numbers as No
 use Rattle.rules.specs.Lists.{any, pad}
 use Rattle.rules.specs.Script.{Operand, Expr, value, field, swap, call, new, cast, spawn, send, recv, copy, Line as Script-line, bind, give, Sort, thread, method, Kind, Form, kind, opens, line, Edition, rank}
 use Rattle.rules.specs.Templates.{took}
+use Rattle.rules.specs.Forms.{formNumber, formOf}
 use Rattle.rules.specs.Tables.{lineWords, row}
 use Rattle.rules.specs.Reading as R
 use Rattle.rules.specs.Reading.{targetsIn, operandsIn, numbersIn, slotsIn, Place, outside, within, slotsFilled, isOutside, inMethod, inEdition, inPlace, overMost, over255, isUnbound, takesFirst, takesSelf, oneMore, readOn, Step, fault, next, formStep}
 use Rattle.rules.proofs.ListLaws.{by-bool, and-true, or-false as or-both-false}
+use Rattle.rules.proofs.FormNumbers.{place, at-place, number-told, not-told}
 use Rattle.grammar.specs.declared.forms.Line.{Line}
 use Rattle.grammar.specs.Items.{past}
 use Rattle.grammar.specs.Decoded.{overLine, Tells}
@@ -113,6 +120,46 @@ is-let {n} F t h k g = go (is-line F t h k)
     go : (x : Script-line) × (F ≡ line x) → (e : Expr) × (F ≡ line (bind e))
     go (bind e, p) = (e, p)
     go (give w, p) = absurd (g (subst (λ (X : Form). Numbered X n) p t))
+
+-- ---- The name of a form, told by its number
+
+-- every line has one
+has-name : (F : Form) → 1 ≤ formNumber (formOf (numberOf F))
+unfolding row lineWords pad
+has-name (kind K) = omega arith
+has-name (opens thread) = omega arith
+has-name (opens method) = omega arith
+has-name (line (give w)) = omega arith
+has-name (line (bind (value w))) = omega arith
+has-name (line (bind (field s f))) = omega arith
+has-name (line (bind (swap s f w))) = omega arith
+has-name (line (bind (call s i w))) = omega arith
+has-name (line (bind (new k n ws))) = omega arith
+has-name (line (bind (cast k w))) = omega arith
+has-name (line (bind (spawn b))) = omega arith
+has-name (line (bind (send s w))) = omega arith
+has-name (line (bind (recv s))) = omega arith
+has-name (line (bind (copy k s))) = omega arith
+
+module _ {n : ℕ} {f : Name} (told-by : f ≡ formOf n) where
+  -- in an arm for the openers, and in one without them
+  pub opener-number : OneOf (place N.Thread ∷ place N.Method ∷ []) (place f) → (2 ≤ n) × (n < 4)
+  opener-number (inl t) = let is : n ≡ 2 = number-told told-by t (omega arith) in (omega arith, omega arith)
+  opener-number (inr t) = let is : n ≡ 3 = number-told told-by t (omega arith) in (omega arith, omega arith)
+
+  -- (an arm may have beside them what no line is)
+  pub line-opener-number : (F : Form) → n ≡ numberOf F → OneOf (place N.NoForm ∷ place N.Thread ∷ place N.Method ∷ []) (place f) → (2 ≤ n) × (n < 4)
+  line-opener-number F is (inl t) = absurd (let none = ap formNumber (ap formOf (sym is) ∙ sym told-by ∙ at-place t) in omega (arith, has-name F))
+  line-opener-number F is (inr one) = opener-number one
+
+  pub no-opener : (ks : List ℕ) → OneOf ks (place f) → T (not (hasKey ks (place N.Thread))) → T (not (hasKey ks (place N.Method))) → 2 ≤ n → n < 4 → ⊥
+  no-opener ks one no-thread no-method low high = omega (arith, not-told ks {n = n} {k = 2} told-by one no-thread, not-told ks {n = n} {k = 3} told-by one no-method)
+
+  -- in an arm without kinds, openers and gives
+  pub let-told : (ks : List ℕ) → OneOf ks (place f) → T (not (hasKey ks (place N.Kind))) → T (not (hasKey ks (place N.Thread))) → T (not (hasKey ks (place N.Method)))
+      → T (not (hasKey ks (place N.Give))) → (F : Form) → n ≡ numberOf F → (e : Expr) × (F ≡ line (bind e))
+  let-told ks one no-kind no-thread no-method no-give F e =
+      is-let F (told F e) (not-told ks told-by one no-kind) (no-opener ks one no-thread no-method) (not-told ks told-by one no-give)
 
 -- ---- Copies
 

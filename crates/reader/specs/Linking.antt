@@ -5,10 +5,12 @@ use mathlib.Core.Bool.{Bool, false, not, cond}
 use mathlib.Core.List.{List}
 use lib.Dec.{ltb}
 use lib.ListN.{length, getD}
+use Rattle.rules.specs.declared.forms.Form.the-variants as N
 use Rattle.rules.specs.Lists.{any, Every}
 use Rattle.rules.specs.Numbers as No
 use Rattle.rules.specs.Script.{Sort, method, Form, Program, linesOf, kindAt}
 use Rattle.rules.specs.Reading.{isSort, dangles, turnedAway, accepted, link}
+use Rattle.rules.specs.Forms.{formNumber}
 use Rattle.rules.specs.Tables.{row}
 use Rattle.grammar.specs.Decoded.{overLine}
 use Rattle.table.specs.ProgramTable.{Filled, noForm, sortNumber}
@@ -37,7 +39,7 @@ pub record KindDangles (t : List ℕ) (blocks n : ℕ) (r : Bool) : Type 0 where
 
 -- line n is a new
 pub record NewDangles (t : List ℕ) (kinds n : ℕ) (r : Bool) : Type 0 where
-  pub is : (P : Program) (b : ℕ) → Table t P → kinds ≡ length (P .kinds) → n < length (linesOf P) → getD (row (formAt P n)) 0 0 ≡ 9
+  pub is : (P : Program) (b : ℕ) → Table t P → kinds ≡ length (P .kinds) → n < length (linesOf P) → getD (row (formAt P n)) 0 0 ≡ formNumber N.New
       → r ≡ dangles P b (formAt P n)
 
 -- b blocks are opened before line n: none before the line after the kinds, which opens the first

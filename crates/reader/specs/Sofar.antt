@@ -6,9 +6,11 @@ use mathlib.Core.List.{[]}
 use lib.Dec.{eqb, leb}
 use lib.ListN.{getD}
 use Rattle.rules.specs.declared.Mosts.{Mosts}
+use Rattle.rules.specs.declared.forms.Form.the-variants as N
 use Rattle.rules.specs.Mosts as Most
 use Rattle.rules.specs.Script.{bind, give, thread, method, Form, kind, opens, line, Edition, edition1, edition2}
 use Rattle.rules.specs.Templates.{took}
+use Rattle.rules.specs.Forms.{formNumber}
 use Rattle.rules.specs.Tables.{row}
 use Rattle.rules.specs.Reading as R
 use Rattle.rules.specs.Reading.{outside, within, slotsFilled, Step, fault, next, inPlace, readOn, formStep}
@@ -17,7 +19,7 @@ use Rattle.grammar.specs.Decoded.{Tells}
 use Rattle.reader.specs.declared.faults.Sofar.{Sofar}
 
 abbrev pub placeOf : (opener filled : ℕ) → R.Place
-placeOf opener filled = cond (eqb opener 0) outside (cond (eqb opener 3) (within method filled) (within thread filled))
+placeOf opener filled = cond (eqb opener 0) outside (cond (eqb opener (formNumber N.Method)) (within method filled) (within thread filled))
 
 -- the edition, by whether the first line names the second
 abbrev pub editionOf : Bool → Edition

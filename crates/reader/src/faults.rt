@@ -1,12 +1,13 @@
 // "then line by line 2 to 6": what has been read so far, and a decoded line after it.
+use rules::Form;
 ghost use mathlib.Core.Path.{_≡_};
 ghost use Prim.Native.Nat.{_≤_};
 ghost use Rattle.rules.specs.Reading.{mayCopy};
 ghost use Rattle.rules.specs.Tables.{capOf};
 ghost use Rattle.reader.specs.Sofar.{editionOf, InPlace, Full, Faults, GoesOn};
 
-// What has been read so far: whether the first line names the second edition; the counts; the form of the opener of the block that is open, or 0;
-// and how many slots that block has filled.
+// What has been read so far: whether the first line names the second edition; the counts; the number of the form that opened
+// the block which is open, or 0; and how many slots that block has filled.
 pub struct Sofar {
     pub second: bool,
     pub kinds: usize,
@@ -27,16 +28,27 @@ fn may_copy(second: bool, cap: u16) -> bool
 fn in_place(r: Sofar, form: u16, part: u16) -> bool
     ensures { λ ok. ⌜ InPlace r form part ok ⌝ }
 {
-    match form {
-        1 => r.blocks == 0,
-        2 | 3 => r.opener == 0,
-        14 => {
+    let named = rules::form_of(form);
+    match named {
+        Form::Kind => r.blocks == 0,
+        Form::Thread | Form::Method => r.opener == 0,
+        Form::Copy => {
             if r.opener == 0 {
                 return false;
             }
             may_copy(r.second, part)
         }
-        _ => r.opener != 0,
+        Form::NoForm
+        | Form::Give
+        | Form::Value
+        | Form::Field
+        | Form::Swap
+        | Form::Call
+        | Form::New
+        | Form::Cast
+        | Form::Spawn
+        | Form::Send
+        | Form::Recv => r.opener != 0,
     }
 }
 
@@ -44,11 +56,21 @@ fn in_place(r: Sofar, form: u16, part: u16) -> bool
 fn is_full(m: rules::Mosts, r: Sofar, form: u16) -> bool
     ensures { λ full. ⌜ Full m r form full ⌝ }
 {
-    match form {
-        1 => m.kinds <= r.kinds,
-        2 | 3 => m.blocks <= r.blocks,
-        4 => false,
-        _ => {
+    let named = rules::form_of(form);
+    match named {
+        Form::Kind => m.kinds <= r.kinds,
+        Form::NoForm | Form::Thread | Form::Method => m.blocks <= r.blocks, // no line has NoForm
+        Form::Give => false,
+        Form::Value
+        | Form::Field
+        | Form::Swap
+        | Form::Call
+        | Form::New
+        | Form::Cast
+        | Form::Spawn
+        | Form::Send
+        | Form::Recv
+        | Form::Copy => {
             if 16 <= r.filled {
                 return true;
             }
@@ -73,7 +95,7 @@ pub fn fault(m: rules::Mosts, r: Sofar, l: grammar::Line) -> u16
     if r.filled < l.need {
         return rules::numbers::UNBOUND;
     }
-    if r.opener == 3 {
+    if r.opener == rules::forms::METHOD {
         if l.own {
             return rules::numbers::SELF_TAKEN;
         }
@@ -87,25 +109,36 @@ pub fn after_line(r: Sofar, form: u16) -> Sofar
     ensures { λ next. ⌜ GoesOn r form next ⌝ }
 {
     let mut next = r;
-    match form {
-        1 => {
+    let named = rules::form_of(form);
+    match named {
+        Form::Kind => {
             next.kinds = r.kinds + 1;
         }
-        2 => {
+        Form::Thread => {
             next.blocks = r.blocks + 1;
-            next.opener = 2;
+            next.opener = rules::forms::THREAD;
             next.filled = 1;
         }
-        3 => {
+        Form::Method => {
             next.blocks = r.blocks + 1;
-            next.opener = 3;
+            next.opener = rules::forms::METHOD;
             next.filled = 2;
         }
-        4 => {
+        Form::Give => {
             next.opener = 0;
             next.filled = 0;
         }
-        _ => {
+        Form::NoForm
+        | Form::Value
+        | Form::Field
+        | Form::Swap
+        | Form::Call
+        | Form::New
+        | Form::Cast
+        | Form::Spawn
+        | Form::Send
+        | Form::Recv
+        | Form::Copy => {
             next.lets = r.lets + 1;
             next.filled = r.filled + 1;
         }

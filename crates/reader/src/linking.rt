@@ -1,4 +1,5 @@
 // "then 8 in line order": what the lines name is there, and of its sort.
+use rules::Form;
 ghost use mathlib.Core.Path.{_≡_};
 ghost use mathlib.Core.Bool.{cond};
 ghost use Prim.Native.Nat.{_≤_, _<_};
@@ -6,7 +7,7 @@ ghost use lib.Dec.{eqb};
 ghost use lib.ListN.{length};
 ghost use Rattle.reader.specs.Linking.{IsSort, MethodDangles, KindDangles, NewDangles, LineDangles, FirstDangling};
 
-// Whether block b is there, and opened by this form.
+// Whether block b is there, and opened by the form with this number.
 fn is_sort(t: &[u16], blocks: usize, b: usize, form: u16) -> bool
     requires { ⌜ (8192 ≤ length (now t)) × (blocks ≤ 64) ⌝ }
     ensures { λ r. ⌜ IsSort (now (t .entry)) blocks b form r ⌝ }
@@ -26,7 +27,7 @@ fn method_dangles(t: &[u16], blocks: usize, n: usize, i: usize) -> bool
     if item == 0 {
         return false;
     }
-    !is_sort(t, blocks, (item - 1) as usize, 3)
+    !is_sort(t, blocks, (item - 1) as usize, rules::forms::METHOD)
 }
 
 fn kind_dangles(t: &[u16], blocks: usize, n: usize) -> bool
@@ -73,23 +74,28 @@ fn line_dangles(t: &[u16], kinds: usize, blocks: usize, n: usize) -> bool
     requires { ⌜ (8192 ≤ length (now t)) × (kinds ≤ 32) × (blocks ≤ 64) × (n < 672) ⌝ }
     ensures { λ r. ⌜ LineDangles (now (t .entry)) kinds blocks n r ⌝ }
 {
-    let form = table::line_word(t, n, 0);
+    let form = rules::form_of(table::line_word(t, n, 0));
     match form {
-        1 => kind_dangles(t, blocks, n),
-        2 => false,
-        3 => n == kinds,
-        4 => false,
-        5 => false,
-        6 => false,
-        7 => false,
-        8 => false,
-        9 => new_dangles(t, kinds, n),
-        10 => false,
-        11 => !is_sort(t, blocks, table::line_word(t, n, 1) as usize, 2),
-        12 => false,
-        13 => false,
-        14 => false,
-        _ => false,
+        Form::Kind => kind_dangles(t, blocks, n),
+        Form::Method => n == kinds,
+        Form::New => new_dangles(t, kinds, n),
+        Form::Spawn => !is_sort(
+            t,
+            blocks,
+            table::line_word(t, n, 1) as usize,
+            rules::forms::THREAD,
+        ),
+        Form::NoForm
+        | Form::Thread
+        | Form::Give
+        | Form::Value
+        | Form::Field
+        | Form::Swap
+        | Form::Call
+        | Form::Cast
+        | Form::Send
+        | Form::Recv
+        | Form::Copy => false,
     }
 }
 

@@ -3,6 +3,7 @@ use super::faults::Sofar;
 use super::faults::after_line;
 use super::faults::fault;
 use super::finder::find_lf;
+use rules::Form;
 ghost use mathlib.Core.Path.{_≡_};
 ghost use mathlib.Core.Bool.{cond};
 ghost use mathlib.Core.List.{[]};
@@ -63,13 +64,28 @@ fn put_line(words: &mut [u16], n: usize, b: usize, l: grammar::Line)
     ensures { λ _. ⌜ Put n b l (now (words .entry)) (now (words .exit)) ⌝ }
 {
     let form = l.form;
-    match form {
-        2 | 3 => {
+    let named = rules::form_of(form);
+    match named {
+        Form::Thread | Form::Method => {
             if b < 64 {
                 table::add_opener(words, n, b, form);
             }
         }
-        _ => table::add_line(words, n, form, l.a, l.b, l.c, l.d, l.e, l.f),
+        Form::NoForm
+        | Form::Kind
+        | Form::Give
+        | Form::Value
+        | Form::Field
+        | Form::Swap
+        | Form::Call
+        | Form::New
+        | Form::Cast
+        | Form::Spawn
+        | Form::Send
+        | Form::Recv
+        | Form::Copy => {
+            table::add_line(words, n, form, l.a, l.b, l.c, l.d, l.e, l.f);
+        }
     }
 }
 

@@ -17,9 +17,10 @@ pub mod Runs
 -- one turn of the stripped script follows the guarded one; demand 3
 pub mod Simulation
 pub mod Demand3
--- a report's list; the words of both tables
+-- a report's list; the numbers of the forms; the words of both tables
 pub mod Rising
 pub mod Reports
+pub mod FormNumbers
 pub mod TableWords
 -- a text that was read comes back
 pub mod Writer

@@ -16,7 +16,8 @@ pub mod Walk
 pub mod Turn
 pub mod Run
 pub mod Fits
--- both tables to the word
+-- the forms by name and number; both tables to the word
+pub mod Forms
 pub mod Tables
 -- "Guarded and stripped": demand 3
 pub mod Stripped

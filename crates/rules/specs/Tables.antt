@@ -12,6 +12,8 @@ use Rattle.rules.specs.Mosts as Most
 use Rattle.rules.specs.Mosts.{mosts}
 use Rattle.rules.specs.Lists.{pad, cells}
 use Rattle.rules.specs.Script.{Operand, reads, takes, value, field, swap, call, new, cast, spawn, send, recv, copy, bind, give, thread, method, Form, kind, opens, line, Edition, edition1, edition2, Program, rank, linesOf}
+use Rattle.rules.specs.declared.forms.Form.the-variants as N
+use Rattle.rules.specs.Forms.{formNumber}
 use Rattle.rules.specs.State.{Object, Frame, Sender, ready, waiting, Thread, noThread, Channel, emptyChannel, State}
 
 -- ---- The program table
@@ -37,20 +39,20 @@ capOf (suc (suc (suc n))) = Unsafe
 
 -- a line: the number of its form, and its parts as they are written
 unfoldable pub lineWords : Form → List ℕ
-lineWords (kind K) = 1 ∷ K .fields ∷ map suc (K .methods)
-lineWords (opens thread) = 2 ∷ []
-lineWords (opens method) = 3 ∷ []
-lineWords (line (give w)) = 4 ∷ operandWord w ∷ []
-lineWords (line (bind (value w))) = 5 ∷ operandWord w ∷ []
-lineWords (line (bind (field s f))) = 6 ∷ s ∷ f ∷ []
-lineWords (line (bind (swap s f w))) = 7 ∷ s ∷ f ∷ operandWord w ∷ []
-lineWords (line (bind (call s i w))) = 8 ∷ s ∷ i ∷ operandWord w ∷ []
-lineWords (line (bind (new k n ws))) = 9 ∷ rank k ∷ n ∷ map operandItem ws
-lineWords (line (bind (cast k w))) = 10 ∷ rank k ∷ operandWord w ∷ []
-lineWords (line (bind (spawn b))) = 11 ∷ b ∷ []
-lineWords (line (bind (send s w))) = 12 ∷ s ∷ operandWord w ∷ []
-lineWords (line (bind (recv s))) = 13 ∷ s ∷ []
-lineWords (line (bind (copy k s))) = 14 ∷ rank k ∷ s ∷ []
+lineWords (kind K) = formNumber N.Kind ∷ K .fields ∷ map suc (K .methods)
+lineWords (opens thread) = formNumber N.Thread ∷ []
+lineWords (opens method) = formNumber N.Method ∷ []
+lineWords (line (give w)) = formNumber N.Give ∷ operandWord w ∷ []
+lineWords (line (bind (value w))) = formNumber N.Value ∷ operandWord w ∷ []
+lineWords (line (bind (field s f))) = formNumber N.Field ∷ s ∷ f ∷ []
+lineWords (line (bind (swap s f w))) = formNumber N.Swap ∷ s ∷ f ∷ operandWord w ∷ []
+lineWords (line (bind (call s i w))) = formNumber N.Call ∷ s ∷ i ∷ operandWord w ∷ []
+lineWords (line (bind (new k n ws))) = formNumber N.New ∷ rank k ∷ n ∷ map operandItem ws
+lineWords (line (bind (cast k w))) = formNumber N.Cast ∷ rank k ∷ operandWord w ∷ []
+lineWords (line (bind (spawn b))) = formNumber N.Spawn ∷ b ∷ []
+lineWords (line (bind (send s w))) = formNumber N.Send ∷ s ∷ operandWord w ∷ []
+lineWords (line (bind (recv s))) = formNumber N.Recv ∷ s ∷ []
+lineWords (line (bind (copy k s))) = formNumber N.Copy ∷ rank k ∷ s ∷ []
 
 unfoldable pub row : Form → List ℕ
 row F = pad 8 0 (lineWords F)

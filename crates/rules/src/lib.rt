@@ -1,4 +1,4 @@
-// The types that the definitions (specs/) share with the code, who may hold whom, the numbers of grounds, and the words of K.
+// The types that the definitions (specs/) share with the code, who may hold whom, the numbers of grounds and of forms, and the words of K.
 ghost use mathlib.Core.Path.{_≡_};
 ghost use Prim.Native.Nat.{_<_};
 ghost use lib.ListN.{getD};
@@ -7,7 +7,11 @@ ghost use Rattle.rules.specs.Script.{rank};
 ghost use Rattle.rules.specs.Templates.{capWord};
 ghost use Rattle.rules.specs.Turn.{mayHold};
 
+pub mod forms;
 pub mod numbers;
+
+pub use forms::Form;
+pub use forms::form_of;
 
 // "A value is absent, an object number or a channel number."
 pub enum Value {

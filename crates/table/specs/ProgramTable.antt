@@ -4,6 +4,8 @@ use mathlib.Core.Path.{_≡_}
 use mathlib.Core.Bool.{Bool, true, false}
 use mathlib.Core.List.{List, [], _∷_, _++_, map}
 use lib.ListN.{length, getD, take, replicate}
+use Rattle.rules.specs.declared.forms.Form.the-variants as N
+use Rattle.rules.specs.Forms.{formNumber}
 use Rattle.rules.specs.Mosts as Most
 use Rattle.rules.specs.Mosts.{mosts}
 use Rattle.rules.specs.Lists.{pad, cells}
@@ -29,8 +31,8 @@ abbrev pub noForm : Form
 noForm = opens thread
 
 abbrev pub sortNumber : Sort → ℕ
-sortNumber thread = 2
-sortNumber method = 3
+sortNumber thread = formNumber N.Thread
+sortNumber method = formNumber N.Method
 
 -- line n is written, and opens no block
 pub record LineAdded (n : ℕ) (words t t′ : List ℕ) : Type 0 where

@@ -107,7 +107,7 @@ pub fn first_line(t: &[u16], b: usize) -> usize
     t[8 + b] as usize
 }
 
-// The form of block b's opener: 2 for a thread, 3 for a method.
+// The number of the form of block b's opener, a thread or a method.
 pub fn block_form(t: &[u16], b: usize) -> u16
     requires { ⌜ (8192 ≤ length (now t)) × (b < 64) ⌝ }
     ensures { λ r. ⌜ r ≡ getD (now (t .entry)) ((64 + getD (now (t .entry)) (8 + b) 0 * 8) % 8192) 0 ⌝ }

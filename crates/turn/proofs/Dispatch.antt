@@ -1,15 +1,23 @@
 -- The words of a line's row tell the line: the first is the number of its form, the others are its parts, each of which reads back.
-use Prim.Native.Nat.{ℕ, _+_, _%_, _≤_, _<_}
+use Prim.Native.Nat.{ℕ, _+_, _%_, _<_}
 use native.Mathlib.Omega.{arith}
-use mathlib.Core.Path.{_≡_, sym, ap, ap₂, _∙_}
+use mathlib.Core.Path.{_≡_, refl, sym, ap, ap₂, _∙_, subst}
+use mathlib.Core.Bool.{not}
 use mathlib.Core.List.{List, [], _∷_, map}
+use lib.Dec.{T}
 use lib.ListN.{getD}
+use mir.Val.{hasKey}
+use types.Run.{OneOf, miss}
 use Rattle.rules.specs.declared.Cap.{Cap}
+use Rattle.rules.specs.declared.forms.Form.{Form as Name}
+use Rattle.rules.specs.declared.forms.Form.the-variants as N
 use Rattle.rules.specs.Lists.{pad}
 use Rattle.rules.specs.Script.{Operand, reads, value, field, swap, call, new, cast, spawn, send, recv, copy, Line, bind, give, line, rank, Program, lineAt}
 use Rattle.rules.specs.State.{Frame, State}
+use Rattle.rules.specs.Forms.{formOf}
 use Rattle.rules.specs.Tables.{operandWord, operandItem, operandOf, capOf, lineWords, row}
-use Rattle.rules.proofs.ListLaws.{get-pad}
+use Rattle.rules.proofs.ListLaws.{get-pad, allBelow, below-true}
+use Rattle.rules.proofs.FormNumbers.{place}
 use Rattle.rules.proofs.TableWords.{cap-of-rank, operand-of-word}
 use Rattle.table.specs.declared.state.Here.{Here}
 use Rattle.table.specs.StateTable.{OnLine}
@@ -166,12 +174,14 @@ module _ {p : List ℕ} {h : Here} {form : ℕ} (first : form ≡ wordAt p h 0) 
 
 -- ---- The line performed
 
--- in two steps: `omega` splits six cases at most
-none-to-eight : (n : ℕ) → (n ≡ 4 → ⊥) → (n ≡ 5 → ⊥) → (n ≡ 6 → ⊥) → (n ≡ 7 → ⊥) → (n ≡ 8 → ⊥) → 4 ≤ n → 9 ≤ n
-none-to-eight n f4 f5 f6 f7 f8 least = omega arith
+-- the places of the forms that no line of a block has
+abbrev outside : List ℕ
+outside = place N.NoForm ∷ place N.Kind ∷ place N.Thread ∷ place N.Method ∷ []
 
-none-to-fourteen : (n : ℕ) → (n ≡ 9 → ⊥) → (n ≡ 10 → ⊥) → (n ≡ 11 → ⊥) → (n ≡ 12 → ⊥) → (n ≡ 13 → ⊥) → (n ≡ 14 → ⊥) → 9 ≤ n → n ≤ 14 → ⊥
-none-to-fourteen n f9 f10 f11 f12 f13 f14 least most = omega arith
+-- numbers 4 to 14 are other forms'
+not-outside : (k : ℕ) → k < 11 → OneOf outside (place (formOf (4 + k))) → ⊥
+unfolding allBelow
+not-outside k few one = miss outside (place (formOf (4 + k))) (subst T (sym (below-true (λ i. not (hasKey outside (place (formOf (4 + i))))) 11 k refl few)) tt) one
 
 module _ {p s s₁ : List ℕ} {h : Here} {r : Step} where
   -- Q is asked of a program that is loaded
@@ -200,16 +210,11 @@ module _ {p s s₁ : List ℕ} {h : Here} {r : Step} where
             rw is (does .performs ws items .performs P n S f fs rest tt st few is);
       }
 
-  -- no line has another number
-  pub no-other-form : {form : ℕ} → form ≡ wordAt p h 0 → (4 ≤ form → form ≤ 14 → ⊥) → PerformsHere p s h r s₁
-  no-other-form first other =
+  -- no line of a block has another form
+  pub no-such-line : {form : ℕ} {f : Name} → form ≡ wordAt p h 0 → f ≡ formOf form → OneOf outside (place f) → PerformsHere p s h r s₁
+  no-such-line first told one =
       record {
         performs = λ P n S f fs rest loaded st few on.
             let said = here-says on in
-            absurd (other (omega (arith, first, said .form)) (omega (arith, first, said .form, said .few)));
+            absurd (not-outside (said .place) (said .few) (subst (λ g. OneOf outside (place g)) (told ∙ ap formOf (first ∙ said .form)) one));
       }
-
-  pub no-form-left : {form : ℕ} → form ≡ wordAt p h 0 → (form ≡ 4 → ⊥) → (form ≡ 5 → ⊥) → (form ≡ 6 → ⊥) → (form ≡ 7 → ⊥) → (form ≡ 8 → ⊥)
-      → (form ≡ 9 → ⊥) → (form ≡ 10 → ⊥) → (form ≡ 11 → ⊥) → (form ≡ 12 → ⊥) → (form ≡ 13 → ⊥) → (form ≡ 14 → ⊥) → PerformsHere p s h r s₁
-  no-form-left first f4 f5 f6 f7 f8 f9 f10 f11 f12 f13 f14 =
-      no-other-form first λ least most. none-to-fourteen _ f9 f10 f11 f12 f13 f14 (none-to-eight _ f4 f5 f6 f7 f8 least) most

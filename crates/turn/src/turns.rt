@@ -1,5 +1,6 @@
-// The line where a thread stands, by the number of its form; a turn; and whether a turn would wait.
+// The line where a thread stands, by its form; a turn; and whether a turn would wait.
 use checks::Step;
+use rules::Form;
 use table::Here;
 ghost use Prim.Native.Nat.{_≤_, _<_};
 ghost use lib.ListN.{length};
@@ -13,22 +14,24 @@ pub fn perform(p: &[u16], s: &mut [u16], h: Here) -> Step
     requires { ⌜ (8192 ≤ length (now p)) × (8192 ≤ length (now s)) × Placed h ⌝ }
     ensures { λ r. ⌜ PerformsHere (now (p .entry)) (now (s .entry)) h r (now (s .exit)) ⌝ }
 {
-    let form = table::part(p, h, 0);
+    let form = rules::form_of(table::part(p, h, 0));
     match form {
-        1 => Step::Waits,
-        2 => Step::Waits,
-        3 => Step::Waits,
-        4 => super::form_moves::give_line(s, h, table::part(p, h, 1)),
-        5 => super::form_moves::value_line(s, h, table::part(p, h, 1)),
-        6 => super::form_moves::field_line(s, h, table::part(p, h, 1), table::part(p, h, 2)),
-        7 => super::form_moves::swap_line(
+        Form::Give => super::form_moves::give_line(s, h, table::part(p, h, 1)),
+        Form::Value => super::form_moves::value_line(s, h, table::part(p, h, 1)),
+        Form::Field => super::form_moves::field_line(
+            s,
+            h,
+            table::part(p, h, 1), // target
+            table::part(p, h, 2), // field
+        ),
+        Form::Swap => super::form_moves::swap_line(
             s,
             h,
             table::part(p, h, 1) % 16,
             table::part(p, h, 2),
             table::part(p, h, 3),
         ),
-        8 => super::form_moves::call_line(
+        Form::Call => super::form_moves::call_line(
             p,
             s,
             h,
@@ -36,7 +39,7 @@ pub fn perform(p: &[u16], s: &mut [u16], h: Here) -> Step
             table::part(p, h, 2),
             table::part(p, h, 3),
         ),
-        9 => super::form_moves::new_line(
+        Form::New => super::form_moves::new_line(
             s,
             h,
             table::cap_of(table::part(p, h, 1)),
@@ -46,22 +49,27 @@ pub fn perform(p: &[u16], s: &mut [u16], h: Here) -> Step
             table::part(p, h, 5),
             table::part(p, h, 6),
         ),
-        10 => super::form_moves::cast_line(
+        Form::Cast => super::form_moves::cast_line(
             s,
             h,
             table::cap_of(table::part(p, h, 1)),
             table::part(p, h, 2),
         ),
-        11 => super::form_moves::spawn_line(s, h, table::part(p, h, 1)),
-        12 => super::form_moves::send_line(s, h, table::part(p, h, 1) % 16, table::part(p, h, 2)),
-        13 => super::form_moves::recv_line(s, h, table::part(p, h, 1)),
-        14 => super::copies::copy_line(
+        Form::Spawn => super::form_moves::spawn_line(s, h, table::part(p, h, 1)),
+        Form::Send => super::form_moves::send_line(
+            s,
+            h,
+            table::part(p, h, 1) % 16,
+            table::part(p, h, 2),
+        ),
+        Form::Recv => super::form_moves::recv_line(s, h, table::part(p, h, 1)),
+        Form::Copy => super::copies::copy_line(
             s,
             h,
             table::cap_of(table::part(p, h, 1)),
             table::part(p, h, 2),
         ),
-        _ => Step::Waits,
+        Form::NoForm | Form::Kind | Form::Thread | Form::Method => Step::Waits,
     }
 }
 
@@ -114,13 +122,23 @@ pub fn would_wait(p: &[u16], s: &[u16], t: usize) -> bool
         return true;
     }
     let h = table::locate(p, s, t, d);
-    let form = table::part(p, h, 0);
+    let form = rules::form_of(table::part(p, h, 0));
     let a = table::part(p, h, 1);
-    if form == 12 {
-        return send_waits(s, h, a % 16, table::part(p, h, 2));
+    match form {
+        Form::Send => send_waits(s, h, a % 16, table::part(p, h, 2)),
+        Form::Recv => recv_waits(s, h, a),
+        Form::NoForm
+        | Form::Kind
+        | Form::Thread
+        | Form::Method
+        | Form::Give
+        | Form::Value
+        | Form::Field
+        | Form::Swap
+        | Form::Call
+        | Form::New
+        | Form::Cast
+        | Form::Spawn
+        | Form::Copy => false,
     }
-    if form == 13 {
-        return recv_waits(s, h, a);
-    }
-    false
 }

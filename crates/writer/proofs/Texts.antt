@@ -1,18 +1,22 @@
 -- The text of a form from the words of its line: what the calls of a function write one after the other is what the form's template says. And the
 -- line that names the edition, from its word.
-use Prim.{Unit}
 use Prim.Native.Nat.{ℕ, zero, suc, _-_, _/_, _%_, _≤_}
 use native.Mathlib.Omega.{arith}
-use mathlib.Core.Path.{_≡_, refl, sym, ap, _∙_}
+use mathlib.Core.Path.{_≡_, refl, sym, ap, _∙_, subst}
+use mathlib.Core.Bool.{true, false≢true}
 use mathlib.Core.List.{List, [], _∷_, _++_, map, append-nil}
+use lib.Dec.{ltb}
 use lib.ListN.{length, getD, List·getD-eq-default}
-use borrow.Author.Tests.{eq-eqb, ne-eqb}
+use borrow.Author.Tests.{eq-eqb, ne-eqb, ltb-true, ltb-false}
+use Rattle.rules.specs.declared.forms.Form.the-variants as N
 use Rattle.rules.specs.Lists.{pad}
 use Rattle.rules.specs.Text.{bytes, space}
 use Rattle.rules.specs.Script.{Operand, value, field, swap, call, new, cast, spawn, send, recv, copy, bind, give, thread, method, Form, kind, opens, line, Edition, edition1, edition2, rank}
 use Rattle.rules.specs.Templates.{decimal, printOperand, capWord, printMany, print, show, headOf}
+use Rattle.rules.specs.Forms.{formNumber, formOf}
 use Rattle.rules.specs.Tables.{operandItem, operandOf, capOf, lineWords, row, editionWord}
 use Rattle.rules.specs.Reading.{operandsIn}
+use Rattle.rules.proofs.ListLaws.{by-bool, allBelow, below-true}
 use Rattle.rules.proofs.TableWords.{cap-of-rank, operand-of-word}
 use Rattle.buffer.specs.Writing.{numberPart}
 use Rattle.writer.specs.Lines.{operandPart, itemPart, itemsOf, formsOf, lineText, FewParts, headText}
@@ -113,22 +117,18 @@ module _ {form : ℕ} (a b c d e f : ℕ) where
   unfolding lineText show print
   copy-text is = rw is refl
 
--- the number is none of 1 to k
-abbrev NoneUpTo : ℕ → ℕ → Type 0
-NoneUpTo form zero = Unit {0}
-NoneUpTo form (suc k) = NoneUpTo form k × (form ≡ suc k → ⊥)
+-- numbers 1 to 14 are forms'
+past-all : (i : ℕ) → formOf (suc i) ≡ N.NoForm → 14 ≤ i
+unfolding allBelow
+past-all i none =
+    by-bool (ltb i 14)
+    (λ t. absurd (false≢true (subst (λ f. ltb 0 (formNumber f) ≡ true) none (below-true (λ k. ltb 0 (formNumber (formOf (suc k)))) 14 i refl (ltb-true i 14 t)))))
+    (λ t. ltb-false i 14 t)
 
-past-all : (form k : ℕ) → NoneUpTo (suc form) k → k ≤ form
-past-all form zero none = omega arith
-past-all form (suc k) none =
-    let past = past-all form k (none .0) in
-    let other : form ≡ k → ⊥ = λ e. none .1 (ap suc e) in
-    omega (arith, past, other)
-
-pub no-text : (form a b c d e f : ℕ) → NoneUpTo form 14 → [] ≡ lineText form a b c d e f
+pub no-text : (form a b c d e f : ℕ) → formOf form ≡ N.NoForm → [] ≡ lineText form a b c d e f
 unfolding lineText
 no-text zero a b c d e f none = refl
-no-text (suc i) a b c d e f none = sym (List·getD-eq-default (map show (formsOf a b c d e f)) [] (past-all i 14 none))
+no-text (suc i) a b c d e f none = sym (List·getD-eq-default (map show (formsOf a b c d e f)) [] (past-all i none))
 
 -- ---- The words of a form tell it
 

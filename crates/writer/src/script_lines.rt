@@ -4,6 +4,7 @@ use buffer::put_byte;
 use buffer::put_cap;
 use buffer::put_number;
 use buffer::put_text;
+use rules::Form;
 ghost use mathlib.Core.List.{[], _∷_, _++_};
 ghost use Prim.Native.Nat.{_+_, _≤_, _<_};
 ghost use lib.ListN.{length};
@@ -182,22 +183,23 @@ fn put_form(
     requires { ⌜ at + 77 ≤ length (now buf) ⌝ }
     ensures { λ r. ⌜ Wrote 77 (now (buf .entry)) (now (buf .exit)) at r (lineText form a b c d e f) ⌝ }
 {
-    match form {
-        1 => put_kind(buf, at, a, b, c, d, e),
-        2 => put_text(buf, at, b"(thread)\n"),
-        3 => put_text(buf, at, b"(method)\n"),
-        4 => put_value(buf, at, b"(give", a),
-        5 => put_value(buf, at, b"(let", a),
-        6 => put_field(buf, at, a, b),
-        7 => put_place(buf, at, b"(let (swap", a, b, c),
-        8 => put_place(buf, at, b"(let (call", a, b, c),
-        9 => put_new(buf, at, a, b, c, d, e, f),
-        10 => put_cast(buf, at, a, b),
-        11 => put_one(buf, at, b"(let (spawn", a),
-        12 => put_send(buf, at, a, b),
-        13 => put_one(buf, at, b"(let (recv", a),
-        14 => put_copy(buf, at, a, b),
-        _ => at,
+    let named = rules::form_of(form);
+    match named {
+        Form::Kind => put_kind(buf, at, a, b, c, d, e),
+        Form::Thread => put_text(buf, at, b"(thread)\n"),
+        Form::Method => put_text(buf, at, b"(method)\n"),
+        Form::Give => put_value(buf, at, b"(give", a),
+        Form::Value => put_value(buf, at, b"(let", a),
+        Form::Field => put_field(buf, at, a, b),
+        Form::Swap => put_place(buf, at, b"(let (swap", a, b, c),
+        Form::Call => put_place(buf, at, b"(let (call", a, b, c),
+        Form::New => put_new(buf, at, a, b, c, d, e, f),
+        Form::Cast => put_cast(buf, at, a, b),
+        Form::Spawn => put_one(buf, at, b"(let (spawn", a),
+        Form::Send => put_send(buf, at, a, b),
+        Form::Recv => put_one(buf, at, b"(let (recv", a),
+        Form::Copy => put_copy(buf, at, a, b),
+        Form::NoForm => at,
     }
 }
 

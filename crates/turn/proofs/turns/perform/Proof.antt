@@ -1,6 +1,8 @@
--- `turn::turns::perform` meets its contract: the words at the thread's place tell its line, which is the one that is called; no line has another number.
+-- `turn::turns::perform` meets its contract: the words at the thread's place tell its line, which is the one that is called; no line of a block has
+-- another form.
 use native.Mathlib.Omega.{arith}
-use Rattle.turn.proofs.Dispatch.{tells-give, tells-value, tells-field, tells-swap, tells-call, tells-cast, tells-spawn, tells-send, tells-recv, tells-copy, performs-loaded, performs-here, performs-new, no-other-form, no-form-left}
+use Rattle.rules.proofs.FormNumbers.{number-told}
+use Rattle.turn.proofs.Dispatch.{tells-give, tells-value, tells-field, tells-swap, tells-call, tells-cast, tells-spawn, tells-send, tells-recv, tells-copy, performs-loaded, performs-here, performs-new, no-such-line}
 use borrow.Author.Needs.{needs}
 use Rattle.turn.proofs.turns.perform.Statement.{statement}
 use Rattle.turn.proofs.turns.perform.Tie as tie
@@ -8,17 +10,29 @@ use Rattle.turn.proofs.turns.perform.Tie as tie
 part-requires : tie.Need-part-requires
 part-requires c κs = search needs
 
+form-of-requires : tie.Need-form-of-requires
+form-of-requires c κs = search needs
+
+enum-told : tie.Need-enum-told
+enum-told c = search needs
+
 part-requires-2 : tie.Need-part-requires-2
 part-requires-2 c κs = search needs
 
 give-line-requires : tie.Need-give-line-requires
 give-line-requires c κs = search needs
 
+enum-told-2 : tie.Need-enum-told-2
+enum-told-2 c = search needs
+
 part-requires-3 : tie.Need-part-requires-3
 part-requires-3 c κs = search needs
 
 value-line-requires : tie.Need-value-line-requires
 value-line-requires c κs = search needs
+
+enum-told-3 : tie.Need-enum-told-3
+enum-told-3 c = search needs
 
 part-requires-4 : tie.Need-part-requires-4
 part-requires-4 c κs = search needs
@@ -28,6 +42,9 @@ part-requires-5 c κs = search needs
 
 field-line-requires : tie.Need-field-line-requires
 field-line-requires c κs = search needs
+
+enum-told-4 : tie.Need-enum-told-4
+enum-told-4 c = search needs
 
 part-requires-6 : tie.Need-part-requires-6
 part-requires-6 c κs = search needs
@@ -41,6 +58,9 @@ part-requires-8 c κs = search needs
 swap-line-requires : tie.Need-swap-line-requires
 swap-line-requires c κs = search needs
 
+enum-told-5 : tie.Need-enum-told-5
+enum-told-5 c = search needs
+
 part-requires-9 : tie.Need-part-requires-9
 part-requires-9 c κs = search needs
 
@@ -52,6 +72,9 @@ part-requires-11 c κs = search needs
 
 call-line-requires : tie.Need-call-line-requires
 call-line-requires c κs = search needs
+
+enum-told-6 : tie.Need-enum-told-6
+enum-told-6 c = search needs
 
 part-requires-12 : tie.Need-part-requires-12
 part-requires-12 c κs = search needs
@@ -77,6 +100,9 @@ part-requires-17 c κs = search needs
 new-line-requires : tie.Need-new-line-requires
 new-line-requires c κs = search needs
 
+enum-told-7 : tie.Need-enum-told-7
+enum-told-7 c = search needs
+
 part-requires-18 : tie.Need-part-requires-18
 part-requires-18 c κs = search needs
 
@@ -89,11 +115,17 @@ part-requires-19 c κs = search needs
 cast-line-requires : tie.Need-cast-line-requires
 cast-line-requires c κs = search needs
 
+enum-told-8 : tie.Need-enum-told-8
+enum-told-8 c = search needs
+
 part-requires-20 : tie.Need-part-requires-20
 part-requires-20 c κs = search needs
 
 spawn-line-requires : tie.Need-spawn-line-requires
 spawn-line-requires c κs = search needs
+
+enum-told-9 : tie.Need-enum-told-9
+enum-told-9 c = search needs
 
 part-requires-21 : tie.Need-part-requires-21
 part-requires-21 c κs = search needs
@@ -104,11 +136,17 @@ part-requires-22 c κs = search needs
 send-line-requires : tie.Need-send-line-requires
 send-line-requires c κs = search needs
 
+enum-told-10 : tie.Need-enum-told-10
+enum-told-10 c = search needs
+
 part-requires-23 : tie.Need-part-requires-23
 part-requires-23 c κs = search needs
 
 recv-line-requires : tie.Need-recv-line-requires
 recv-line-requires c κs = search needs
+
+enum-told-11 : tie.Need-enum-told-11
+enum-told-11 c = search needs
 
 part-requires-24 : tie.Need-part-requires-24
 part-requires-24 c κs = search needs
@@ -122,148 +160,158 @@ part-requires-25 c κs = search needs
 copy-line-requires : tie.Need-copy-line-requires
 copy-line-requires c κs = search needs
 
-returns : tie.Need-returns
-returns c = no-other-form (c .before .part .ensures) λ least most. omega (arith, c .match .keys1, least)
-
-returns-2 : tie.Need-returns-2
-returns-2 c = no-other-form (c .before .part .ensures) λ least most. omega (arith, c .match .keys2, least)
-
-returns-3 : tie.Need-returns-3
-returns-3 c = no-other-form (c .before .part .ensures) λ least most. omega (arith, c .match .keys3, least)
-
 same-length : tie.Need-same-length
 same-length c = search needs
 
-returns-4 : tie.Need-returns-4
-returns-4 c =
-    let at-part2 = c .before .before .before in
-    let at-part = at-part2 .before .before .before in
-    performs-here (tells-give (at-part .part .ensures) (at-part2 .part2 .ensures) (at-part2 .before .before .match .keys4)) (c .before .before .give-line .ensures)
+returns : tie.Need-returns
+returns c =
+    let at-parts = c .before .before .before in
+    let at-match = at-parts .before .before .before in
+    performs-here
+    (tells-give (at-match .before .before .part .ensures) (at-parts .part2 .ensures) (number-told (at-match .before .form-of .ensures) (at-match .match .keys1) (omega arith)))
+    (c .before .before .give-line .ensures)
 
 same-length-2 : tie.Need-same-length-2
 same-length-2 c = search needs
 
-returns-5 : tie.Need-returns-5
-returns-5 c =
-    let at-part3 = c .before .before .before in
-    let at-part = at-part3 .before .before .before in
-    performs-here (tells-value (at-part .part .ensures) (at-part3 .part3 .ensures) (at-part3 .before .before .match .keys5)) (c .before .before .value-line .ensures)
+returns-2 : tie.Need-returns-2
+returns-2 c =
+    let at-parts = c .before .before .before in
+    let at-match = at-parts .before .before .before in
+    performs-here
+    (tells-value (at-match .before .before .part .ensures) (at-parts .part3 .ensures) (number-told (at-match .before .form-of .ensures) (at-match .match .keys2) (omega arith)))
+    (c .before .before .value-line .ensures)
 
 same-length-3 : tie.Need-same-length-3
 same-length-3 c = search needs
 
-returns-6 : tie.Need-returns-6
-returns-6 c =
-    let at-part5 = c .before .before .before in
-    let at-match = at-part5 .before .before .before in
-    performs-here (tells-field (at-match .before .part .ensures) (at-part5 .before .part4 .ensures) (at-part5 .part5 .ensures) (at-match .match .keys6)) (c .before .before .field-line .ensures)
+returns-3 : tie.Need-returns-3
+returns-3 c =
+    let at-parts = c .before .before .before in
+    let at-match = at-parts .before .before .before .before in
+    performs-here
+    (tells-field (at-match .before .before .part .ensures) (at-parts .before .part4 .ensures) (at-parts .part5 .ensures) (number-told (at-match .before .form-of .ensures) (at-match .match .keys3) (omega arith)))
+    (c .before .before .field-line .ensures)
 
 same-length-4 : tie.Need-same-length-4
 same-length-4 c = search needs
 
-returns-7 : tie.Need-returns-7
-returns-7 c =
-    let at-part8 = c .before .before .before in
-    let at-match = at-part8 .before .before .before .before in
-    performs-here (tells-swap (at-match .before .part .ensures) (at-part8 .before .before .part6 .ensures) (at-part8 .before .part7 .ensures) (at-part8 .part8 .ensures)
-    (at-match .match .keys7)) (c .before .before .swap-line .ensures)
+returns-4 : tie.Need-returns-4
+returns-4 c =
+    let at-parts = c .before .before .before in
+    let at-match = at-parts .before .before .before .before .before in
+    performs-here
+    (tells-swap (at-match .before .before .part .ensures) (at-parts .before .before .part6 .ensures) (at-parts .before .part7 .ensures) (at-parts .part8 .ensures) (number-told (at-match .before .form-of .ensures) (at-match .match .keys4) (omega arith)))
+    (c .before .before .swap-line .ensures)
 
 same-length-5 : tie.Need-same-length-5
 same-length-5 c = search needs
 
-returns-8 : tie.Need-returns-8
-returns-8 c =
-    let at-part11 = c .before .before .before in
-    let at-match = at-part11 .before .before .before .before in
-    performs-loaded (λ P S loaded. loaded) (tells-call (at-match .before .part .ensures) (at-part11 .before .before .part9 .ensures) (at-part11 .before .part10 .ensures)
-    (at-part11 .part11 .ensures) (at-match .match .keys8)) (c .before .before .call-line .ensures)
+returns-5 : tie.Need-returns-5
+returns-5 c =
+    let at-parts = c .before .before .before in
+    let at-match = at-parts .before .before .before .before .before in
+    performs-loaded (λ P S loaded. loaded)
+    (tells-call (at-match .before .before .part .ensures) (at-parts .before .before .part9 .ensures) (at-parts .before .part10 .ensures) (at-parts .part11 .ensures) (number-told (at-match .before .form-of .ensures) (at-match .match .keys5) (omega arith)))
+    (c .before .before .call-line .ensures)
 
 same-length-6 : tie.Need-same-length-6
 same-length-6 c = search needs
 
-returns-9 : tie.Need-returns-9
-returns-9 c =
-    let at-part17 = c .before .before .before in
-    let at-part14 = at-part17 .before .before .before in
-    let at-part12 = at-part14 .before .before .before in
-    let at-part = at-part12 .before .before .before in
-    performs-new (at-part .part .ensures) (at-part12 .part12 .ensures) (at-part14 .before .part13 .ensures) (at-part14 .before .before .cap-of .ensures) (at-part14 .part14 .ensures)
-    (at-part17 .before .before .part15 .ensures) (at-part17 .before .part16 .ensures) (at-part17 .part17 .ensures) (at-part12 .before .before .match .keys9) (c .before .before .new-line .ensures)
+returns-6 : tie.Need-returns-6
+returns-6 c =
+    let at-parts = c .before .before .before in
+    let at-match = at-parts .before .before .before .before .before .before .before .before .before in
+    performs-new (at-match .before .before .part .ensures) (at-parts .before .before .before .before .before .before .part12 .ensures)
+    (at-parts .before .before .before .before .part13 .ensures) (at-parts .before .before .before .before .before .cap-of .ensures)
+    (at-parts .before .before .before .part14 .ensures) (at-parts .before .before .part15 .ensures) (at-parts .before .part16 .ensures) (at-parts .part17 .ensures)
+    (number-told (at-match .before .form-of .ensures) (at-match .match .keys6) (omega arith)) (c .before .before .new-line .ensures)
 
 same-length-7 : tie.Need-same-length-7
 same-length-7 c = search needs
 
-returns-10 : tie.Need-returns-10
-returns-10 c =
-    let at-part19 = c .before .before .before in
-    let at-match = at-part19 .before .before .before .before in
-    performs-here (tells-cast (at-match .before .part .ensures) (at-part19 .before .before .part18 .ensures) (at-part19 .part19 .ensures) (at-part19 .before .cap-of2 .ensures)
-    (at-match .match .keys10)) (c .before .before .cast-line .ensures)
+returns-7 : tie.Need-returns-7
+returns-7 c =
+    let at-parts = c .before .before .before in
+    let at-match = at-parts .before .before .before .before .before in
+    performs-here
+    (tells-cast (at-match .before .before .part .ensures) (at-parts .before .before .part18 .ensures) (at-parts .part19 .ensures) (at-parts .before .cap-of2 .ensures) (number-told (at-match .before .form-of .ensures) (at-match .match .keys7) (omega arith)))
+    (c .before .before .cast-line .ensures)
 
 same-length-8 : tie.Need-same-length-8
 same-length-8 c = search needs
 
-returns-11 : tie.Need-returns-11
-returns-11 c =
-    let at-part20 = c .before .before .before in
-    let at-part = at-part20 .before .before .before in
-    performs-here (tells-spawn (at-part .part .ensures) (at-part20 .part20 .ensures) (at-part20 .before .before .match .keys11)) (c .before .before .spawn-line .ensures)
+returns-8 : tie.Need-returns-8
+returns-8 c =
+    let at-parts = c .before .before .before in
+    let at-match = at-parts .before .before .before in
+    performs-here
+    (tells-spawn (at-match .before .before .part .ensures) (at-parts .part20 .ensures) (number-told (at-match .before .form-of .ensures) (at-match .match .keys8) (omega arith)))
+    (c .before .before .spawn-line .ensures)
 
 same-length-9 : tie.Need-same-length-9
 same-length-9 c = search needs
 
-returns-12 : tie.Need-returns-12
-returns-12 c =
-    let at-part22 = c .before .before .before in
-    let at-match = at-part22 .before .before .before in
-    performs-here (tells-send (at-match .before .part .ensures) (at-part22 .before .part21 .ensures) (at-part22 .part22 .ensures) (at-match .match .keys12)) (c .before .before .send-line .ensures)
+returns-9 : tie.Need-returns-9
+returns-9 c =
+    let at-parts = c .before .before .before in
+    let at-match = at-parts .before .before .before .before in
+    performs-here
+    (tells-send (at-match .before .before .part .ensures) (at-parts .before .part21 .ensures) (at-parts .part22 .ensures) (number-told (at-match .before .form-of .ensures) (at-match .match .keys9) (omega arith)))
+    (c .before .before .send-line .ensures)
 
 same-length-10 : tie.Need-same-length-10
 same-length-10 c = search needs
 
-returns-13 : tie.Need-returns-13
-returns-13 c =
-    let at-part23 = c .before .before .before in
-    let at-part = at-part23 .before .before .before in
-    performs-here (tells-recv (at-part .part .ensures) (at-part23 .part23 .ensures) (at-part23 .before .before .match .keys13)) (c .before .before .recv-line .ensures)
+returns-10 : tie.Need-returns-10
+returns-10 c =
+    let at-parts = c .before .before .before in
+    let at-match = at-parts .before .before .before in
+    performs-here
+    (tells-recv (at-match .before .before .part .ensures) (at-parts .part23 .ensures) (number-told (at-match .before .form-of .ensures) (at-match .match .keys10) (omega arith)))
+    (c .before .before .recv-line .ensures)
 
 same-length-11 : tie.Need-same-length-11
 same-length-11 c = search needs
 
-returns-14 : tie.Need-returns-14
-returns-14 c =
-    let at-part25 = c .before .before .before in
-    let at-match = at-part25 .before .before .before .before in
-    performs-here (tells-copy (at-match .before .part .ensures) (at-part25 .before .before .part24 .ensures) (at-part25 .part25 .ensures) (at-part25 .before .cap-of3 .ensures)
-    (at-match .match .keys14)) (c .before .before .copy-line .ensures)
+returns-11 : tie.Need-returns-11
+returns-11 c =
+    let at-parts = c .before .before .before in
+    let at-match = at-parts .before .before .before .before .before in
+    performs-here
+    (tells-copy (at-match .before .before .part .ensures) (at-parts .before .before .part24 .ensures) (at-parts .part25 .ensures) (at-parts .before .cap-of3 .ensures) (number-told (at-match .before .form-of .ensures) (at-match .match .keys11) (omega arith)))
+    (c .before .before .copy-line .ensures)
 
-returns-15 : tie.Need-returns-15
-returns-15 c =
-    let left = c .match .rest in
-    no-form-left (c .before .part .ensures)
-    (left .0 .0 .0 .0 .0 .0 .0 .0 .0 .0 .1) (left .0 .0 .0 .0 .0 .0 .0 .0 .0 .1) (left .0 .0 .0 .0 .0 .0 .0 .0 .1) (left .0 .0 .0 .0 .0 .0 .0 .1) (left .0 .0 .0 .0 .0 .0 .1)
-    (left .0 .0 .0 .0 .0 .1) (left .0 .0 .0 .0 .1) (left .0 .0 .0 .1) (left .0 .0 .1) (left .0 .1) (left .1)
+returns-12 : tie.Need-returns-12
+returns-12 c = no-such-line (c .before .before .part .ensures) (c .before .form-of .ensures) (c .match .keys12)
 
 pub perform-spec : {M : Type 1} → statement M
 perform-spec =
     tie.close
     (tie.spec
     part-requires
+    form-of-requires
+    enum-told
     part-requires-2
     give-line-requires
+    enum-told-2
     part-requires-3
     value-line-requires
+    enum-told-3
     part-requires-4
     part-requires-5
     field-line-requires
+    enum-told-4
     part-requires-6
     part-requires-7
     part-requires-8
     swap-line-requires
+    enum-told-5
     part-requires-9
     part-requires-10
     part-requires-11
     call-line-requires
+    enum-told-6
     part-requires-12
     cap-of-requires
     part-requires-13
@@ -272,44 +320,46 @@ perform-spec =
     part-requires-16
     part-requires-17
     new-line-requires
+    enum-told-7
     part-requires-18
     cap-of-requires-2
     part-requires-19
     cast-line-requires
+    enum-told-8
     part-requires-20
     spawn-line-requires
+    enum-told-9
     part-requires-21
     part-requires-22
     send-line-requires
+    enum-told-10
     part-requires-23
     recv-line-requires
+    enum-told-11
     part-requires-24
     cap-of-requires-3
     part-requires-25
     copy-line-requires
-    returns
-    returns-2
-    returns-3
     same-length
-    returns-4
+    returns
     same-length-2
-    returns-5
+    returns-2
     same-length-3
-    returns-6
+    returns-3
     same-length-4
-    returns-7
+    returns-4
     same-length-5
-    returns-8
+    returns-5
     same-length-6
-    returns-9
+    returns-6
     same-length-7
-    returns-10
+    returns-7
     same-length-8
-    returns-11
+    returns-8
     same-length-9
-    returns-12
+    returns-9
     same-length-10
-    returns-13
+    returns-10
     same-length-11
-    returns-14
-    returns-15)
+    returns-11
+    returns-12)

@@ -1,4 +1,8 @@
 -- `turn::turns::would_wait` meets its contract: a thread without a frame waits; of the lines only a send and a recv can.
+use native.Mathlib.Omega.{arith}
+use mathlib.Core.List.{[], _∷_}
+use Rattle.rules.specs.declared.forms.Form.the-variants.{Send, Recv}
+use Rattle.rules.proofs.FormNumbers.{number-told, allBut, not-told}
 use Rattle.turn.proofs.Dispatch.{tells-send, tells-recv}
 use Rattle.turn.proofs.Located.{past-idles, frameless-idles, locates}
 use Rattle.turn.proofs.Waiting.{idle-waits, line-would-wait, others-would-not}
@@ -21,8 +25,14 @@ locate-requires c κs = search needs
 part-requires : tie.Need-part-requires
 part-requires c κs = search needs
 
+form-of-requires : tie.Need-form-of-requires
+form-of-requires c κs = search needs
+
 part-requires-2 : tie.Need-part-requires-2
 part-requires-2 c κs = search needs
+
+enum-told : tie.Need-enum-told
+enum-told c = search needs
 
 part-requires-3 : tie.Need-part-requires-3
 part-requires-3 c κs = search needs
@@ -30,27 +40,32 @@ part-requires-3 c κs = search needs
 send-waits-requires : tie.Need-send-waits-requires
 send-waits-requires c κs = search needs
 
-returns-3 : tie.Need-returns-3
-returns-3 c =
-    let at = c .before .before .before .before .before in
-    line-would-wait (locates (at .before .before .frame-count .ensures .1) (at .before .if2 .left) (at .locate .ensures .0 .1) (at .locate .ensures .1))
-    (tells-send (c .before .before .before .before .part .ensures) (c .before .before .before .part2 .ensures) (c .before .part3 .ensures) (c .before .before .if3 .taken)) (c .send-waits .ensures)
+enum-told-2 : tie.Need-enum-told-2
+enum-told-2 c = search needs
 
 recv-waits-requires : tie.Need-recv-waits-requires
 recv-waits-requires c κs = search needs
 
+returns-3 : tie.Need-returns-3
+returns-3 c =
+    let at-match = c .before .before .before in
+    let at-locate = at-match .before .before .before .before in
+    line-would-wait (locates (at-locate .before .before .frame-count .ensures .1) (at-locate .before .if2 .left) (at-locate .locate .ensures .0 .1) (at-locate .locate .ensures .1))
+    (tells-send (at-match .before .before .before .part .ensures) (at-match .before .part2 .ensures) (c .before .part3 .ensures) (number-told (at-match .before .before .form-of .ensures) (at-match .match .keys1) (omega arith))) (c .send-waits .ensures)
+
 returns-4 : tie.Need-returns-4
 returns-4 c =
-    let at = c .before .before .before .before .before in
-    line-would-wait (locates (at .before .before .frame-count .ensures .1) (at .before .if2 .left) (at .locate .ensures .0 .1) (at .locate .ensures .1))
-    (tells-recv (c .before .before .before .before .part .ensures) (c .before .before .before .part2 .ensures) (c .before .if4 .taken)) (c .recv-waits .ensures)
+    let at-match = c .before .before in
+    let at-locate = at-match .before .before .before .before in
+    line-would-wait (locates (at-locate .before .before .frame-count .ensures .1) (at-locate .before .if2 .left) (at-locate .locate .ensures .0 .1) (at-locate .locate .ensures .1))
+    (tells-recv (at-match .before .before .before .part .ensures) (at-match .before .part2 .ensures) (number-told (at-match .before .before .form-of .ensures) (at-match .match .keys2) (omega arith))) (c .recv-waits .ensures)
 
 returns-5 : tie.Need-returns-5
 returns-5 c =
-    let at-before = c .before .before .before in
-    let at = at-before .before in
-    others-would-not (locates (at .before .before .frame-count .ensures .1) (at .before .if2 .left) (at .locate .ensures .0 .1) (at .locate .ensures .1)) (at-before .part .ensures)
-    (c .before .if3 .left) (c .if4 .left)
+    let at-locate = c .before .before .before .before in
+    let ks = allBut (Send ∷ Recv ∷ []) in
+    others-would-not (locates (at-locate .before .before .frame-count .ensures .1) (at-locate .before .if2 .left) (at-locate .locate .ensures .0 .1) (at-locate .locate .ensures .1)) (c .before .before .before .part .ensures)
+    (not-told ks (c .before .before .form-of .ensures) (c .match .keys3) tt) (not-told ks (c .before .before .form-of .ensures) (c .match .keys3) tt)
 
 pub would-wait-spec : {M : Type 1} → statement M
 would-wait-spec =
@@ -61,10 +76,13 @@ would-wait-spec =
     returns-2
     locate-requires
     part-requires
+    form-of-requires
     part-requires-2
+    enum-told
     part-requires-3
     send-waits-requires
-    returns-3
+    enum-told-2
     recv-waits-requires
+    returns-3
     returns-4
     returns-5)
