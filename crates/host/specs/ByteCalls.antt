@@ -42,6 +42,9 @@ pub record HasRead (C : Reading) (program : List ℕ) (number line : ℕ) (progr
   pub line-is : line ≡ lineOf C
   pub program-is : program₁ ≡ tableAfter programWords C program
 
+abbrev pub ReadsBytes : (text program : List ℕ) → (number line : ℕ) → (program₁ : List ℕ) → Type 0
+ReadsBytes text program number line program₁ = HasRead (readBytes text program) program number line program₁
+
 -- ---- "running a script on a list of turns"
 
 -- a run's inputs with both tables as lent, and whether another slice of the call is under its length
@@ -60,6 +63,9 @@ pub record Stores (C : Reading) (turns program state : List ℕ) (r : Answer) (p
   pub made : Made C turns r p s
   pub program-is : program₁ ≡ tableAfter programWords C program
   pub state-is : state₁ ≡ tableAfter (ranWords turns) C state
+
+abbrev pub MakesBytes : (text turns program state : List ℕ) → (short : Bool) → Answer → (p s program₁ state₁ : List ℕ) → Type 0
+MakesBytes text turns program state short r p s program₁ state₁ = Stores (lentBytes text turns program state short) turns program state r p s program₁ state₁
 
 -- the code's answer by its numbers
 pub record TellsAnswer (r : Answer) (end number thread block line moves : ℕ) : Type 0 where
@@ -80,6 +86,10 @@ pub record HasRun (C : Reading) (turns program state : List ℕ) (end number thr
   pub program-is : program₁ ≡ tableAfter programWords C program
   pub state-is : state₁ ≡ tableAfter (ranWords turns) C state
   pub demand-3 : Demand3 C turns end number thread block line moves state₁
+
+abbrev pub RunsBytes : (text turns program state : List ℕ) → (end number thread block line moves : ℕ) → (program₁ state₁ : List ℕ) → Type 0
+RunsBytes text turns program state end number thread block line moves program₁ state₁ =
+    HasRun (runBytes text turns program state) turns program state end number thread block line moves program₁ state₁
 
 -- ---- "a reach report"
 
@@ -114,6 +124,10 @@ pub record HasReported (C : Reading) (turns : List ℕ) (thread : ℕ) (program 
   pub report : Reports (reachReport mosts turns thread C) list number count line list₁
   pub program-is : program₁ ≡ tableAfter programWords C program
   pub state-is : state₁ ≡ tableAfter (ranWords turns) C state
+
+abbrev pub ReachesBytes : (text turns program state : List ℕ) → (thread : ℕ) → (list : List ℕ) → (number count line : ℕ) → (program₁ state₁ list₁ : List ℕ) → Type 0
+ReachesBytes text turns program state thread list number count line program₁ state₁ list₁ =
+    HasReported (reachBytes text turns program state list) turns thread program state list number count line program₁ state₁ list₁
 
 -- ---- document 02, L2: "write a script back out"
 

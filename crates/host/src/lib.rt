@@ -6,7 +6,7 @@ ghost use lib.ListN.{length, take};
 ghost use Rattle.rules.specs.Text.{lines, findLine, startOf};
 ghost use Rattle.table.specs.ProgramTable.{freshTable};
 ghost use Rattle.host.specs.Bytes.{bytesAfter, wordsOf};
-ghost use Rattle.host.specs.ByteCalls.{readBytes, HasRead, lentBytes, Stores, TellsAnswer, runBytes, HasRun, reachBytes, HasReported, WritesBytes};
+ghost use Rattle.host.specs.ByteCalls.{ReadsBytes, MakesBytes, TellsAnswer, RunsBytes, ReachesBytes, WritesBytes};
 
 const TABLE: usize = 16384; // bytes of a table
 
@@ -51,7 +51,7 @@ fn make(
     s: &mut [u16],
 ) -> Answer
     requires { ⌜ (now p ≡ freshTable) × (now s ≡ freshTable) ⌝ }
-    ensures { λ r. ⌜ Stores (lentBytes (now (text .entry)) (now (turns .entry)) (now (program .entry)) (now (state .entry)) short) (now (turns .entry)) (now (program .entry)) (now (state .entry)) r (now (p .exit)) (now (s .exit)) (now (program .exit)) (now (state .exit)) ⌝ }
+    ensures { λ r. ⌜ MakesBytes (now (text .entry)) (now (turns .entry)) (now (program .entry)) (now (state .entry)) short r (now (p .exit)) (now (s .exit)) (now (program .exit)) (now (state .exit)) ⌝ }
 {
     let any = (program.len() < TABLE) | ((state.len() < TABLE) | short);
     let answer = run::make(text, turns, any, p, s);
@@ -110,7 +110,7 @@ fn tell(
 // Reads a script into a program table: 0, or the refusal's number and its line. A refusal changes no byte.
 #[no_mangle]
 pub extern "C" fn box_read(text: &[u8], program: &mut [u8], line: &mut usize) -> u16
-    ensures { λ r. ⌜ HasRead (readBytes (now (text .entry)) (now (program .entry))) (now (program .entry)) r (now (line .exit)) (now (program .exit)) ⌝ }
+    ensures { λ r. ⌜ ReadsBytes (now (text .entry)) (now (program .entry)) r (now (line .exit)) (now (program .exit)) ⌝ }
 {
     *line = 0;
     let mut words = [0u16; 8192];
@@ -141,7 +141,7 @@ pub extern "C" fn box_run(
     line: &mut usize,
     moves: &mut usize,
 ) -> u16
-    ensures { λ r. ⌜ HasRun (runBytes (now (text .entry)) (now (turns .entry)) (now (program .entry)) (now (state .entry))) (now (turns .entry)) (now (program .entry)) (now (state .entry)) r (now (number .exit)) (now (thread .exit)) (now (block .exit)) (now (line .exit)) (now (moves .exit)) (now (program .exit)) (now (state .exit)) ⌝ }
+    ensures { λ r. ⌜ RunsBytes (now (text .entry)) (now (turns .entry)) (now (program .entry)) (now (state .entry)) r (now (number .exit)) (now (thread .exit)) (now (block .exit)) (now (line .exit)) (now (moves .exit)) (now (program .exit)) (now (state .exit)) ⌝ }
 {
     let mut p = [0u16; 8192];
     let mut s = [0u16; 8192];
@@ -162,7 +162,7 @@ pub extern "C" fn box_reach(
     count: &mut usize,
     line: &mut usize,
 ) -> u16
-    ensures { λ r. ⌜ HasReported (reachBytes (now (text .entry)) (now (turns .entry)) (now (program .entry)) (now (state .entry)) (now (list .entry))) (now (turns .entry)) thread (now (program .entry)) (now (state .entry)) (now (list .entry)) r (now (count .exit)) (now (line .exit)) (now (program .exit)) (now (state .exit)) (now (list .exit)) ⌝ }
+    ensures { λ r. ⌜ ReachesBytes (now (text .entry)) (now (turns .entry)) (now (program .entry)) (now (state .entry)) thread (now (list .entry)) r (now (count .exit)) (now (line .exit)) (now (program .exit)) (now (state .exit)) (now (list .exit)) ⌝ }
 {
     *count = 0;
     *line = 0;

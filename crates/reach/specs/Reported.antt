@@ -17,7 +17,7 @@ use Rattle.rules.specs.State.{State, threadAt, channelAt}
 use Rattle.rules.specs.Fits.{Fits}
 use Rattle.rules.specs.Reach.{count, slotsOf, inFlight, roots}
 use Rattle.rules.specs.Calls as Calls
-use Rattle.rules.specs.Calls.{unreported, reached, reportOn, reachReport, programAfter, stateAfter, listAfter}
+use Rattle.rules.specs.Calls.{unreported, reached, reportOn, reachCall, reachReport, programAfter, stateAfter, listAfter}
 use Rattle.table.specs.StateTable.{Held}
 use Rattle.walk.specs.Walking.{Tally, Numbered, WalkedTo}
 use Rattle.turn.specs.Performed.{Loaded}
@@ -77,3 +77,8 @@ pub record Reached (C : Reading) (turns : List ℕ) (t : ℕ) (program state lis
   pub report : Reports (reachReport mosts turns t C) list r list₁
   pub program-is : program₁ ≡ programAfter C program
   pub state-is : state₁ ≡ stateAfter mosts turns C state
+
+-- "a reach report", of its inputs as lent
+abbrev pub Reaches : (text turns program state : List ℕ) → (t : ℕ) → (list : List ℕ) → Report → (program₁ state₁ list₁ : List ℕ) → Type 0
+Reaches text turns program state t list r program₁ state₁ list₁ =
+    Reached (reachCall mosts text turns program state list) turns t program state list r program₁ state₁ list₁

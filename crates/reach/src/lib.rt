@@ -5,9 +5,7 @@ mod walking;
 use run::Answer;
 use walking::list_met;
 use walking::walk_roots;
-ghost use Rattle.rules.specs.Mosts.{mosts};
-ghost use Rattle.rules.specs.Calls.{reachCall};
-ghost use Rattle.reach.specs.Reported.{ReportsState, Reached};
+ghost use Rattle.reach.specs.Reported.{ReportsState, Reaches};
 
 // What a report answers: it is turned away, with document 01's number and the line; or the number of objects reached.
 pub enum Report {
@@ -25,7 +23,7 @@ pub fn reach(
     t: usize,
     list: &mut [u16],
 ) -> Report
-    ensures { λ r. ⌜ Reached (reachCall mosts (now (text .entry)) (now (turns .entry)) (now (program .entry)) (now (state .entry)) (now (list .entry))) (now (turns .entry)) t (now (program .entry)) (now (state .entry)) (now (list .entry)) r (now (program .exit)) (now (state .exit)) (now (list .exit)) ⌝ }
+    ensures { λ r. ⌜ Reaches (now (text .entry)) (now (turns .entry)) (now (program .entry)) (now (state .entry)) t (now (list .entry)) r (now (program .exit)) (now (state .exit)) (now (list .exit)) ⌝ }
 {
     let answer = run::run_into(text, turns, list.len() < 256, program, state);
     match answer {

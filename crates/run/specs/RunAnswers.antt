@@ -12,7 +12,7 @@ use Rattle.rules.specs.Run as R
 use Rattle.rules.specs.Run.{finished, stuck, openEnd, refused, ended, halted, run, answer}
 use Rattle.rules.specs.Stripped.{Matches}
 use Rattle.rules.specs.Tables.{stateWords}
-use Rattle.rules.specs.Calls.{runAnswer, programAfter, stateAfter}
+use Rattle.rules.specs.Calls.{lentInputs, runCall, runAnswer, programAfter, stateAfter}
 use Rattle.run.specs.declared.Answer.{Answer}
 use Rattle.run.specs.declared.Answer.the-variants.{Refused, Finished, Stuck, Open, Stopped}
 
@@ -89,3 +89,11 @@ pub record Ran (C : Reading) (turns program state : List ℕ) (r : Answer) (prog
   pub program-is : program₁ ≡ programAfter C program
   pub state-is : state₁ ≡ stateAfter mosts turns C state
   pub demand-3 : Demand3 C turns r state₁
+
+-- of its inputs as lent, where another slice of the call may be under its length
+abbrev pub RunsInto : (text turns program state : List ℕ) → (short : Bool) → Answer → (program₁ state₁ : List ℕ) → Type 0
+RunsInto text turns program state short r program₁ state₁ = Ran (lentInputs mosts text turns program state short) turns program state r program₁ state₁
+
+-- "running a script on a list of turns"
+abbrev pub Runs : (text turns program state : List ℕ) → Answer → (program₁ state₁ : List ℕ) → Type 0
+Runs text turns program state r program₁ state₁ = Ran (runCall mosts text turns program state) turns program state r program₁ state₁

@@ -8,10 +8,8 @@ use playing::play;
 ghost use mathlib.Core.Path.{_≡_};
 ghost use Prim.Native.Nat.{_≤_};
 ghost use lib.ListN.{length};
-ghost use Rattle.rules.specs.Mosts.{mosts};
-ghost use Rattle.rules.specs.Calls.{lentInputs, runCall};
 ghost use Rattle.run.specs.Played.{RunsProgram};
-ghost use Rattle.run.specs.RunAnswers.{isRefusal, Ran};
+ghost use Rattle.run.specs.RunAnswers.{isRefusal, RunsInto, Runs};
 ghost use Rattle.run.specs.Made.{Makes};
 
 // What a run answers: it is turned away, with document 01's number and the line; it ends, with its moves; or a turn stops it, with the
@@ -80,7 +78,7 @@ pub fn run_into(
     program: &mut [u16],
     state: &mut [u16],
 ) -> Answer
-    ensures { λ r. ⌜ Ran (lentInputs mosts (now (text .entry)) (now (turns .entry)) (now (program .entry)) (now (state .entry)) short) (now (turns .entry)) (now (program .entry)) (now (state .entry)) r (now (program .exit)) (now (state .exit)) ⌝ }
+    ensures { λ r. ⌜ RunsInto (now (text .entry)) (now (turns .entry)) (now (program .entry)) (now (state .entry)) short r (now (program .exit)) (now (state .exit)) ⌝ }
 {
     let mut p = [0u16; 8192];
     let mut s = [0u16; 8192];
@@ -95,7 +93,7 @@ pub fn run_into(
 
 // Reads the script into the program table and plays the turns on the state table. A refusal changes no word.
 pub fn run(text: &[u8], turns: &[u8], program: &mut [u16], state: &mut [u16]) -> Answer
-    ensures { λ r. ⌜ Ran (runCall mosts (now (text .entry)) (now (turns .entry)) (now (program .entry)) (now (state .entry))) (now (turns .entry)) (now (program .entry)) (now (state .entry)) r (now (program .exit)) (now (state .exit)) ⌝ }
+    ensures { λ r. ⌜ Runs (now (text .entry)) (now (turns .entry)) (now (program .entry)) (now (state .entry)) r (now (program .exit)) (now (state .exit)) ⌝ }
 {
     run_into(text, turns, false, program, state)
 }
