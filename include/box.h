@@ -9,8 +9,8 @@
  * - The tables and the list are written, never read: what they held does not matter. Bytes past BOX_TABLE_BYTES (BOX_LIST_BYTES) keep their
  *   value. Only box_write reads a table, which may hold any bytes; it writes none.
  * - Every number that is lent by pointer is written by every call, 0 where there is nothing to say.
- * - A call takes under 80 KB of stack, of which the walk through a chain of 256 objects, for a copy or a report, takes 33 KB; box_read takes
- *   under 48 KB. A call allocates nothing, and may be made by several threads at once, each on arguments of its own.
+ * - A call takes under 72 KB of stack, of which the walk through a chain of 256 objects, for a copy or a report, takes 33 KB; box_read takes
+ *   under 24 KB. A call allocates nothing, and may be made by several threads at once, each on arguments of its own.
  */
 #ifndef BOX_H
 #define BOX_H
