@@ -39,7 +39,8 @@ fn lines_before(second: bool) -> usize
     if second { 1 } else { 0 }
 }
 
-// Reads a script into a fresh table, where no lent slice of the call is short. After a refusal the words are of no use.
+// The one way in for a text: reads it into a fresh table. `short` tells that a slice which the caller was lent is under its length: 9, after 1.
+// After a refusal the words are of no use.
 pub fn make(text: &[u8], short: bool, words: &mut [u16]) -> Answer
     ensures { λ r. ⌜ Makes (now (text .entry)) short (now (words .entry)) r (now (words .exit)) ⌝ }
 {

@@ -50,7 +50,8 @@ fn run_program(p: &[u16], s: &mut [u16], turns: &[u8]) -> Answer
     }
 }
 
-// The one way in: makes the run in two fresh tables, where no lent slice of the call is short. After a refusal the words are of no use.
+// The one way in for a run: makes it in two fresh tables. `short` tells that a slice which the caller was lent is under its length. After a
+// refusal the words are of no use.
 pub fn make(text: &[u8], turns: &[u8], short: bool, p: &mut [u16], s: &mut [u16]) -> Answer
     ensures { λ r. ⌜ Makes (now (text .entry)) (now (turns .entry)) short (now (p .entry)) (now (s .entry)) r (now (p .exit)) (now (s .exit)) ⌝ }
 {
@@ -70,7 +71,7 @@ pub fn make(text: &[u8], turns: &[u8], short: bool, p: &mut [u16], s: &mut [u16]
     }
 }
 
-// The same in lent tables. A refusal changes no word; another slice of the call may be short.
+// The same in lent tables, of which a refusal changes no word. `short` tells of any other slice.
 pub fn run_into(
     text: &[u8],
     turns: &[u8],
