@@ -2,29 +2,33 @@
 use Prim.Native.Nat.{ℕ, _*_, _≤_, _<_}
 use mathlib.Core.Path.{_≡_, refl, sym, ap, _∙_, subst}
 use mathlib.Core.Bool.{Bool, true, false, _||_}
-use mathlib.Core.List.{List, [], _++_, append-nil}
+use mathlib.Core.List.{List, [], _∷_, _++_, append-nil}
 use native.Mathlib.Omega.{arith}
 use lib.Dec.{ltb}
 use lib.ListN.{length, take, drop, replicate, length-replicate, drop-of-length-le}
-use lib.Seq.{take-at}
+use lib.Seq.{take-at, take-all}
 use borrow.Author.Tests.{lt-ltb, ltb-false}
 use Rattle.rules.specs.Mosts as Most
 use Rattle.rules.specs.Mosts.{mosts}
 use Rattle.rules.specs.Numbers as No
-use Rattle.rules.specs.Script.{Program}
+use Rattle.rules.specs.Lists.{pad}
+use Rattle.rules.specs.Script.{Program, linesOf}
+use Rattle.rules.specs.Valid.{Valid}
 use Rattle.rules.specs.Reading.{Reading, turnedAway, accepted}
 use Rattle.rules.specs.State.{State}
 use Rattle.rules.specs.Run as R
 use Rattle.rules.specs.Run.{run, answer}
-use Rattle.rules.specs.Tables.{programWords, stateWords}
+use Rattle.rules.specs.Tables.{editionWord, programWords, stateWords}
 use Rattle.rules.specs.Calls.{shortTable, inputs, runAnswer, Report, unreported, reached, reportOn, reachReport, listWords, listAfter}
 use Rattle.rules.specs.Writer.{refused, WriteCall}
 use Rattle.rules.proofs.ListLaws.{impossible, or-false, length-pad}
-use Rattle.rules.proofs.Accepted.{reading-accepted}
+use Rattle.rules.proofs.Accepted.{accepted-valid, reading-accepted, table-lines}
 use Rattle.rules.proofs.Demand3.{stripped-matches}
 use Rattle.rules.proofs.TableWords.{program-words-length, state-words-length}
 use Rattle.rules.proofs.Writer.{write-call-by-front}
-use Rattle.table.specs.ProgramTable.{freshTable}
+use Rattle.table.specs.ProgramTable.{freshTable, Filled, UsedWords}
+use Rattle.table.proofs.ProgramTable.{program-words-by-lines}
+use Rattle.table.proofs.ProgramLines.{blocks-of-lines}
 use Rattle.reader.specs.declared.Answer as Reader
 use Rattle.reader.specs.declared.Answer.the-variants.{Read, Refused}
 use Rattle.reader.specs.ReadAnswers as ReadAnswers
@@ -44,6 +48,19 @@ use Rattle.host.specs.ByteCalls.{shortBytes, tableAfter, readBytes, HasR
 use Rattle.host.proofs.Stored.{bytes-length, stored}
 use Rattle.host.proofs.Loaded.{short-words, long-words}
 
+-- ---- A program's table, of which the words that are used are stored
+
+program-stored : (P : Program) → Valid mosts P → {w : List ℕ} (n : ℕ) (program : List ℕ) {program₁ : List ℕ} → w ≡ programWords P → UsedWords w n
+    → program₁ ≡ bytesAfter Most.words (pad Most.words 0 (take n w)) program → program₁ ≡ bytesAfter Most.words (programWords P) program
+program-stored P valid {w} n program written used kept =
+    let filled : Filled w (length (P .kinds) ∷ length (P .blocks) ∷ length (linesOf P) ∷ editionWord (P .edition) ∷ []) (linesOf P) [] = record {
+      words = written ∙ program-words-by-lines P ∙ sym (append-nil _);
+      lines = table-lines P valid;
+      blocks = rw (blocks-of-lines P) (valid .few-blocks);
+    } in
+    let whole : take Most.words w ≡ programWords P = ap (take Most.words) written ∙ take-all Most.words (programWords P) (omega (arith, program-words-length P)) in
+    kept ∙ ap (λ (l : List ℕ). bytesAfter Most.words l program) (used .is _ [] (linesOf P) filled refl ∙ whole)
+
 -- ---- Reading
 
 module _ (text program : List ℕ) {r : Reader.Answer} {w : List ℕ} (made : ReadAnswers.Makes text (ltb (length program) (2 * Most.words)) (replicate 8192 0) r w) where
@@ -58,20 +75,17 @@ module _ (text program : List ℕ) {r : Reader.Answer} {w : List ℕ} (made : Re
     read-one : Reads.IsRead (readBytes text program) w
     read-one = Reads.read-is (readBytes text program) by-bytes is
 
-    pub read-room : 2 * length w ≤ length program
+    pub read-room : 2 * Most.words ≤ length program
     unfolding readBytes shortBytes
-    read-room =
-        let P = read-one .program in
-        let full : 2 * Most.words ≤ length program = ltb-false _ _ (reading-accepted mosts _ _ text P (read-one .is) .1) in
-        omega (arith, full, ap length (read-one .words), program-words-length P)
+    read-room = ltb-false _ _ (reading-accepted mosts _ _ text (read-one .program) (read-one .is) .1)
 
-    pub read-done : {program₁ : List ℕ} → program₁ ≡ bytesAfter (length w) w program → HasRead (readBytes text program) program 0 0 program₁
-    read-done kept =
-        rw (read-one .is) (record {
-          number-is = refl;
-          line-is = refl;
-          program-is = stored Most.words program (program-words-length (read-one .program)) (read-one .words) kept;
-        })
+    pub read-done : {program₁ : List ℕ} (n : ℕ) → UsedWords w n → program₁ ≡ bytesAfter Most.words (pad Most.words 0 (take n w)) program
+        → HasRead (readBytes text program) program 0 0 program₁
+    unfolding readBytes
+    read-done n used kept =
+        let P = read-one .program in
+        let valid = accepted-valid mosts text P (reading-accepted mosts _ _ text P (read-one .is) .2) in
+        rw (read-one .is) (record { number-is = refl; line-is = refl; program-is = program-stored P valid n program (read-one .words) used kept })
 
 -- ---- Running
 
@@ -94,25 +108,24 @@ module _ (text turns program state : List ℕ) (short : Bool) {r : Answer} {p₀
     unfolding lentBytes inputs
     none-short = reading-accepted mosts _ _ text (one .program) (one .is) .1
 
-    pub store-room : (2 * length p ≤ length program) × (2 * length s ≤ length state)
+    pub store-room : (2 * Most.words ≤ length program) × (2 * length s ≤ length state)
     unfolding shortBytes
     store-room =
         let others = or-false _ _ none-short in
-        let full : 2 * Most.words ≤ length program = ltb-false _ _ (others .0) in
         let state-full : 2 * Most.words ≤ length state = ltb-false _ _ (or-false _ _ (others .1) .0) in
         let P = one .program in (
-          omega (arith, full, ap length (one .holds .program-words), program-words-length P),
+          ltb-false _ _ (others .0),
           omega (arith, state-full, ap length (one .holds .state-words), state-words-length (run mosts P turns .state)),
         )
 
-    pub stores-both : {program₁ state₁ : List ℕ} → program₁ ≡ bytesAfter (length p) p program → state₁ ≡ bytesAfter (length s) s state
+    pub stores-both : {program₁ state₁ : List ℕ} (n : ℕ) → UsedWords p n → program₁ ≡ bytesAfter Most.words (pad Most.words 0 (take n p)) program → state₁ ≡ bytesAfter (length s) s state
         → Stores (lentBytes text turns program state short) turns program state r p s program₁ state₁
     unfolding ranWords
-    stores-both program-kept state-kept =
+    stores-both n used program-kept state-kept =
         let P = one .program in
         rw (one .is) (record {
           made = one .holds;
-          program-is = stored Most.words program (program-words-length P) (one .holds .program-words) program-kept;
+          program-is = program-stored P (one .holds .valid) n program (one .holds .program-words) used program-kept;
           state-is = stored Most.words state (state-words-length (run mosts P turns .state)) (one .holds .state-words) state-kept;
         })
 

@@ -3,6 +3,8 @@ use run::Answer;
 ghost use mathlib.Core.Path.{_≡_};
 ghost use Prim.Native.Nat.{_*_, _≤_};
 ghost use lib.ListN.{length, take};
+ghost use Rattle.rules.specs.Mosts as Most;
+ghost use Rattle.rules.specs.Lists.{pad};
 ghost use Rattle.rules.specs.Text.{lines, findLine, startOf};
 ghost use Rattle.table.specs.ProgramTable.{freshTable};
 ghost use Rattle.host.specs.Bytes.{bytesAfter, wordsOf};
@@ -22,6 +24,20 @@ fn store(t: &mut [u8], words: &[u16])
         let x = words[i];
         t[2 * i] = (x % 256) as u8;
         t[2 * i + 1] = (x / 256) as u8;
+        i += 1;
+    }
+}
+
+// The first n words over the first bytes of a table, and zeros behind them.
+fn store_used(t: &mut [u8], words: &[u16], n: usize)
+    requires { ⌜ (n ≤ length (now words)) × (n ≤ 8192) × (16384 ≤ length (now t)) ⌝ }
+    ensures { λ _. ⌜ now (t .exit) ≡ bytesAfter Most.words (pad Most.words 0 (take n (now (words .entry)))) (now (t .entry)) ⌝ }
+{
+    store(t, &words[..n]);
+    let mut i = n;
+    while i < 8192 {
+        t[2 * i] = 0;
+        t[2 * i + 1] = 0;
         i += 1;
     }
 }
@@ -56,7 +72,7 @@ fn make(
     let any = (program.len() < TABLE) | ((state.len() < TABLE) | short);
     let answer = run::make(text, turns, any, p, s);
     if !run::is_refusal(answer) {
-        store(program, p);
+        store_used(program, p, table::used_words(p));
         store(state, s);
     }
     answer
@@ -121,7 +137,7 @@ pub extern "C" fn box_read(text: &[u8], program: &mut [u8], line: &mut usize) ->
             number // of the refusal
         }
         reader::Answer::Read => {
-            store(program, &words);
+            store_used(program, &words, table::used_words(&words));
             0
         }
     }

@@ -6,14 +6,14 @@ use native.Mathlib.Omega.{arith}
 use mathlib.Core.Path.{_≡_, refl, sym, ap, _∙_}
 use mathlib.Core.List.{List, [], _∷_, _++_, append-assoc, append-nil}
 use lib.ListN.{length, getD, set, take, drop, length-append, length-replicate, length-set, List·getD-append}
-use lib.Seq.{set-append-left, sets-eq}
+use lib.Seq.{set-append-left, sets-eq, take-at}
 use Rattle.rules.specs.Mosts as Most
 use Rattle.rules.specs.Mosts.{mosts}
 use Rattle.rules.specs.Lists.{pad, cells}
 use Rattle.rules.specs.Script.{Sort, thread, method, Form, kind, opens, line, blocksOf, Program, linesOf}
 use Rattle.rules.specs.Tables.{lineWords, row, firstLines, editionWord, usedProgramWords, programWords}
-use Rattle.rules.proofs.ListLaws.{length-snoc, length-pad, length-cells, get-past, set-past, get-cell, cells-snoc, get-pad, set-pad, pad-more, pad-snoc}
-use Rattle.table.specs.ProgramTable.{freshTable, lineTable, Filled, noForm, sortNumber}
+use Rattle.rules.proofs.ListLaws.{length-snoc, length-pad, pad-front, length-cells, get-past, set-past, get-cell, cells-snoc, get-pad, set-pad, pad-more, pad-snoc}
+use Rattle.table.specs.ProgramTable.{freshTable, lineTable, Filled, noForm, sortNumber, LineCount, UsedWords}
 
 -- eight words written one after the other
 pub eight-set : {A : Type 0} (t : List A) (p : ℕ) (a b c d e f g h : A) → p + 8 ≤ length t
@@ -57,6 +57,25 @@ table-words {counts} {rest} {Fs} filled = filled .words ∙ ap (λ l. l ++ rest)
 pub program-words-by-lines : (P : Program) → programWords P ≡ lineTable (length (P .kinds) ∷ length (P .blocks) ∷ length (linesOf P) ∷ editionWord (P .edition) ∷ []) (linesOf P)
 unfolding programWords usedProgramWords lineTable
 program-words-by-lines P = refl
+
+-- made up with zeros again, the words that are used are the table
+used-words-are : {t counts rest : List ℕ} {Fs : List Form} (r : ℕ) → Filled t counts Fs rest → r ≡ 72 + length Fs * 8 → pad Most.words 0 (take r t) ≡ take Most.words t
+used-words-are {t} {counts} {rest} {Fs} r filled e =
+    let us = usedWords counts Fs in
+    let long : length us ≡ r = used-length counts Fs ∙ sym e in
+    let few : length us ≤ Most.words = omega (arith, long, e, filled .lines) in
+    let whole : take Most.words t ≡ pad Most.words 0 us = ap (take Most.words) (table-words filled) ∙ take-at (pad Most.words 0 us) rest Most.words (length-pad Most.words 0 us) in
+    let front : take r t ≡ us =
+    ap (take r) (table-words filled ∙ ap (λ (l : List ℕ). l ++ rest) (pad-front Most.words 0 us few) ∙ append-assoc us _ rest) ∙ take-at us _ r long in
+    ap (pad Most.words 0) front ∙ sym whole
+
+-- by the number of lines
+module _ {t : List ℕ} {n : ℕ} (counted : LineCount t n) where
+  pub too-many-lines : 672 < n → UsedWords t 8192
+  too-many-lines h = record { is = λ counts rest Fs filled lines. absurd (omega (arith, counted .is counts rest Fs filled, lines, filled .lines)) }
+
+  pub used-by-lines : UsedWords t (72 + n * 8)
+  used-by-lines = record { is = λ counts rest Fs filled lines. used-words-are (72 + n * 8) filled (ap (λ (k : ℕ). 72 + k * 8) (counted .is counts rest Fs filled ∙ lines)) }
 
 -- ---- The first lines of blocks
 

@@ -57,6 +57,10 @@ pub record Same (t words : List ℕ) (r : Bool) : Type 0 where
 pub record LineCount (t : List ℕ) (r : ℕ) : Type 0 where
   pub is : (counts rest : List ℕ) (Fs : List Form) → Filled t counts Fs rest → r ≡ getD counts 2 0
 
+-- behind the words that are used there are zeros only
+pub record UsedWords (t : List ℕ) (r : ℕ) : Type 0 where
+  pub is : (counts rest : List ℕ) (Fs : List Form) → Filled t counts Fs rest → getD counts 2 0 ≡ length Fs → pad Most.words 0 (take r t) ≡ take Most.words t
+
 -- `editionWord` of its edition, where the table is a program's
 pub record EditionIs (t : List ℕ) (r : ℕ) : Type 0 where
   pub is : (counts rest : List ℕ) (Fs : List Form) → Filled t counts Fs rest → r ≡ getD counts 3 0

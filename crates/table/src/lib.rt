@@ -14,6 +14,7 @@ pub use program::line_count;
 pub use program::line_word;
 pub use program::put_counts;
 pub use program::same_table;
+pub use program::used_words;
 pub use state::Here;
 pub use state::add_copy;
 pub use state::add_object;

@@ -1,9 +1,11 @@
 // The program table: eight words of counts and the edition, the first line of each block, lines of eight words in the text's order.
 ghost use mathlib.Core.Path.{_≡_};
+ghost use mathlib.Core.Bool.{cond};
 ghost use mathlib.Core.List.{[], _∷_, _++_};
 ghost use Prim.Native.Nat.{_+_, _*_, _%_, _≤_, _<_};
+ghost use lib.Dec.{ltb};
 ghost use lib.ListN.{length, take, drop, getD, set};
-ghost use Rattle.table.specs.ProgramTable.{LineAdded, OpenerAdded, Counted, Same, LineCount, EditionIs, LineWord, BlockForm, FirstLine, KindFields, KindMethod};
+ghost use Rattle.table.specs.ProgramTable.{LineAdded, OpenerAdded, Counted, Same, LineCount, UsedWords, EditionIs, LineWord, BlockForm, FirstLine, KindFields, KindMethod};
 
 // Line n of the text: the number of its form, and its parts.
 pub fn add_line(t: &mut [u16], n: usize, form: u16, a: u16, b: u16, c: u16, d: u16, e: u16, f: u16)
@@ -78,6 +80,19 @@ pub fn line_count(t: &[u16]) -> usize
     ensures { λ r. ⌜ LineCount (now (t .entry)) r ⌝ }
 {
     t[2] as usize
+}
+
+// How many words of a program table are used: those behind them, among the 8,192, are 0.
+pub fn used_words(t: &[u16]) -> usize
+    requires { ⌜ 8192 ≤ length (now t) ⌝ }
+    ensures { λ r. ⌜ (r ≡ cond (ltb 672 (getD (now (t .entry)) 2 0)) 8192 (72 + getD (now (t .entry)) 2 0 * 8)) × (r ≤ 8192) ⌝ }
+    ensures { λ r. ⌜ UsedWords (now (t .entry)) r ⌝ }
+{
+    let n = line_count(t);
+    if 672 < n {
+        return 8192; // no text has so many lines
+    }
+    72 + n * 8 // behind the last line
 }
 
 // The word that tells the edition.

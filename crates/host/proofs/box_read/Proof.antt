@@ -17,14 +17,21 @@ enum-known-answer c = search needs
 enum-told : tie.Need-enum-told
 enum-told c = search needs
 
-slice-aggregate-store : tie.Need-slice-aggregate-store
-slice-aggregate-store c = search needs
+slice-aggregate-store-used : tie.Need-slice-aggregate-store-used
+slice-aggregate-store-used c = search needs
 
-store-requires : tie.Need-store-requires
-store-requires c κs =
-    let at-make = c .before .before .before .before .before in
+slice-aggregate-used-words : tie.Need-slice-aggregate-used-words
+slice-aggregate-used-words c = search needs
+
+used-words-requires : tie.Need-used-words-requires
+used-words-requires c κs = search needs
+
+store-used-requires : tie.Need-store-used-requires
+store-used-requires c κs =
+    let at-enum-told = c .before .before .before .before in
+    let at-make = at-enum-told .before .before .before in
     let a = at-make .before .before .before .before .args in
-    read-room (now (a .text)) (now (a .program)) (at-make .make .ensures) (c .before .before .enum-told .given .1)
+    (search needs, c .used-words .ensures .0 .1, read-room (now (a .text)) (now (a .program)) (at-make .make .ensures) (at-enum-told .enum-told .given .1))
 
 returns : tie.Need-returns
 returns c =
@@ -37,10 +44,10 @@ same-length c = search needs
 
 returns-2 : tie.Need-returns-2
 returns-2 c =
-    let at-enum-told = c .before .before .before .before .before in
+    let at-enum-told = c .before .before .before .before .before .before .before in
     let at-make = at-enum-told .before .before .before in
     let a = at-make .before .before .before .before .args in
-    read-done (now (a .text)) (now (a .program)) (at-make .make .ensures) (at-enum-told .enum-told .given .1) (c .before .before .store .ensures)
+    read-done (now (a .text)) (now (a .program)) (at-make .make .ensures) (at-enum-told .enum-told .given .1) (c .before .before .before .used-words .result) (c .before .before .before .used-words .ensures .1) (c .before .before .store-used .ensures)
 
 pub box-read-spec : {M : Type 1} → statement M
 box-read-spec =
@@ -50,8 +57,10 @@ box-read-spec =
     make-requires
     enum-known-answer
     enum-told
-    slice-aggregate-store
-    store-requires
+    slice-aggregate-store-used
+    slice-aggregate-used-words
+    used-words-requires
+    store-used-requires
     returns
     same-length
     returns-2)

@@ -1,7 +1,10 @@
 -- `host::make` meets its contract: both tables of a run that was made are stored, and a refusal stores nothing.
 use denote.Ref.{now}
-use mathlib.Core.Path.{sym, _∙_}
+use native.Mathlib.Omega.{arith}
+use mathlib.Core.Path.{sym, ap, _∙_}
+use lib.ListN.{length}
 use borrow.Author.Tests.{not-true, not-false}
+use Rattle.table.proofs.ProgramTable.{fresh-length}
 use Rattle.host.proofs.Crossing.{stores-none, store-room, stores-both}
 use borrow.Author.Needs.{needs}
 use Rattle.host.proofs.make.Statement.{statement}
@@ -13,16 +16,22 @@ make-requires c κs = search needs
 is-refusal-requires : tie.Need-is-refusal-requires
 is-refusal-requires c κs = search needs
 
-store-requires : tie.Need-store-requires
-store-requires c κs =
-    let at-make = c .before .before .before .before .before .before .before .before in
+used-words-requires : tie.Need-used-words-requires
+used-words-requires c κs =
+    let at-pre = c .before .before .before .before .before .before .before .before .before .before .before .before .before .before .before .before .before in
+    omega (arith, ap length (at-pre .pre .0), fresh-length)
+
+store-used-requires : tie.Need-store-used-requires
+store-used-requires c κs =
+    let at-is-refusal = c .before .before .before .before in
+    let at-make = at-is-refusal .before .before .before .before .before in
     let at-args = at-make .before .before .before .before .before .before .before .before .before in
     let a = at-args .args in
-    store-room (now (a .text)) (now (a .turns)) (now (a .program)) (now (a .state)) (a .short) (at-args .pre .0) (at-args .pre .1) (at-make .make .ensures) (sym (c .before .before .before .is-refusal .ensures) ∙ not-true _ (c .before .before .if1 .taken)) .0
+    (omega (arith, ap length (at-args .pre .0), fresh-length, c .used-words .ensures .0 .1), c .used-words .ensures .0 .1, store-room (now (a .text)) (now (a .turns)) (now (a .program)) (now (a .state)) (a .short) (at-args .pre .0) (at-args .pre .1) (at-make .make .ensures) (sym (at-is-refusal .is-refusal .ensures) ∙ not-true _ (c .before .before .before .if1 .taken)) .0)
 
-store-requires-2 : tie.Need-store-requires-2
-store-requires-2 c κs =
-    let at-if1 = c .before .before .before .before .before .before .before in
+store-requires : tie.Need-store-requires
+store-requires c κs =
+    let at-if1 = c .before .before .before .before .before .before .before .before in
     let at-is-refusal = at-if1 .before in
     let at-make = at-is-refusal .before .before .before .before .before in
     let at-args = at-make .before .before .before .before .before .before .before .before .before in
@@ -43,13 +52,14 @@ same-length-4 c = search needs
 
 returns : tie.Need-returns
 returns c =
-    let at-store = c .before .before .before .before .before .before .before in
-    let at-if1 = at-store .before .before .before in
+    let at-store-used = c .before .before .before .before .before .before .before in
+    let at-used-words = at-store-used .before in
+    let at-if1 = at-used-words .before .before .before in
     let at-is-refusal = at-if1 .before in
     let at-make = at-is-refusal .before .before .before .before .before in
     let at-args = at-make .before .before .before .before .before .before .before .before .before in
     let a = at-args .args in
-    stores-both (now (a .text)) (now (a .turns)) (now (a .program)) (now (a .state)) (a .short) (at-args .pre .0) (at-args .pre .1) (at-make .make .ensures) (sym (at-is-refusal .is-refusal .ensures) ∙ not-true _ (at-if1 .if1 .taken)) (at-store .store .ensures) (c .before .before .store2 .ensures)
+    stores-both (now (a .text)) (now (a .turns)) (now (a .program)) (now (a .state)) (a .short) (at-args .pre .0) (at-args .pre .1) (at-make .make .ensures) (sym (at-is-refusal .is-refusal .ensures) ∙ not-true _ (at-if1 .if1 .taken)) (at-used-words .used-words .result) (at-used-words .used-words .ensures .1) (at-store-used .store-used .ensures) (c .before .before .store .ensures)
 
 same-length-5 : tie.Need-same-length-5
 same-length-5 c = search needs
@@ -70,8 +80,9 @@ make-spec =
     (tie.spec
     make-requires
     is-refusal-requires
+    used-words-requires
+    store-used-requires
     store-requires
-    store-requires-2
     same-length
     same-length-2
     same-length-3
