@@ -1,5 +1,5 @@
 -- A list of turns played one by one: what the loop keeps, each way through its body, and its ends.
-use Prim.Native.Nat.{ℕ, suc, _+_, _%_, _≤_, _<_}
+use Prim.Native.Nat.{ℕ, suc, _+_, _-_, _%_, _≤_, _<_}
 use native.Mathlib.Omega.{arith}
 use native.Mathlib.Numerals.{add-one}
 use mathlib.Core.Path.{_≡_, refl, sym, ap, _∙_, subst}
@@ -10,6 +10,8 @@ use lib.Seq.{drop-cons, getD-set-same, getD-set-other}
 use borrow.Author.Tests.{eqb-true, eqb-false}
 use types.Run.{OneOf, miss}
 use denote.Enum.Declared.{tagOf}
+use Rattle.rules.specs.declared.forms.Form.the-variants.{Copy}
+use Rattle.rules.specs.Forms.{formNumber}
 use Rattle.rules.specs.Mosts as Most
 use Rattle.rules.specs.Mosts.{mosts}
 use Rattle.rules.specs.Script.{Program, blockAt}
@@ -17,13 +19,13 @@ use Rattle.rules.specs.Valid.{Valid}
 use Rattle.rules.specs.State.{Frame, State, threadAt, start}
 use Rattle.rules.specs.Turn.{Res, ok, wait, stop, turn}
 use Rattle.rules.specs.Run as R
-use Rattle.rules.specs.Run.{none, Run, blockOf, lineNow, after, advance, runFrom, run}
+use Rattle.rules.specs.Run.{Run, blockOf, lineNow, after, advance, runFrom, run}
 use Rattle.rules.specs.Fits.{Fits}
 use Rattle.rules.proofs.ListLaws.{impossible, by-bool, every-get, every-replicate}
 use Rattle.rules.proofs.OtherThreads.{turn-keeps}
 use Rattle.rules.proofs.Keeps.{here-fits, keeps-turn, keeps-run}
 use Rattle.table.specs.declared.state.Here.{Here}
-use Rattle.table.specs.StateTable.{Held, Sees, Any, Placed, OnLine, Stands, frameAt}
+use Rattle.table.specs.StateTable.{Held, Sees, Any, Placed, Stands, frameAt}
 use Rattle.table.proofs.StateFrames.{next-on-line, row-past-counts}
 use Rattle.checks.specs.Checked.{resultOf, stopNumber, Stand}
 use Rattle.checks.proofs.form_checks.Step.{the-type}
@@ -32,15 +34,15 @@ use Rattle.turn.proofs.Located as Place
 use Rattle.turn.proofs.Located.{no-frames, no-frame-waits, turn-performs, went-moves}
 use Rattle.checks.specs.declared.form_checks.Step.{Step}
 use Rattle.checks.specs.declared.form_checks.Step.the-variants.{Next, Stay, Turned, Waits, NoValue, NoField, NoMethod, WrongThing, Forbidden, WrongCap, UsedUp}
+use Rattle.run.specs.declared.playing.Played.{Played}
 use Rattle.run.specs.declared.playing.Played.the-variants.{Through, Stopped}
 use Rattle.turn.specs.Performed.{StandsAt, Went, to-next, to-same, Performed, moved, waited, stopped, Loaded, PerformsHere}
-use Rattle.run.specs.Played.{Plays}
+use Rattle.run.specs.declared.playing.Stretch.{Stretch}
+use Rattle.run.specs.declared.playing.Stretch.the-variants.{Ended, AtCopy}
+use Rattle.run.specs.Reached.{going, Reached, Knows}
+use Rattle.run.specs.Played.{playedBy, Plays, CopyNext, Comes, to-end, to-copy, PlaysFrom, PlaysPast}
 
 -- ---- The run, turn by turn
-
--- a run that goes on
-abbrev going : State → ℕ → Run
-going S n = record { state = S; moves = n; stop = none }
 
 -- a run that a turn of thread t stopped
 abbrev stoppedBy : State → (moves number thread : ℕ) → Run
@@ -62,11 +64,6 @@ takes-turn P S n i t turns {x} more is e =
     ∙ ap (λ (j : ℕ). runFrom mosts P (after S n t x) (drop j turns)) (sym (add-one i))
 
 -- ---- The state reached after i turns
-
-pub record Reached (turns : List ℕ) (P : Program) (s rest : List ℕ) (S : State) (n i : ℕ) : Type 0 where
-  pub held : Held s S rest
-  pub fits : Fits mosts P n S
-  pub goes-on : run mosts P turns ≡ runFrom mosts P (going S n) (drop i turns)
 
 -- from a fresh start
 reached-start : (turns : List ℕ) (P : Program) (s rest : List ℕ) → Valid mosts P → Held s start rest → Reached turns P s rest start 0 0
@@ -99,14 +96,6 @@ unfolding runFrom
 reached-end {turns} {P} {S = S} {n = n} at all = at .goes-on ∙ ap (runFrom mosts P (going S n)) (drop-of-length-le turns all)
 
 -- ---- Where a thread stands
-
--- h is the place where its thread stands
-pub record Knows (p : List ℕ) (P : Program) (S : State) (h : Here) : Type 0 where
-  pub frame : Frame
-  pub callers : List Frame
-  pub frames : threadAt S (h .thread) .frames ≡ frame ∷ callers
-  pub depth : length callers ≡ h .depth
-  pub line : OnLine p P (frame .block) (frame .line) h
 
 -- found by its frames
 located : {p : List ℕ} {P : Program} {s rest : List ℕ} {S : State} {n d : ℕ} {h : Here} → Loaded p P → Valid mosts P → Fits mosts P n S → Held s S rest
@@ -282,52 +271,66 @@ pub record Sofar (p turns : List ℕ) (P : Program) (s rest rows frames depths :
   pub reached : Reached turns P s rest state moves i
   pub knows : (u : ℕ) → (getD rows u 0 ≡ 0 → ⊥) → Knows p P state (keptAt rows frames depths u)
 
--- of every program that p holds
-pub record Playing (p s₀ turns s rows frames depths : List ℕ) (moves i : ℕ) : Type 0 where
+-- of every program that p holds, from any state reached after i₀ turns with m₀ moves
+pub record Playing (p s₀ turns : List ℕ) (m₀ i₀ : ℕ) (s rows frames depths : List ℕ) (moves i : ℕ) : Type 0 where
   pub arrays : Arrays rows frames depths
   pub placed : (u : ℕ) → (getD rows u 0 ≡ 0 → ⊥) → Placed (keptAt rows frames depths u)
   pub few : moves ≤ i
+  pub later : i₀ ≤ i
   pub same-length : length s ≡ length s₀
-  pub sofar : (P : Program) (rest : List ℕ) → Loaded p P → Valid mosts P → Held s₀ start rest → Sofar p turns P s rest rows frames depths moves i
+  pub sofar : (P : Program) (S₀ : State) (rest : List ℕ) → Loaded p P → Valid mosts P → Reached turns P s₀ rest S₀ m₀ i₀ → Sofar p turns P s rest rows frames depths moves i
 
-pub at-start : (p s turns : List ℕ) → Playing p s turns s (replicate 16 0) (replicate 16 0) (replicate 16 0) 0 0
-at-start p s turns =
+pub at-start : (p s turns : List ℕ) {m i : ℕ} → m ≤ i → Playing p s turns m i s (replicate 16 0) (replicate 16 0) (replicate 16 0) m i
+at-start p s turns few =
     let none : (u : ℕ) → _≡_ {A = ℕ} (getD (replicate 16 0) u 0) 0 = λ u. every-get (λ (x : ℕ). x ≡ 0) (replicate 16 0) u 0 refl (every-replicate (λ (x : ℕ). x ≡ 0) 16 0 refl) in
     record {
       arrays = record { rows-long = refl; frames-long = refl; depths-long = refl };
       placed = λ u some. absurd (some (none u));
-      few = omega arith;
+      few = few;
+      later = omega arith;
       same-length = refl;
-      sofar = λ P rest loaded valid held. record { state = start; reached = reached-start turns P s rest valid held; knows = λ u some. absurd (some (none u)) };
+      sofar = λ P S₀ rest loaded valid from. record { state = S₀; reached = from; knows = λ u some. absurd (some (none u)) };
     }
 
-pub at-end : {p s₀ turns s rows frames depths : List ℕ} {moves i : ℕ} → Playing p s₀ turns s rows frames depths moves i → length turns ≤ i → Plays p s₀ turns (Through moves) s
-at-end {turns = turns} {s = s} {moves = moves} playing all =
+pub at-end : {p s₀ turns s rows frames depths : List ℕ} {m₀ i₀ moves i : ℕ} → Playing p s₀ turns m₀ i₀ s rows frames depths moves i → length turns ≤ i
+    → PlaysFrom p s₀ turns i₀ m₀ (Ended (Through moves)) s
+at-end {moves = moves} playing all =
     record {
-      answers = λ P rest loaded valid held. rw (reached-end (playing .sofar P rest loaded valid held .reached) all) refl;
-      leaves = λ P rest loaded valid held. let so = playing .sofar P rest loaded valid held in rw (reached-end (so .reached) all) (so .reached .held);
+      next = λ j m h e. impossible cc;
+      comes = λ P S₀ rest loaded valid from.
+          let at = playing .sofar P S₀ rest loaded valid from .reached in
+          let end = reached-end at all in
+          to-end {played = Through moves} (rw end refl) (rw end (at .held));
     }
+
+-- the copy where a stretch ends is one
+same-next : {p turns : List ℕ} {i₀ i j n m : ℕ} {g h : Here} → AtCopy i n g ≡ AtCopy j m h → (i₀ ≤ i) × CopyNext p turns i n g → (i₀ ≤ j) × CopyNext p turns j m h
+same-next {p} {turns} {i₀} {i} {j} {n} {m} {g} {h} e next =
+    let place : i ≡ j = cc in
+    let moves : n ≡ m = cc in
+    let here : g ≡ h = cc in
+    rw (← place, ← moves, ← here) next
 
 -- the same, of what is equal
-pub same-playing : {p s₀ turns s s₁ rows rows₁ frames frames₁ depths depths₁ : List ℕ} {moves moves₁ i : ℕ}
+pub same-playing : {p s₀ turns s s₁ rows rows₁ frames frames₁ depths depths₁ : List ℕ} {m₀ i₀ moves moves₁ i : ℕ}
     → s₁ ≡ s → rows₁ ≡ rows → frames₁ ≡ frames → depths₁ ≡ depths → moves₁ ≡ moves
-    → Playing p s₀ turns s rows frames depths moves i → Playing p s₀ turns s₁ rows₁ frames₁ depths₁ moves₁ i
+    → Playing p s₀ turns m₀ i₀ s rows frames depths moves i → Playing p s₀ turns m₀ i₀ s₁ rows₁ frames₁ depths₁ moves₁ i
 same-playing e₀ e₁ e₂ e₃ e₄ playing = rw (e₀, e₁, e₂, e₃, e₄) playing
 
 -- ---- The thread whose turn it is, looked for
 
 -- its place is kept, or it has no frame
-pub record Looked (p s₀ turns s rows frames depths : List ℕ) (moves i t : ℕ) : Type 0 where
-  pub playing : Playing p s₀ turns s rows frames depths moves i
+pub record Looked (p s₀ turns : List ℕ) (m₀ i₀ : ℕ) (s rows frames depths : List ℕ) (moves i t : ℕ) : Type 0 where
+  pub playing : Playing p s₀ turns m₀ i₀ s rows frames depths moves i
   pub idle : getD rows t 0 ≡ 0 → (P : Program) (n : ℕ) (S : State) (rest : List ℕ) → Loaded p P → Valid mosts P → Held s S rest → Fits mosts P n S
       → 0 ≡ length (threadAt S t .frames)
 
-module _ {p s₀ turns s rows frames depths : List ℕ} {moves i t : ℕ} (playing : Playing p s₀ turns s rows frames depths moves i) where
-  pub is-kept : (getD rows t 0 ≡ 0 → ⊥) → Looked p s₀ turns s rows frames depths moves i t
+module _ {p s₀ turns s rows frames depths : List ℕ} {m₀ i₀ moves i t : ℕ} (playing : Playing p s₀ turns m₀ i₀ s rows frames depths moves i) where
+  pub is-kept : (getD rows t 0 ≡ 0 → ⊥) → Looked p s₀ turns m₀ i₀ s rows frames depths moves i t
   is-kept some = record { playing = playing; idle = λ zero. absurd (some zero) }
 
   module _ {d : ℕ} (counted : Sees s Any (λ S. length (threadAt S t .frames)) d) where
-    pub has-none : d ≡ 0 → Looked p s₀ turns s rows frames depths moves i t
+    pub has-none : d ≡ 0 → Looked p s₀ turns m₀ i₀ s rows frames depths moves i t
     has-none zero = record { playing = playing; idle = λ empty P n S rest loaded valid held fits. sym zero ∙ counted .sees S rest held tt }
 
     module _ {h : Here} (some : d ≡ 0 → ⊥) (few : t < 16) (placed : Placed h) (place : h .thread ≡ t) (stands : Stands p s d h) where
@@ -336,7 +339,7 @@ module _ {p s₀ turns s rows frames depths : List ℕ} {moves i t : ℕ} (playi
           located loaded valid fits held
           (counted .sees S rest held tt ∙ ap (λ (u : ℕ). length (threadAt S u .frames)) (sym place)) some stands
 
-      pub found : Looked p s₀ turns s (set rows t (h .row)) (set frames t (h .frame)) (set depths t (h .depth)) moves i t
+      pub found : Looked p s₀ turns m₀ i₀ s (set rows t (h .row)) (set frames t (h .frame)) (set depths t (h .depth)) moves i t
       found =
           let at = keptAt rows frames depths in
           let at₁ = keptAt (set rows t (h .row)) (set frames t (h .frame)) (set depths t (h .depth)) in
@@ -347,9 +350,10 @@ module _ {p s₀ turns s rows frames depths : List ℕ} {moves i t : ℕ} (playi
               arrays = stored-arrays rows frames depths t arrays h;
               placed = each-kept Placed t at at₁ (stored-others rows frames depths t h) (λ u other. playing .placed u) (λ filled. subst Placed (sym stored) placed);
               few = playing .few;
+              later = playing .later;
               same-length = playing .same-length;
-              sofar = λ P rest loaded valid held.
-                  let so = playing .sofar P rest loaded valid held in
+              sofar = λ P S₀ rest loaded valid from.
+                  let so = playing .sofar P S₀ rest loaded valid from in
                   let knows = found-there loaded valid (so .reached .held) (so .reached .fits) in
                   record {
                     state = so .state;
@@ -361,38 +365,50 @@ module _ {p s₀ turns s rows frames depths : List ℕ} {moves i t : ℕ} (playi
                 absurd (row-there (found-there loaded valid held fits) loaded fits (sym (ap (λ (x : Here). x .row) stored) ∙ empty));
           }
 
-pub same-looked : {p s₀ turns s rows rows₁ frames frames₁ depths depths₁ : List ℕ} {moves i t : ℕ} → rows₁ ≡ rows → frames₁ ≡ frames → depths₁ ≡ depths
-    → Looked p s₀ turns s rows frames depths moves i t → Looked p s₀ turns s rows₁ frames₁ depths₁ moves i t
+pub same-looked : {p s₀ turns s rows rows₁ frames frames₁ depths depths₁ : List ℕ} {m₀ i₀ moves i t : ℕ} → rows₁ ≡ rows → frames₁ ≡ frames → depths₁ ≡ depths
+    → Looked p s₀ turns m₀ i₀ s rows frames depths moves i t → Looked p s₀ turns m₀ i₀ s rows₁ frames₁ depths₁ moves i t
 same-looked e₀ e₁ e₂ looked = rw (e₀, e₁, e₂) looked
 
 -- ---- The turn
 
--- a turn of thread t, at line l of block b, stopped the run with number k
-record StoppedAt (turns : List ℕ) (P : Program) (rest s : List ℕ) (k t b l n : ℕ) : Type 0 where
-  state : State
-  held : Held s state rest
-  run-is : run mosts P turns ≡ stoppedBy state n k t
-  block : b ≡ blockOf (threadAt state t .frames)
-  line : l ≡ lineNow (threadAt state t .frames)
+-- a stop: block and line are those of the innermost frame
+stop-comes : {p s s₁ turns : List ℕ} {n i : ℕ} {h : Here} {r : Step} {k b l : ℕ} → i < length turns → h .thread ≡ getD turns i 0 → n < Most.turns
+    → PerformsHere p s h r s₁ → resultOf r ≡ stop k
+    → Sees s₁ Any (λ S. frameAt S (h .thread) (h .depth) .block) b → Sees s₁ Any (λ S. frameAt S (h .thread) (h .depth) .line) l
+    → {P : Program} {S : State} {rest : List ℕ} → Loaded p P → Valid mosts P → Reached turns P s rest S n i → Knows p P S h
+    → Comes p turns P s₁ rest (Ended (Stopped k (h .thread) b l n))
+unfolding blockOf lineNow
+stop-comes {s₁ = s₁} {n = n} {h = h} {k = k} {b = b} {l = l} more is few does stops block line {S = S} {rest = rest} loaded valid at known =
+    let t = h .thread in
+    let did = has-stopped (performed-turn valid at known loaded few does) stops in
+    let held : Held s₁ S rest = rw (did .1) (at .held) in
+    let frame = frame-is (stand valid at known) in
+    let is-block : b ≡ blockOf (threadAt S t .frames) = block .sees S rest held tt ∙ ap (λ (f : Frame). f .block) frame ∙ sym (ap blockOf (known .frames)) in
+    let is-line : l ≡ lineNow (threadAt S t .frames) = line .sees S rest held tt ∙ ap (λ (f : Frame). f .line) frame ∙ sym (ap lineNow (known .frames)) in
+    let end = stops-there at more is (did .0) in
+    to-end {played = Stopped k t b l n}
+    (rw end (ap (λ (x : ℕ). Stopped k t x l n) is-block ∙ ap (λ (y : ℕ). Stopped k t (blockOf (threadAt S t .frames)) y n) is-line))
+    (rw end held)
 
-module _ {p s₀ turns s rows frames depths : List ℕ} {moves i t : ℕ} (playing : Playing p s₀ turns s rows frames depths moves i) (more : i < length turns) (is : t ≡ getD turns i 0) where
+module _ {p s₀ turns s rows frames depths : List ℕ} {m₀ i₀ moves i t : ℕ} (playing : Playing p s₀ turns m₀ i₀ s rows frames depths moves i) (more : i < length turns) (is : t ≡ getD turns i 0) where
   idles : ((P : Program) (S : State) (rest : List ℕ) → Loaded p P → Valid mosts P → Held s S rest → Fits mosts P moves S → 0 ≡ length (threadAt S t .frames))
-      → Playing p s₀ turns s rows frames depths moves (i + 1)
+      → Playing p s₀ turns m₀ i₀ s rows frames depths moves (i + 1)
   idles idle =
       record {
         arrays = playing .arrays;
         placed = playing .placed;
         few = omega (arith, playing .few);
+        later = omega (arith, playing .later);
         same-length = playing .same-length;
-        sofar = λ P rest loaded valid held.
-            let so = playing .sofar P rest loaded valid held in
+        sofar = λ P S₀ rest loaded valid from.
+            let so = playing .sofar P S₀ rest loaded valid from in
             let at = so .reached in
             let waits = no-frame-waits P (so .state) t (idle P (so .state) rest loaded valid (at .held) (at .fits)) in
             record { state = so .state; reached = waits-on at more is waits; knows = so .knows };
       }
 
   -- there is no such thread
-  pub no-turn : 16 ≤ t → Playing p s₀ turns s rows frames depths moves (i + 1)
+  pub no-turn : 16 ≤ t → Playing p s₀ turns m₀ i₀ s rows frames depths moves (i + 1)
   no-turn past = idles λ P S rest loaded valid held fits. no-frames S t (fits .few-threads) past
 
   module _ (few : length turns ≤ Most.turns) (some : getD rows t 0 ≡ 0 → ⊥) where
@@ -409,7 +425,7 @@ module _ {p s₀ turns s rows frames depths : List ℕ} {moves i t : ℕ} (playi
         → ((getD rows₁ t 0 ≡ 0 → ⊥) → Placed (keptAt rows₁ frames depths t))
         → ((P : Program) (S S₁ : State) (k : Knows p P S (keptAt rows frames depths t)) → Loaded p P → Fits mosts P (moves + 1) S₁ → Went t (k .frame) (k .callers) S₁ r
         → (getD rows₁ t 0 ≡ 0 → ⊥) → Knows p P S₁ (keptAt rows₁ frames depths t))
-        → Playing p s₀ turns s₁ rows₁ frames depths (moves + 1) (i + 1)
+        → Playing p s₀ turns m₀ i₀ s₁ rows₁ frames depths (moves + 1) (i + 1)
     moves-turn {rows₁ = rows₁} does move long others placed then =
         let at = keptAt rows frames depths in
         let at₁ = keptAt rows₁ frames depths in
@@ -419,9 +435,10 @@ module _ {p s₀ turns s rows frames depths : List ℕ} {moves i t : ℕ} (playi
           arrays = record { rows-long = others .long ∙ arrays .rows-long; frames-long = arrays .frames-long; depths-long = arrays .depths-long };
           placed = each-kept Placed t at at₁ same (λ u other. playing .placed u) placed;
           few = omega (arith, playing .few);
+          later = omega (arith, playing .later);
           same-length = long ∙ playing .same-length;
-          sofar = λ P rest loaded valid held.
-              let so = playing .sofar P rest loaded valid held in
+          sofar = λ P S₀ rest loaded valid from.
+              let so = playing .sofar P S₀ rest loaded valid from in
               let to = has-moved (turn-performed does loaded valid so) move in
               let reached = moves-on (so .reached) more is valid (to .is) (to .held) in
               record {
@@ -433,7 +450,7 @@ module _ {p s₀ turns s rows frames depths : List ℕ} {moves i t : ℕ} (playi
         }
 
     pub turn-goes-next : {r : Step} {s₁ : List ℕ} {h : Here} → r ≡ Next → PerformsHere p s (keptAt rows frames depths t) r s₁ → length s₁ ≡ length s → Placed h
-        → h .row ≡ (getD rows t 0 + 8) % 8192 → Playing p s₀ turns s₁ (set rows t (h .row)) frames depths (moves + 1) (i + 1)
+        → h .row ≡ (getD rows t 0 + 8) % 8192 → Playing p s₀ turns m₀ i₀ s₁ (set rows t (h .row)) frames depths (moves + 1) (i + 1)
     turn-goes-next {h = h} e does long placed row =
         let here = playing .placed t some in
         let stored : getD (set rows t (h .row)) t 0 ≡ h .row = getD-set-same rows t (h .row) 0 (omega (arith, here .thread, playing .arrays .rows-long)) in
@@ -442,62 +459,142 @@ module _ {p s₀ turns s rows frames depths : List ℕ} {moves i t : ℕ} (playi
         (λ P S S₁ k loaded fits went kept. knows-next k loaded fits (went-next went) (stored ∙ row))
 
     pub turn-stays : {r : Step} {s₁ : List ℕ} → r ≡ Stay → PerformsHere p s (keptAt rows frames depths t) r s₁ → length s₁ ≡ length s
-        → Playing p s₀ turns s₁ rows frames depths (moves + 1) (i + 1)
+        → Playing p s₀ turns m₀ i₀ s₁ rows frames depths (moves + 1) (i + 1)
     turn-stays e does long =
         moves-turn (same-step e does) refl long (row-same t) (playing .placed t) (λ P S S₁ k loaded fits went kept. knows-same k (went-same went))
 
     pub turn-leaves-frame : {r : Step} {s₁ : List ℕ} → r ≡ Turned → PerformsHere p s (keptAt rows frames depths t) r s₁ → length s₁ ≡ length s
-        → Playing p s₀ turns s₁ (set rows t 0) frames depths (moves + 1) (i + 1)
+        → Playing p s₀ turns m₀ i₀ s₁ (set rows t 0) frames depths (moves + 1) (i + 1)
     turn-leaves-frame e does long =
         let none = getD-set-same rows t 0 0 (omega (arith, playing .placed t some .thread, playing .arrays .rows-long)) in
         moves-turn (same-step e does) refl long (row-set t 0) (λ kept. absurd (kept none)) (λ P S S₁ k loaded fits went kept. absurd (kept none))
 
     pub turn-waits : {r : Step} {s₁ : List ℕ} → r ≡ Waits → PerformsHere p s (keptAt rows frames depths t) r s₁ → length s₁ ≡ length s
-        → Playing p s₀ turns s₁ rows frames depths moves (i + 1)
+        → Playing p s₀ turns m₀ i₀ s₁ rows frames depths moves (i + 1)
     turn-waits e does long =
         record {
           arrays = playing .arrays;
           placed = playing .placed;
           few = omega (arith, playing .few);
+          later = omega (arith, playing .later);
           same-length = long ∙ playing .same-length;
-          sofar = λ P rest loaded valid held.
-              let so = playing .sofar P rest loaded valid held in
+          sofar = λ P S₀ rest loaded valid from.
+              let so = playing .sofar P S₀ rest loaded valid from in
               let did = has-waited (turn-performed (same-step e does) loaded valid so) in
               rw (did .1) (record { state = so .state; reached = waits-on (so .reached) more is (did .0); knows = so .knows });
         }
 
-    -- a stop: block and line are those of the innermost frame
-    module _ {r : Step} {s₁ : List ℕ} {k b l : ℕ} (does : PerformsHere p s (keptAt rows frames depths t) r s₁) (stops : resultOf r ≡ stop k)
-        (block : Sees s₁ Any (λ S. frameAt S t (getD depths t 0) .block) b) (line : Sees s₁ Any (λ S. frameAt S t (getD depths t 0) .line) l) where
-      stopped-at : {P : Program} {rest : List ℕ} → Loaded p P → Valid mosts P → Sofar p turns P s rest rows frames depths moves i → StoppedAt turns P rest s₁ k t b l moves
-      unfolding blockOf lineNow
-      stopped-at {P} {rest} loaded valid so =
-          let S = so .state in
-          let known = so .knows t some in
-          let did = has-stopped (turn-performed does loaded valid so) stops in
-          let held : Held s₁ S rest = rw (did .1) (so .reached .held) in
-          let frame = frame-is (stand valid (so .reached) known) in
-          record {
-            state = S;
-            held = held;
-            run-is = stops-there (so .reached) more is (did .0);
-            block = block .sees S rest held tt ∙ ap (λ (f : Frame). f .block) frame ∙ sym (ap blockOf (known .frames));
-            line = line .sees S rest held tt ∙ ap (λ (f : Frame). f .line) frame ∙ sym (ap lineNow (known .frames));
-          }
-
-      stops-run : Plays p s₀ turns (Stopped k t b l moves) s₁
-      stops-run =
-          record {
-            answers = λ P rest loaded valid held. let at = stopped-at loaded valid (playing .sofar P rest loaded valid held) in
-                rw (at .run-is) (ap (λ (x : ℕ). Stopped k t x l moves) (at .block) ∙ ap (λ (y : ℕ). Stopped k t (blockOf (threadAt (at .state) t .frames)) y moves) (at .line));
-            leaves = λ P rest loaded valid held. let at = stopped-at loaded valid (playing .sofar P rest loaded valid held) in rw (at .run-is) (at .held);
-          }
-
     pub turn-stops : {r : Step} {s₁ : List ℕ} {k b l : ℕ} → resultOf r ≡ stop k → PerformsHere p s (keptAt rows frames depths t) r s₁
-        → Sees s₁ Any (λ S. frameAt S t (getD depths t 0) .block) b → Sees s₁ Any (λ S. frameAt S t (getD depths t 0) .line) l → Plays p s₀ turns (Stopped k t b l moves) s₁
-    turn-stops stops does block line = stops-run does stops block line
+        → Sees s₁ Any (λ S. frameAt S t (getD depths t 0) .block) b → Sees s₁ Any (λ S. frameAt S t (getD depths t 0) .line) l
+        → PlaysFrom p s₀ turns i₀ m₀ (Ended (Stopped k t b l moves)) s₁
+    turn-stops stops does block line =
+        record {
+          next = λ j m h e. impossible cc;
+          comes = λ P S₀ rest loaded valid from.
+              let so = playing .sofar P S₀ rest loaded valid from in
+              stop-comes more is few-moves does stops block line loaded valid (so .reached) (so .knows t some);
+        }
+
+    -- its line is a copy
+    pub turn-at-copy : getD p (getD rows t 0 + 0) 0 ≡ formNumber Copy → PlaysFrom p s₀ turns i₀ m₀ (AtCopy i moves (keptAt rows frames depths t)) s
+    turn-at-copy form =
+        record {
+          next = λ j m h e.
+              same-next e (playing .later, record { more = more; few = playing .few; thread = is; placed = playing .placed t some; form = form });
+          comes = λ P S₀ rest loaded valid from.
+              let so = playing .sofar P S₀ rest loaded valid from in
+              to-copy (so .reached) (so .knows t some);
+        }
 
 -- the thread has no frame
-pub turn-idles : {p s₀ turns s rows frames depths : List ℕ} {moves i t : ℕ} → Looked p s₀ turns s rows frames depths moves i t → i < length turns → t ≡ getD turns i 0
-    → getD rows t 0 ≡ 0 → Playing p s₀ turns s rows frames depths moves (i + 1)
+pub turn-idles : {p s₀ turns s rows frames depths : List ℕ} {m₀ i₀ moves i t : ℕ} → Looked p s₀ turns m₀ i₀ s rows frames depths moves i t → i < length turns → t ≡ getD turns i 0
+    → getD rows t 0 ≡ 0 → Playing p s₀ turns m₀ i₀ s rows frames depths moves (i + 1)
 turn-idles {moves = moves} looked more is empty = idles (looked .playing) more is λ P S rest loaded valid held fits. looked .idle empty P moves S rest loaded valid held fits
+
+-- ---- A copy's turn, between two stretches
+
+-- the steps of an arm that moves
+pub these-steps-move : (k : Step) → OneOf (0 ∷ 1 ∷ 2 ∷ []) (tagOf the-type k) → resultOf k ≡ ok tt
+these-steps-move Next one = refl
+these-steps-move Stay one = refl
+these-steps-move Turned one = refl
+these-steps-move Waits one = absurd (miss (0 ∷ 1 ∷ 2 ∷ []) 3 tt one)
+these-steps-move NoValue one = absurd (miss (0 ∷ 1 ∷ 2 ∷ []) 4 tt one)
+these-steps-move NoField one = absurd (miss (0 ∷ 1 ∷ 2 ∷ []) 5 tt one)
+these-steps-move NoMethod one = absurd (miss (0 ∷ 1 ∷ 2 ∷ []) 6 tt one)
+these-steps-move WrongThing one = absurd (miss (0 ∷ 1 ∷ 2 ∷ []) 7 tt one)
+these-steps-move (Forbidden g) one = absurd (miss (0 ∷ 1 ∷ 2 ∷ []) 8 tt one)
+these-steps-move WrongCap one = absurd (miss (0 ∷ 1 ∷ 2 ∷ []) 9 tt one)
+these-steps-move UsedUp one = absurd (miss (0 ∷ 1 ∷ 2 ∷ []) 10 tt one)
+
+module _ {p s turns s₁ : List ℕ} {i n : ℕ} {h : Here} {step : Step} (copy : CopyNext p turns i n h) (few : length turns ≤ Most.turns) (does : PerformsHere p s h step s₁) where
+  few-before : n < Most.turns
+  few-before = omega (arith, copy .more, copy .few, few)
+
+  pub moves-past : {r : Stretch} {s₂ : List ℕ} → resultOf step ≡ ok tt → PlaysFrom p s₁ turns (i + 1) (n + 1) r s₂ → PlaysPast p s turns i n h r s₂
+  moves-past move on =
+      record {
+        next = on .next;
+        comes = λ P S rest loaded valid at.
+            let to = has-moved (performed-turn valid (at .0) (at .1) loaded few-before does) move in
+            on .comes P (to .state) rest loaded valid (moves-on (at .0) (copy .more) (copy .thread) valid (to .is) (to .held));
+      }
+
+  pub waits-past : {r : Stretch} {s₂ : List ℕ} → step ≡ Waits → PlaysFrom p s₁ turns (i + 1) n r s₂ → PlaysPast p s turns i n h r s₂
+  waits-past e on =
+      record {
+        next = on .next;
+        comes = λ P S rest loaded valid at.
+            let did = has-waited (performed-turn valid (at .0) (at .1) loaded few-before (same-step e does)) in
+            on .comes P S rest loaded valid (rw (did .1) (waits-on (at .0) (copy .more) (copy .thread) (did .0)));
+      }
+
+  pub stops-past : {k b l : ℕ} → resultOf step ≡ stop k → Sees s₁ Any (λ S. frameAt S (h .thread) (h .depth) .block) b
+      → Sees s₁ Any (λ S. frameAt S (h .thread) (h .depth) .line) l → PlaysPast p s turns i n h (Ended (Stopped k (h .thread) b l n)) s₁
+  stops-past stops block line =
+      record {
+        next = λ j m g e. impossible cc;
+        comes = λ P S rest loaded valid at. stop-comes (copy .more) (copy .thread) few-before does stops block line loaded valid (at .0) (at .1);
+      }
+
+-- ---- From copy to copy
+
+from-copy : {p turns : List ℕ} {P : Program} {s rest : List ℕ} {i m : ℕ} {h : Here} {r : Stretch} {s₁ : List ℕ} → PlaysPast p s turns i m h r s₁
+    → Loaded p P → Valid mosts P → Comes p turns P s rest (AtCopy i m h) → Comes p turns P s₁ rest r
+from-copy {P = P} {rest = rest} past loaded valid (to-copy {S = S} at knows) = past .comes P S rest loaded valid (at, knows)
+
+-- a stretch, and the one past the copy where it ends
+pub plays-past : {p s₀ turns s s₁ : List ℕ} {i m : ℕ} {h : Here} {x r : Stretch} → PlaysFrom p s₀ turns 0 0 x s → x ≡ AtCopy i m h → PlaysPast p s turns i m h r s₁
+    → PlaysFrom p s₀ turns 0 0 r s₁
+plays-past {p} {turns = turns} {s = s} plays is past =
+    record {
+      next = λ j m g e. (omega arith, past .next j m g e .1);
+      comes = λ P S rest loaded valid at. from-copy past loaded valid (subst (λ (y : Stretch). Comes p turns P s rest y) is (plays .comes P S rest loaded valid at));
+    }
+
+has-ended : {p turns : List ℕ} {P : Program} {s rest : List ℕ} {played : Played} → Comes p turns P s rest (Ended played)
+    → (played ≡ playedBy (run mosts P turns .stop) (run mosts P turns .moves)) × Held s (run mosts P turns .state) rest
+has-ended (to-end is held) = (is, held)
+
+-- the last stretch
+pub plays-all : {p s₀ turns s : List ℕ} {x : Stretch} {played : Played} → PlaysFrom p s₀ turns 0 0 x s → x ≡ Ended played → Plays p s₀ turns played s
+plays-all {p} {s₀} {turns} {s} {played = played} plays is =
+    let end : (P : Program) (rest : List ℕ) → Loaded p P → Valid mosts P → Held s₀ start rest
+    → (played ≡ playedBy (run mosts P turns .stop) (run mosts P turns .moves)) × Held s (run mosts P turns .state) rest
+    = λ P rest loaded valid held.
+    has-ended (subst (λ (y : Stretch). Comes p turns P s rest y) is (plays .comes P start rest loaded valid (reached-start turns P s₀ rest valid held))) in
+    record { answers = λ P rest loaded valid held. end P rest loaded valid held .0; leaves = λ P rest loaded valid held. end P rest loaded valid held .1 }
+
+-- how many turns are left before a stretch, the copy's own among them
+abbrev pub turnsLeft : List ℕ → Stretch → ℕ
+turnsLeft turns (Ended played) = 0
+turnsLeft turns (AtCopy i m h) = length turns - i
+
+past-copy-fewer : {p turns s s₁ : List ℕ} {i m : ℕ} {h : Here} (r : Stretch) → PlaysPast p s turns i m h r s₁ → i < length turns → turnsLeft turns r < length turns - i
+past-copy-fewer (Ended played) past more = omega (arith, more)
+past-copy-fewer (AtCopy j n g) past more = let at = past .next j n g refl in omega (arith, at .0, at .1 .more)
+
+pub fewer-left : {p s₀ turns s s₁ : List ℕ} {i m : ℕ} {h : Here} {x r : Stretch} → PlaysFrom p s₀ turns 0 0 x s → x ≡ AtCopy i m h → PlaysPast p s turns i m h r s₁
+    → turnsLeft turns r < turnsLeft turns x
+fewer-left {turns = turns} {i = i} {m = m} {h = h} {r = r} plays is past =
+    subst (λ (y : Stretch). turnsLeft turns r < turnsLeft turns y) (sym is) (past-copy-fewer r past (plays .next i m h is .1 .more))

@@ -2,5 +2,6 @@
 pub mod RunAnswers
 -- the one way in
 pub mod Made
--- and its parts: the turns played, the end
+-- and its parts: a run under way; the turns played, the end
+pub mod Reached
 pub mod Played

@@ -68,8 +68,7 @@ fn add_copy_of(s: &mut [u16], t: u16, cap: u16, places: &[u16], first: usize, n:
     table::add_copy(s, t, n, cap, kind, a, b, c, d);
 }
 
-// The first j objects met are copied, in order. A function that calls itself stays out of the loop that plays the turns, which a copy's own loop
-// would slow down.
+// The first j objects met are copied, in order.
 fn add_copies(
     s: &mut [u16],
     t: u16,

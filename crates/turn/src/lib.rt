@@ -4,5 +4,6 @@ mod form_moves;
 mod turns;
 
 pub use turns::perform;
+pub use turns::perform_copy;
 pub use turns::turn;
 pub use turns::would_wait;

@@ -2,12 +2,24 @@
 use checks::Step;
 use rules::Form;
 use table::Here;
-ghost use Prim.Native.Nat.{_≤_, _<_};
-ghost use lib.ListN.{length};
+ghost use mathlib.Core.Path.{_≡_};
+ghost use Prim.Native.Nat.{_+_, _≤_, _<_};
+ghost use lib.ListN.{length, getD};
+ghost use Rattle.rules.specs.declared.forms.Form.the-variants.{Copy};
+ghost use Rattle.rules.specs.Forms.{formNumber};
 ghost use Rattle.rules.specs.Script.{send, recv, bind};
 ghost use Rattle.rules.specs.Tables.{operandOf};
 ghost use Rattle.table.specs.StateTable.{Placed};
 ghost use Rattle.turn.specs.Performed.{PerformsHere, TakesTurn, WouldWait, WaitsHere};
+
+// Performs the line where the thread stands, a copy.
+pub fn perform_copy(p: &[u16], s: &mut [u16], h: Here) -> Step
+    requires { ⌜ (8192 ≤ length (now p)) × (8192 ≤ length (now s)) × Placed h × (getD (now p) (h .row + 0) 0 ≡ formNumber Copy) ⌝ }
+    ensures { λ r. ⌜ PerformsHere (now (p .entry)) (now (s .entry)) h r (now (s .exit)) ⌝ }
+{
+    let k = table::cap_of(table::part(p, h, 1));
+    super::copies::copy_line(s, h, k, table::part(p, h, 2))
+}
 
 // Performs the line where the thread stands.
 pub fn perform(p: &[u16], s: &mut [u16], h: Here) -> Step
@@ -63,12 +75,7 @@ pub fn perform(p: &[u16], s: &mut [u16], h: Here) -> Step
             table::part(p, h, 2),
         ),
         Form::Recv => super::form_moves::recv_line(s, h, table::part(p, h, 1)),
-        Form::Copy => super::copies::copy_line(
-            s,
-            h,
-            table::cap_of(table::part(p, h, 1)),
-            table::part(p, h, 2),
-        ),
+        Form::Copy => perform_copy(p, s, h),
         Form::NoForm | Form::Kind | Form::Thread | Form::Method => Step::Waits,
     }
 }

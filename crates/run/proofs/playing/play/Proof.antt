@@ -1,205 +1,54 @@
--- Before each turn the run so far is the rule's; where a thread's place is kept, it is the one where the thread stands. Each way through the body takes one turn.
-use Prim.Native.Nat.{_-_, _<_}
+-- Each stretch goes on where the one before it ended; past the last copy the run is the rules'.
 use native.Mathlib.Omega.{arith}
-use mathlib.Core.Path.{refl, sym, ap, _∙_}
-use mathlib.Core.Logic.{⊎-elim}
-use lib.ListN.{length, getD}
-use denote.Ref.{now}
+use Prim.Native.Nat.{ℕ}
+use mathlib.Core.Path.{_≡_, refl, _∙_}
+use mathlib.Core.List.{List}
+use lib.ListN.{length}
 use borrow.Author.Needs.{needs}
-use Rattle.table.specs.StateTable.{Placed}
-use Rattle.run.proofs.TurnByTurn.{keptAt, Playing, Looked, at-start, at-end, is-kept, has-none, found, same-looked, same-playing, turn-idles, no-turn, turn-goes-next, turn-stays, turn-leaves-frame, turn-waits, turn-stops, other-steps-stop}
-use Rattle.rules.specs.Turn.{stop}
+use Rattle.run.specs.Played.{PlaysFrom}
+use Rattle.run.proofs.TurnByTurn.{plays-past, plays-all, turnsLeft, fewer-left}
 use Rattle.run.proofs.playing.play.Statement.{statement}
 use Rattle.run.proofs.playing.play.Tie as tie
 
+-- what the first stretch comes to, this one does
 abbrev Inv-loop : tie.InvT-loop
-Inv-loop p s₀ turns rows₀ frames₀ depths₀ moves₀ i₀ s rows frames depths moves i = Playing p s₀ turns s rows frames depths moves i
+Inv-loop p s₀ turns stretch₀ s stretch = ((l : List ℕ) → PlaysFrom p l turns 0 0 stretch₀ s₀ → PlaysFrom p l turns 0 0 stretch s) × (length s ≡ length s₀)
 
 abbrev μ-loop : tie.MeasureT-loop
-μ-loop p s₀ turns rows₀ frames₀ depths₀ moves₀ i₀ s rows frames depths moves i = length turns - i
+μ-loop p s₀ turns stretch₀ s stretch = turnsLeft turns stretch
+
+play-from-requires : tie.Need-play-from-requires Inv-loop μ-loop
+play-from-requires c κs = search needs
 
 loop-holds : tie.Need-loop-holds Inv-loop μ-loop
-loop-holds c = at-start _ _ _
+loop-holds c = (λ l plays. plays, refl)
 
-shared-slice-read-t : tie.Need-shared-slice-read-t Inv-loop μ-loop
-shared-slice-read-t c = search needs
-
--- a turn is a byte
-byte : (c : tie.After-shared-slice-known3 Inv-loop μ-loop) → getD (now (c .before .before .before .before .before .before .args .turns)) (c .before .before .loop .i) 0 < 256
-byte c = c .shared-slice-known3 .given (c .before .before .loop .i) .fits
-
-cast-t : tie.Need-cast-t Inv-loop μ-loop
-cast-t c = omega (arith, byte c)
-
-mul-if2 : tie.Need-mul-if2 Inv-loop μ-loop
-mul-if2 c = search needs
-
-array-read-if2 : tie.Need-array-read-if2 Inv-loop μ-loop
-array-read-if2 c = search needs
-
-frame-count-requires : tie.Need-frame-count-requires Inv-loop μ-loop
-frame-count-requires c κs = search needs
-
-locate-requires : tie.Need-locate-requires Inv-loop μ-loop
-locate-requires c κs = search needs
-
-mul-rows : tie.Need-mul-rows Inv-loop μ-loop
-mul-rows c = search needs
-
-array-write-rows : tie.Need-array-write-rows Inv-loop μ-loop
-array-write-rows c = search needs
-
-mul-frames : tie.Need-mul-frames Inv-loop μ-loop
-mul-frames c = search needs
-
-array-write-frames : tie.Need-array-write-frames Inv-loop μ-loop
-array-write-frames c = search needs
-
-mul-depths : tie.Need-mul-depths Inv-loop μ-loop
-mul-depths c = search needs
-
-array-write-depths : tie.Need-array-write-depths Inv-loop μ-loop
-array-write-depths c = search needs
-
-mul-if4 : tie.Need-mul-if4 Inv-loop μ-loop
-mul-if4 c = search needs
-
-array-read-if4 : tie.Need-array-read-if4 Inv-loop μ-loop
-array-read-if4 c = search needs
-
-mul-t40 : tie.Need-mul-t40 Inv-loop μ-loop
-mul-t40 c = search needs
-
-array-read-t43 : tie.Need-array-read-t43 Inv-loop μ-loop
-array-read-t43 c = search needs
-
-mul-t44 : tie.Need-mul-t44 Inv-loop μ-loop
-mul-t44 c = search needs
-
-array-read-t47 : tie.Need-array-read-t47 Inv-loop μ-loop
-array-read-t47 c = search needs
-
-mul-t48 : tie.Need-mul-t48 Inv-loop μ-loop
-mul-t48 c = search needs
-
-array-read-t51 : tie.Need-array-read-t51 Inv-loop μ-loop
-array-read-t51 c = search needs
-
--- where the arms meet, the thread whose turn it is was looked for
-looked : (c : tie.Joined2 Inv-loop μ-loop)
-    → (let x = c .before .before .before .before .loop in
-    let a = c .before .before .before .before .before .before .before .before .args in
-    Looked (now (a .p)) (now (a .s)) (now (a .turns)) (x .s) (c .if2 .rows) (c .if2 .frames) (c .if2 .depths) (x .moves) (x .i) (getD (now (a .turns)) (x .i) 0))
-looked c =
-    let playing = c .before .before .before .before .loop .inv in
-    ⊎-elim
-    (λ w. same-looked (w .6) (w .7) (w .8) (found playing (w .2 .ensures .1) (w .3 .taken) (c .before .if1 .taken) (w .5 .ensures .0 .0) (w .5 .ensures .0 .1) (w .5 .ensures .1)))
-    (⊎-elim (λ w. same-looked (w .4) (w .5) (w .6) (has-none playing (w .2 .ensures .1) (w .3 .left))) (λ w. same-looked (w .1) (w .2) (w .3) (is-kept playing (w .0 .left))))
-    (c .if2 .came)
-
--- and where its place is kept, the place is one of the tables
-kept-placed : (c : tie.Then4 Inv-loop μ-loop)
-    → (let t = getD (now (c .before .before .before .before .before .before .before .before .before .args .turns)) (c .before .before .before .before .before .loop .i) 0 in let x = c .before .if2 in Placed (keptAt (x .rows) (x .frames) (x .depths) t))
-kept-placed c = looked (c .before) .playing .placed _ (c .if4 .taken)
-
-perform-requires : tie.Need-perform-requires Inv-loop μ-loop
-perform-requires c κs = (search needs, search needs, kept-placed (c .before))
-
-enum-told : tie.Need-enum-told Inv-loop μ-loop
-enum-told c = search needs
-
-next-line-requires : tie.Need-next-line-requires Inv-loop μ-loop
-next-line-requires c κs = kept-placed (c .before .before .before .before .before .before)
-
-mul-rows-2 : tie.Need-mul-rows-2 Inv-loop μ-loop
-mul-rows-2 c = search needs
-
-array-write-rows-2 : tie.Need-array-write-rows-2 Inv-loop μ-loop
-array-write-rows-2 c = search needs
-
-add-moves : tie.Need-add-moves Inv-loop μ-loop
-add-moves c = search needs
-
-enum-told-2 : tie.Need-enum-told-2 Inv-loop μ-loop
-enum-told-2 c = search needs
-
-add-moves-2 : tie.Need-add-moves-2 Inv-loop μ-loop
-add-moves-2 c = search needs
-
-enum-told-3 : tie.Need-enum-told-3 Inv-loop μ-loop
-enum-told-3 c = search needs
-
-mul-rows-3 : tie.Need-mul-rows-3 Inv-loop μ-loop
-mul-rows-3 c = search needs
-
-array-write-rows-3 : tie.Need-array-write-rows-3 Inv-loop μ-loop
-array-write-rows-3 c = search needs
-
-add-moves-3 : tie.Need-add-moves-3 Inv-loop μ-loop
-add-moves-3 c = search needs
-
-enum-told-4 : tie.Need-enum-told-4 Inv-loop μ-loop
-enum-told-4 c = search needs
-
-stop-number-requires : tie.Need-stop-number-requires Inv-loop μ-loop
-stop-number-requires c κs = search needs
-
-frame-block-requires : tie.Need-frame-block-requires Inv-loop μ-loop
-frame-block-requires c κs = let placed = kept-placed (c .before .before .before .before .before .before .before) in (search needs, placed .thread, placed .depth)
-
-frame-line-requires : tie.Need-frame-line-requires Inv-loop μ-loop
-frame-line-requires c κs = let placed = kept-placed (c .before .before .before .before .before .before .before .before .before) in (search needs, placed .thread, placed .depth)
-
-cast-t65 : tie.Need-cast-t65 Inv-loop μ-loop
-cast-t65 c = search needs
+enum-known-stretch : tie.Need-enum-known-stretch Inv-loop μ-loop
+enum-known-stretch c = search needs
 
 same-length : tie.Need-same-length Inv-loop μ-loop
-same-length c = search needs
+same-length c = c .before .before .before .loop .inv .1 ∙ c .before .before .before .before .before .before .play-from .kept .1 .0
 
 returns : tie.Need-returns Inv-loop μ-loop
-returns c =
-    let at-stop-number = c .before .before .before .before in
-    let at-perform = at-stop-number .before .before .before .before in
-    let kept = at-perform .before .before in
-    let start = kept .before .before .before .before .before .before .before .before .before in
-    turn-stops (looked (kept .before) .playing) (kept .before .before .before .before .loop-test .taken) refl (start .pre .2) (kept .if4 .taken)
-    (other-steps-stop (at-perform .perform .result) (at-stop-number .before .match .keys5) ∙ ap stop (sym (at-stop-number .stop-number .ensures)))
-    (at-perform .perform .ensures) (c .before .before .frame-block .ensures .1) (c .frame-line .ensures .1)
+returns c = plays-all (c .before .before .before .loop .inv .0 _ (c .before .before .before .before .before .before .play-from .ensures)) (c .before .stretch .given .1)
 
-add-i : tie.Need-add-i Inv-loop μ-loop
-add-i c = search needs
+enum-known-stretch-2 : tie.Need-enum-known-stretch-2 Inv-loop μ-loop
+enum-known-stretch-2 c = search needs
+
+play-past-requires : tie.Need-play-past-requires Inv-loop μ-loop
+play-past-requires c κs =
+    let inv = c .before .before .before .before .loop .inv in
+    let first = c .before .before .before .before .before .before .before .play-from in
+    let start = c .before .before .before .before .before .before .before .before .before .before .before .before in
+    (start .pre .0, omega (arith, inv .1, first .kept .1 .0, start .pre .1), start .pre .2, inv .0 _ (first .ensures) .next _ _ _ (c .before .before .stretch2 .given .1) .1)
 
 loop-less : tie.Need-loop-less Inv-loop μ-loop
-loop-less c = search needs
+loop-less c = fewer-left (c .before .before .before .before .before .before .before .loop .inv .0 _ (c .before .before .before .before .before .before .before .before .before .before .play-from .ensures)) (c .before .before .before .before .before .stretch2 .given .1) (c .before .before .play-past .ensures)
 
 loop-again : tie.Need-loop-again Inv-loop μ-loop
 loop-again c =
-    let few = c .before .before .before .before .before .before .before .pre .2 in
-    let more = c .before .before .loop-test .taken in
-    ⊎-elim
-    (λ w. let at = looked (record { before = record { before = c .before; if1 = w .0 }; if2 = w .1 }) .playing in
-    same-playing (w .10) (w .11) (w .12) (w .13) (w .14)
-    (turn-goes-next at more refl few (w .2 .taken) (w .8 .given .1) (w .4 .ensures) (w .4 .kept .1 .0) (w .9 .ensures .0) (w .9 .ensures .3)))
-    (⊎-elim
-    (λ w. let at = looked (record { before = record { before = c .before; if1 = w .0 }; if2 = w .1 }) .playing in
-    same-playing (w .9) (w .10) (w .11) (w .12) (w .13) (turn-stays at more refl few (w .2 .taken) (w .8 .given .1) (w .4 .ensures) (w .4 .kept .1 .0)))
-    (⊎-elim
-    (λ w. let at = looked (record { before = record { before = c .before; if1 = w .0 }; if2 = w .1 }) .playing in
-    same-playing (w .9) (w .10) (w .11) (w .12) (w .13) (turn-leaves-frame at more refl few (w .2 .taken) (w .8 .given .1) (w .4 .ensures) (w .4 .kept .1 .0)))
-    (⊎-elim
-    (λ w. let at = looked (record { before = record { before = c .before; if1 = w .0 }; if2 = w .1 }) .playing in
-    same-playing (w .9) (w .10) (w .11) (w .12) (w .13) (turn-waits at more refl few (w .2 .taken) (w .8 .given .1) (w .4 .ensures) (w .4 .kept .1 .0)))
-    (⊎-elim
-    (λ w. same-playing (w .3) (w .4) (w .5) (w .6) (w .7)
-    (turn-idles (looked (record { before = record { before = c .before; if1 = w .0 }; if2 = w .1 })) more refl (w .2 .left)))
-    (λ w. same-playing (w .1) (w .2) (w .3) (w .4) (w .5) (no-turn (c .before .before .before .loop .inv) more refl (w .0 .left)))))))
-    (c .if1 .came)
-
-same-length-2 : tie.Need-same-length-2 Inv-loop μ-loop
-same-length-2 c = search needs
-
-returns-2 : tie.Need-returns-2 Inv-loop μ-loop
-returns-2 c = at-end (c .before .loop .inv) (c .loop-test .left)
+    let inv = c .before .before .before .before .before .before .before .loop .inv in
+    (λ l plays. plays-past (inv .0 l plays) (c .before .before .before .before .before .stretch2 .given .1) (c .before .before .play-past .ensures), c .before .before .play-past .kept .1 .0 ∙ inv .1)
 
 pub play-spec : {M : Type 1} → statement M
 play-spec =
@@ -207,48 +56,12 @@ play-spec =
     (tie.spec
     Inv-loop
     μ-loop
+    play-from-requires
     loop-holds
-    shared-slice-read-t
-    cast-t
-    mul-if2
-    array-read-if2
-    frame-count-requires
-    locate-requires
-    mul-rows
-    array-write-rows
-    mul-frames
-    array-write-frames
-    mul-depths
-    array-write-depths
-    mul-if4
-    array-read-if4
-    mul-t40
-    array-read-t43
-    mul-t44
-    array-read-t47
-    mul-t48
-    array-read-t51
-    perform-requires
-    enum-told
-    next-line-requires
-    mul-rows-2
-    array-write-rows-2
-    add-moves
-    enum-told-2
-    add-moves-2
-    enum-told-3
-    mul-rows-3
-    array-write-rows-3
-    add-moves-3
-    enum-told-4
-    stop-number-requires
-    frame-block-requires
-    frame-line-requires
-    cast-t65
+    enum-known-stretch
     same-length
     returns
-    add-i
+    enum-known-stretch-2
+    play-past-requires
     loop-less
-    loop-again
-    same-length-2
-    returns-2)
+    loop-again)

@@ -1,8 +1,9 @@
 -- `turn::turns::perform` meets its contract: the words at the thread's place tell its line, which is the one that is called; no line of a block has
 -- another form.
 use native.Mathlib.Omega.{arith}
+use mathlib.Core.Path.{sym, _∙_}
 use Rattle.rules.proofs.FormNumbers.{number-told}
-use Rattle.turn.proofs.Dispatch.{tells-give, tells-value, tells-field, tells-swap, tells-call, tells-cast, tells-spawn, tells-send, tells-recv, tells-copy, performs-loaded, performs-here, performs-new, no-such-line}
+use Rattle.turn.proofs.Dispatch.{tells-give, tells-value, tells-field, tells-swap, tells-call, tells-cast, tells-spawn, tells-send, tells-recv, performs-loaded, performs-here, performs-new, no-such-line}
 use borrow.Author.Needs.{needs}
 use Rattle.turn.proofs.turns.perform.Statement.{statement}
 use Rattle.turn.proofs.turns.perform.Tie as tie
@@ -148,17 +149,10 @@ recv-line-requires c κs = search needs
 enum-told-11 : tie.Need-enum-told-11
 enum-told-11 c = search needs
 
-part-requires-24 : tie.Need-part-requires-24
-part-requires-24 c κs = search needs
-
-cap-of-requires-3 : tie.Need-cap-of-requires-3
-cap-of-requires-3 c κs = search needs
-
-part-requires-25 : tie.Need-part-requires-25
-part-requires-25 c κs = search needs
-
-copy-line-requires : tie.Need-copy-line-requires
-copy-line-requires c κs = search needs
+perform-copy-requires : tie.Need-perform-copy-requires
+perform-copy-requires c κs =
+    let at-match = c .before .before in
+    (search needs, search needs, search needs, sym (at-match .before .before .part .ensures) ∙ number-told (at-match .before .form-of .ensures) (at-match .match .keys11) (omega arith))
 
 same-length : tie.Need-same-length
 same-length c = search needs
@@ -275,12 +269,7 @@ same-length-11 : tie.Need-same-length-11
 same-length-11 c = search needs
 
 returns-11 : tie.Need-returns-11
-returns-11 c =
-    let at-parts = c .before .before .before in
-    let at-match = at-parts .before .before .before .before .before in
-    performs-here
-    (tells-copy (at-match .before .before .part .ensures) (at-parts .before .before .part24 .ensures) (at-parts .part25 .ensures) (at-parts .before .cap-of3 .ensures) (number-told (at-match .before .form-of .ensures) (at-match .match .keys11) (omega arith)))
-    (c .before .before .copy-line .ensures)
+returns-11 c = c .before .before .perform-copy .ensures
 
 returns-12 : tie.Need-returns-12
 returns-12 c = no-such-line (c .before .before .part .ensures) (c .before .form-of .ensures) (c .match .keys12)
@@ -336,10 +325,7 @@ perform-spec =
     part-requires-23
     recv-line-requires
     enum-told-11
-    part-requires-24
-    cap-of-requires-3
-    part-requires-25
-    copy-line-requires
+    perform-copy-requires
     same-length
     returns
     same-length-2
