@@ -585,7 +585,7 @@ plays-all {p} {s₀} {turns} {s} {played = played} plays is =
     has-ended (subst (λ (y : Stretch). Comes p turns P s rest y) is (plays .comes P start rest loaded valid (reached-start turns P s₀ rest valid held))) in
     record { answers = λ P rest loaded valid held. end P rest loaded valid held .0; leaves = λ P rest loaded valid held. end P rest loaded valid held .1 }
 
--- how many turns are left before a stretch, the copy's own among them
+-- how many turns are left after a stretch, the copy's own among them
 abbrev pub turnsLeft : List ℕ → Stretch → ℕ
 turnsLeft turns (Ended played) = 0
 turnsLeft turns (AtCopy i m h) = length turns - i

@@ -17,8 +17,8 @@ pub enum Stretch {
     AtCopy(usize, u16, Here),
 }
 
-// Plays the turns from number `from` on, up to the first copy. The places where threads stand are kept while they go from line to line; a row of 0
-// keeps none. No line but a copy calls another function, so that the loop keeps what it counts in registers.
+// Plays the turns from number `from` on, with the moves before them, up to the first copy. The places where threads stand are kept while they go from
+// line to line; a row of 0 keeps none. A copy is left to `play_past`: without it the compiled loop calls no function.
 fn play_from(p: &[u16], s: &mut [u16], turns: &[u8], from: usize, moved: u16) -> Stretch
     requires { ⌜ (8192 ≤ length (now p)) × (8192 ≤ length (now s)) × (length (now turns) ≤ 32768) × (moved ≤ from) ⌝ }
     ensures { λ r. ⌜ PlaysFrom (now (p .entry)) (now (s .entry)) (now (turns .entry)) from moved r (now (s .exit)) ⌝ }
