@@ -67,23 +67,25 @@ met-list {P} {n} {S} t {w} fits walked =
     low : (x : ℕ) → ReachedFrom (S .objects) (roots P S t) x → x < 256
     low x r = omega (arith, fits .few-objects, reached-range fits (roots P S t) (roots-made fits t) x r)
 
--- nothing is promised of what is too short
-pub no-program : {p s list : List ℕ} {t : ℕ} {r : Report} → length p < Most.words → ReportsState p s t list r list
-no-program short = record { reports = λ p-long s-long list-long P n S rest loaded held valid fits. absurd (omega arith) }
+-- what is too short is refused
+pub no-program : {p s list : List ℕ} {t : ℕ} → length p < Most.words → ReportsState p s t list (T.Refused No.shortTable 0) list
+no-program short = record { reports = λ p-long s-long list-long P n S rest loaded held valid fits. absurd (omega arith); refuses = λ some. (refl, refl) }
 
-pub no-state : {p s list : List ℕ} {t : ℕ} {r : Report} → length s < Most.words → ReportsState p s t list r list
-no-state short = record { reports = λ p-long s-long list-long P n S rest loaded held valid fits. absurd (omega arith) }
+pub no-state : {p s list : List ℕ} {t : ℕ} → length s < Most.words → ReportsState p s t list (T.Refused No.shortTable 0) list
+no-state short = record { reports = λ p-long s-long list-long P n S rest loaded held valid fits. absurd (omega arith); refuses = λ some. (refl, refl) }
 
-pub no-list : {p s list : List ℕ} {t : ℕ} {r : Report} → length list < Most.reachList → ReportsState p s t list r list
-no-list short = record { reports = λ p-long s-long list-long P n S rest loaded held valid fits. absurd (omega arith) }
+pub no-list : {p s list : List ℕ} {t : ℕ} → length list < Most.reachList → ReportsState p s t list (T.Refused No.shortTable 0) list
+no-list short = record { reports = λ p-long s-long list-long P n S rest loaded held valid fits. absurd (omega arith); refuses = λ some. (refl, refl) }
 
-module _ {p s list : List ℕ} {t d : ℕ} (counted : Sees s Any (λ S. length (S .threads)) d) where
+module _ {p s list : List ℕ} {t d : ℕ} (p-fits : Most.words ≤ length p) (s-fits : Most.words ≤ length s) (list-fits : Most.reachList ≤ length list)
+    (counted : Sees s Any (λ S. length (S .threads)) d) where
   pub not-reported : d ≤ t → ReportsState p s t list (T.Refused No.noThread 0) list
   not-reported past =
       record {
         reports = λ p-long s-long list-long P n S rest loaded held valid fits.
             let few : length (S .threads) ≤ t = omega (arith, counted .sees S rest held tt) in
             subst (λ (b : Bool). Reports (reportOn P S t b) list (T.Refused No.noThread 0) list) (sym (le-ltb t (length (S .threads)) few)) (record { answers = refl; leaves = refl });
+        refuses = λ some. absurd (some p-fits s-fits list-fits);
       }
 
   pub reported : {order : List ℕ} {w : Tally} {r : ℕ} {list₁ : List ℕ} → t < d → WalksRoots p s (tally (replicate 256 0) order 0) (t % 16) w
@@ -100,6 +102,7 @@ module _ {p s list : List ℕ} {t d : ℕ} (counted : Sees s Any (λ S. length (
               answers = ap T.Reached (number ∙ ap length is);
               leaves = words ∙ ap (λ (l : List ℕ). listWords l ++ drop Most.reachList list) is;
             });
+        refuses = λ some. absurd (some p-fits s-fits list-fits);
       }
 
 -- ---- The report on a run

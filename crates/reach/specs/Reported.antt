@@ -10,6 +10,7 @@ use Rattle.rules.specs.declared.Value.the-variants.{Absent}
 use Rattle.rules.specs.Mosts as Most
 use Rattle.rules.specs.Mosts.{mosts}
 use Rattle.rules.specs.Reading.{Reading}
+use Rattle.rules.specs.Numbers as No
 use Rattle.rules.specs.Lists.{rising}
 use Rattle.rules.specs.Script.{Program}
 use Rattle.rules.specs.Valid.{Valid}
@@ -71,6 +72,8 @@ pub record ReportsState (p s : List ℕ) (t : ℕ) (list : List ℕ) (r : Report
   pub reports : Most.words ≤ length p → Most.words ≤ length s → Most.reachList ≤ length list
       → (P : Program) (n : ℕ) (S : State) (rest : List ℕ) → Loaded p P → Held s S rest → Valid mosts P → Fits mosts P n S
       → Reports (reportOn P S t (ltb t (length (S .threads)))) list r list₁
+  -- where a slice is too short for that
+  pub refuses : (Most.words ≤ length p → Most.words ≤ length s → Most.reachList ≤ length list → ⊥) → (r ≡ T.Refused No.shortTable 0) × (list₁ ≡ list)
 
 -- what a report answers and leaves in what it was lent, by what its inputs come to
 pub record Reached (C : Reading) (turns : List ℕ) (t : ℕ) (program state list : List ℕ) (r : Report) (program₁ state₁ list₁ : List ℕ) : Type 0 where

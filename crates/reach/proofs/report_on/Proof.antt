@@ -1,5 +1,5 @@
 -- `reach::report_on` meets its contract: the thread is not started; or its slots and the message that it put are walked from no object met, and
--- what is met is listed. Of what is too short nothing is promised.
+-- what is met is listed. What is too short is refused.
 use Rattle.reach.proofs.Reporting.{no-program, no-state, no-list, not-reported, reported}
 use borrow.Author.Needs.{needs}
 use Rattle.reach.proofs.report_on.Statement.{statement}
@@ -21,7 +21,9 @@ cast-if4 : tie.Need-cast-if4
 cast-if4 c = search needs
 
 returns-4 : tie.Need-returns-4
-returns-4 c = not-reported (c .before .thread-count .ensures .1) (c .if4 .taken)
+returns-4 c =
+    let at-if1 = c .before .before .before .before in
+    not-reported (at-if1 .if1 .left) (c .before .before .before .if2 .left) (c .before .before .if3 .left) (c .before .thread-count .ensures .1) (c .if4 .taken)
 
 slice-aggregate-walk-roots : tie.Need-slice-aggregate-walk-roots
 slice-aggregate-walk-roots c = search needs
@@ -46,7 +48,11 @@ returns-5 c =
     let at-walk-roots = c .before .before .before .before .before .before .before in
     let at-if4 = at-walk-roots .before .before .before in
     let at-thread-count = at-if4 .before in
-    reported (at-thread-count .thread-count .ensures .1) (at-if4 .if4 .left) (at-walk-roots .walk-roots .ensures .0) (c .before .before .list-met .ensures .0) (c .before .before .list-met .ensures .1)
+    let at-if3 = at-thread-count .before in
+    let at-if2 = at-if3 .before in
+    let at-if1 = at-if2 .before in
+    reported (at-if1 .if1 .left) (at-if2 .if2 .left) (at-if3 .if3 .left) (at-thread-count .thread-count .ensures .1) (at-if4 .if4 .left)
+    (at-walk-roots .walk-roots .ensures .0) (c .before .before .list-met .ensures .0) (c .before .before .list-met .ensures .1)
 
 pub report-on-spec : {M : Type 1} → statement M
 report-on-spec =
