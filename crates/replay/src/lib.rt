@@ -1,4 +1,4 @@
-// boxrun's input: "a script, then the last line (turns T ..)", and the printing of its run.
+// boxrun's input: "a script, then the last line (turns T ..)", taken apart, and the printing of its run.
 mod ending;
 mod turns_line;
 
@@ -13,6 +13,7 @@ ghost use lib.ListN.{length, take};
 ghost use Rattle.rules.specs.Mosts.{mosts};
 ghost use Rattle.rules.specs.Input.{boxrun};
 ghost use Rattle.listing.specs.Outputs.{runText, printedOf, outputAfter};
+ghost use Rattle.replay.specs.Given.{Splits};
 
 // The run of the script that ends at a place, on the first n turns.
 fn print_fronts(input: &[u8], at: usize, turns: &[u8], n: usize, output: &mut [u8]) -> Printed
@@ -23,17 +24,29 @@ fn print_fronts(input: &[u8], at: usize, turns: &[u8], n: usize, output: &mut [u
     listing::print_run(&input[..at], &turns[..n], output)
 }
 
-// On a list for the turns. "A fault in it, with its line in the input, is found before the script's".
-fn print_on(input: &[u8], turns: &mut [u8], output: &mut [u8]) -> Printed
-    requires { ⌜ (length (now input) ≤ 65536) × (32768 ≤ length (now turns)) ⌝ }
-    ensures { λ r. ⌜ r ≡ printedOf (boxrun mosts (now (input .entry))) (now (output .entry)) ⌝ }
-    ensures { λ _. ⌜ now (output .exit) ≡ outputAfter (boxrun mosts (now (input .entry))) (now (output .entry)) ⌝ }
+// What an input comes to: it is turned away whole, with document 01's number; its last line has a fault, with where that line starts, the number
+// and the line; or where the script ends, and how many turns stand at the front of the list.
+pub enum Parts {
+    Away(u16),
+    Fault(usize, u16, usize),
+    Turns(usize, usize),
+}
+
+// Takes an input apart. The list is lent for the turns; one under 32,768 bytes is refused with 9.
+pub fn split(input: &[u8], turns: &mut [u8]) -> Parts
+    ensures { λ r. ⌜ Splits (now (input .entry)) (now (turns .entry)) r (now (turns .exit)) ⌝ }
 {
+    if 65536 < input.len() {
+        return Parts::Away(rules::numbers::OVERLONG);
+    }
+    if turns.len() < 32768 {
+        return Parts::Away(rules::numbers::SHORT_TABLE);
+    }
     let at = last_start(input);
     let line = turns_line(input, at, turns);
     match line {
-        Line::Fault(number) => listing::print_refusal(number, lines_before(input), output),
-        Line::Turns(n) => print_fronts(input, at, turns, n, output),
+        Line::Fault(number) => Parts::Fault(at, number, lines_before(input)),
+        Line::Turns(n) => Parts::Turns(at, n),
     }
 }
 
@@ -42,9 +55,11 @@ pub fn print_input(input: &[u8], output: &mut [u8]) -> Printed
     ensures { λ r. ⌜ r ≡ printedOf (boxrun mosts (now (input .entry))) (now (output .entry)) ⌝ }
     ensures { λ _. ⌜ now (output .exit) ≡ outputAfter (boxrun mosts (now (input .entry))) (now (output .entry)) ⌝ }
 {
-    if 65536 < input.len() {
-        return listing::print_refusal(rules::numbers::OVERLONG, 0, output);
-    }
     let mut turns = [0u8; 32768];
-    print_on(input, &mut turns, output)
+    let parts = split(input, &mut turns);
+    match parts {
+        Parts::Away(number) => listing::print_refusal(number, 0, output),
+        Parts::Fault(_, number, line) => listing::print_refusal(number, line, output),
+        Parts::Turns(at, n) => print_fronts(input, at, &turns, n, output),
+    }
 }

@@ -8,8 +8,6 @@ use lib.Dec.{eqb}
 use lib.ListN.{length, getD, set, drop, replicate, length-set, drop-of-length-le}
 use lib.Seq.{drop-cons, getD-set-same, getD-set-other}
 use borrow.Author.Tests.{eqb-true, eqb-false}
-use types.Run.{OneOf, miss}
-use denote.Enum.Declared.{tagOf}
 use Rattle.rules.specs.declared.forms.Form.the-variants.{Copy}
 use Rattle.rules.specs.Forms.{formNumber}
 use Rattle.rules.specs.Mosts as Most
@@ -28,12 +26,11 @@ use Rattle.table.specs.declared.state.Here.{Here}
 use Rattle.table.specs.StateTable.{Held, Sees, Any, Placed, Stands, frameAt}
 use Rattle.table.proofs.StateFrames.{next-on-line, row-past-counts}
 use Rattle.checks.specs.Checked.{resultOf, stopNumber, Stand}
-use Rattle.checks.proofs.form_checks.Step.{the-type}
 use Rattle.checks.proofs.Standing.{frame-is}
 use Rattle.turn.proofs.Located as Place
 use Rattle.turn.proofs.Located.{no-frames, no-frame-waits, turn-performs, went-moves}
 use Rattle.checks.specs.declared.form_checks.Step.{Step}
-use Rattle.checks.specs.declared.form_checks.Step.the-variants.{Next, Stay, Turned, Waits, NoValue, NoField, NoMethod, WrongThing, Forbidden, WrongCap, UsedUp}
+use Rattle.checks.specs.declared.form_checks.Step.the-variants.{Next, Stay, Turned, Waits}
 use Rattle.run.specs.declared.playing.Played.{Played}
 use Rattle.run.specs.declared.playing.Played.the-variants.{Through, Stopped}
 use Rattle.turn.specs.Performed.{StandsAt, Went, to-next, to-same, Performed, moved, waited, stopped, Loaded, PerformsHere}
@@ -173,20 +170,6 @@ module _ {t : ℕ} {f : Frame} {fs : List Frame} {s rest : List ℕ} where
   has-stopped (moved held went) stops = let move = went-moves went in impossible cc
   has-stopped waited stops = impossible cc
   has-stopped {k = k} (stopped {k = n} is) stops = let same : n ≡ k = cc in (ap stop same, refl)
-
--- the steps past the fourth stop
-pub other-steps-stop : (r : Step) → OneOf (4 ∷ 5 ∷ 6 ∷ 7 ∷ 8 ∷ 9 ∷ 10 ∷ []) (tagOf the-type r) → resultOf r ≡ stop (stopNumber (resultOf r))
-other-steps-stop Next one = absurd (miss (4 ∷ 5 ∷ 6 ∷ 7 ∷ 8 ∷ 9 ∷ 10 ∷ []) 0 tt one)
-other-steps-stop Stay one = absurd (miss (4 ∷ 5 ∷ 6 ∷ 7 ∷ 8 ∷ 9 ∷ 10 ∷ []) 1 tt one)
-other-steps-stop Turned one = absurd (miss (4 ∷ 5 ∷ 6 ∷ 7 ∷ 8 ∷ 9 ∷ 10 ∷ []) 2 tt one)
-other-steps-stop Waits one = absurd (miss (4 ∷ 5 ∷ 6 ∷ 7 ∷ 8 ∷ 9 ∷ 10 ∷ []) 3 tt one)
-other-steps-stop NoValue one = refl
-other-steps-stop NoField one = refl
-other-steps-stop NoMethod one = refl
-other-steps-stop WrongThing one = refl
-other-steps-stop (Forbidden g) one = refl
-other-steps-stop WrongCap one = refl
-other-steps-stop UsedUp one = refl
 
 module _ {t : ℕ} {f : Frame} {fs : List Frame} {S : State} where
   went-next : Went t f fs S Next → StandsAt t (f .block) (f .line + 1) (length fs) S
@@ -512,20 +495,6 @@ pub turn-idles : {p s₀ turns s rows frames depths : List ℕ} {m₀ i₀ moves
 turn-idles {moves = moves} looked more is empty = idles (looked .playing) more is λ P S rest loaded valid held fits. looked .idle empty P moves S rest loaded valid held fits
 
 -- ---- A copy's turn, between two stretches
-
--- the steps of an arm that moves
-pub these-steps-move : (k : Step) → OneOf (0 ∷ 1 ∷ 2 ∷ []) (tagOf the-type k) → resultOf k ≡ ok tt
-these-steps-move Next one = refl
-these-steps-move Stay one = refl
-these-steps-move Turned one = refl
-these-steps-move Waits one = absurd (miss (0 ∷ 1 ∷ 2 ∷ []) 3 tt one)
-these-steps-move NoValue one = absurd (miss (0 ∷ 1 ∷ 2 ∷ []) 4 tt one)
-these-steps-move NoField one = absurd (miss (0 ∷ 1 ∷ 2 ∷ []) 5 tt one)
-these-steps-move NoMethod one = absurd (miss (0 ∷ 1 ∷ 2 ∷ []) 6 tt one)
-these-steps-move WrongThing one = absurd (miss (0 ∷ 1 ∷ 2 ∷ []) 7 tt one)
-these-steps-move (Forbidden g) one = absurd (miss (0 ∷ 1 ∷ 2 ∷ []) 8 tt one)
-these-steps-move WrongCap one = absurd (miss (0 ∷ 1 ∷ 2 ∷ []) 9 tt one)
-these-steps-move UsedUp one = absurd (miss (0 ∷ 1 ∷ 2 ∷ []) 10 tt one)
 
 module _ {p s turns s₁ : List ℕ} {i n : ℕ} {h : Here} {step : Step} (copy : CopyNext p turns i n h) (few : length turns ≤ Most.turns) (does : PerformsHere p s h step s₁) where
   few-before : n < Most.turns

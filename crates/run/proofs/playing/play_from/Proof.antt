@@ -7,7 +7,8 @@ use lib.ListN.{length, getD}
 use denote.Ref.{now}
 use borrow.Author.Needs.{needs}
 use Rattle.table.specs.StateTable.{Placed}
-use Rattle.run.proofs.TurnByTurn.{keptAt, Playing, Looked, at-start, at-end, is-kept, has-none, found, same-looked, same-playing, turn-idles, no-turn, turn-goes-next, turn-stays, turn-leaves-frame, turn-waits, turn-stops, turn-at-copy, other-steps-stop}
+use Rattle.checks.proofs.StepResults.{other-steps-stop}
+use Rattle.run.proofs.TurnByTurn.{keptAt, Playing, Looked, at-start, at-end, is-kept, has-none, found, same-looked, same-playing, turn-idles, no-turn, turn-goes-next, turn-stays, turn-leaves-frame, turn-waits, turn-stops, turn-at-copy}
 use Rattle.rules.specs.Turn.{stop}
 use Rattle.run.proofs.playing.play_from.Statement.{statement}
 use Rattle.run.proofs.playing.play_from.Tie as tie

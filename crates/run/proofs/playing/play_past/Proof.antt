@@ -1,7 +1,8 @@
 -- The line that is called is the thread's turn; the stretch that follows goes on from the state that it leaves.
 use mathlib.Core.Path.{sym, ap, _∙_}
 use Rattle.rules.specs.Turn.{stop}
-use Rattle.run.proofs.TurnByTurn.{other-steps-stop, these-steps-move, moves-past, waits-past, stops-past}
+use Rattle.checks.proofs.StepResults.{these-steps-move, other-steps-stop}
+use Rattle.run.proofs.TurnByTurn.{moves-past, waits-past, stops-past}
 use borrow.Author.Needs.{needs}
 use Rattle.run.proofs.playing.play_past.Statement.{statement}
 use Rattle.run.proofs.playing.play_past.Tie as tie
