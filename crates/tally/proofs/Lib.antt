@@ -1,0 +1,3 @@
+-- Why the counts are those of the rules' own turns.
+mod FateLaws
+mod CountLaws

@@ -1,0 +1,4 @@
+-- What came of each turn of a list, counted.
+pub mod Fates
+-- and what the code counts
+pub mod Counted
