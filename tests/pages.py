@@ -3,7 +3,8 @@
 
 In docs/SCRIPTS.md a fenced block `box` is an input of boxrun, and the block `output` after it is, byte for byte, what target/bin/boxrun prints of
 it. A block `output unsafe` after that is what it prints of the same input with every capability changed to unsafe. There is no other fenced
-block, so that nothing looks like an input and is not run; commands for a shell are indented.
+block, so that nothing looks like an input and is not run; commands for a shell are indented. In README.md an indented `$ boxrun < FILE` has its
+output below it. The page's table of who may hold whom is tried pair by pair.
 
 Besides: the numbers of that page, and of the index of docs/DECISIONS.md, are those of README.md with the same words; the index names every point,
 and no other; the pictures are what docs/pictures/draw.py draws, and the page shows each; every relative link of README.md and docs/*.md leads to a
@@ -63,6 +64,37 @@ def runs(page):
             yield where, 'a block of another sort or out of its place: %r' % info
     yield SCRIPTS, 'the last input has no output' if left or given is None else None
     yield SCRIPTS, None if page.count('\n```') == 2 * len(list(fenced(page))) else 'a fence that is not closed'
+
+
+def commands(page):
+    found = list(re.finditer(r'^    \$ boxrun < (\S+)\n((?:    (?!\$).*\n)+)', page, re.M))
+    for command in found:
+        got = printed(read(command[1]))
+        shown = re.sub('^    ', '', command[2], flags=re.M)
+        yield '%s: boxrun < %s' % (README, command[1]), None if got == shown else 'boxrun prints\n' + got
+    yield README, None if found else 'no command is shown'
+
+
+HOLDING = """(kind (fields 0) (does))
+(kind (fields 1) (does))
+(thread)
+(let (new %s 0))
+(let (new %s 1 (take 1)))
+(give (take 2))
+(turns 0 0 0)
+"""
+MAY = {'yes': '(end finished 3)', 'no': '(stopped 14 0 0 1 1)'}
+
+
+def holders(page):
+    rows = re.findall(r'^\| (Holder|`\w+`) \| (\S+) \| (\S+) \| (\S+) \| (\S+) \|$', section(page, 'The four capabilities'), re.M)
+    (_, *values), *rows = [[cell.strip('`') for cell in row] for row in rows]
+    for holder, *cells in rows:
+        for value, cell in zip(values, cells):
+            answer = printed(HOLDING % (value, holder)).splitlines()[0]
+            yield SCRIPTS, None if answer == MAY.get(cell) else '%s to hold %s: boxrun prints %s' % (holder, value, answer)
+    named = {'imm', 'iso', 'local', 'unsafe'}
+    yield SCRIPTS, None if {row[0] for row in rows} == set(values) == named else 'who may hold whom is not a table of four by four'
 
 
 def words_in(table):
@@ -129,6 +161,8 @@ def tried():
     yield finds('a changed input', runs(page.replace('(turns 0 0)', '(turns 0)', 1)))
     yield finds('an input without its output', runs(page.replace('```output\n(end open 0)\n(thread 0 ready 0 0 absent)\n```\n', '', 1)))
     yield finds('a block of another sort', runs(page + '```sh\nboxrun\n```\n'))
+    yield finds('a wrong byte below a command', commands(read(README).replace('(stopped 20 1 1 3 14)', '(stopped 20 1 1 3 15)')))
+    yield finds('a wrong holder', holders(page.replace('| `iso` | yes | yes | no | no |', '| `iso` | yes | no | no | no |')))
     yield finds('a number left out', numbers(page.replace('| 12 | no method |', '| no method |'), SCRIPTS, 'The numbers'))
     yield finds('another word', numbers(page.replace('| 19 | alias |', '| 19 | second |'), SCRIPTS, 'The numbers'))
     yield finds('a point left out', index(decisions.replace('159, 163 |', '159 |')))
@@ -141,6 +175,8 @@ def tried():
 def checks():
     page, decisions = read(SCRIPTS), read(DECISIONS)
     yield from runs(page)
+    yield from commands(read(README))
+    yield from holders(page)
     yield from numbers(page, SCRIPTS, 'The numbers')
     yield from numbers(decisions, DECISIONS, 'Index')
     yield from index(decisions)
