@@ -16,6 +16,7 @@ import re
 import subprocess
 import sys
 import xml.dom.minidom
+import xml.parsers.expat
 
 sys.dont_write_bytecode = True
 ROOT = os.path.dirname(os.path.dirname(os.path.abspath(__file__)))
@@ -120,6 +121,13 @@ def index(page):
         yield DECISIONS, None if points.count(point) == 1 else 'point %s of the index stands %d times' % (point, points.count(point))
 
 
+def is_xml(text):
+    try:
+        return bool(xml.dom.minidom.parseString(text))
+    except xml.parsers.expat.ExpatError:
+        return False
+
+
 def pictures(page):
     drawn = draw.drawn()
     for name in sorted(set(drawn) | {os.path.basename(path) for path in glob.glob(os.path.join(ROOT, 'docs', 'pictures', '*.svg'))}):
@@ -127,8 +135,7 @@ def pictures(page):
         there = os.path.isfile(os.path.join(ROOT, path))
         yield path, None if there and read(path) == drawn.get(name) else 'is not what docs/pictures/draw.py draws'
         yield path, None if '](pictures/%s)' % name in page else 'is not shown in ' + SCRIPTS
-    for name, svg in drawn.items():
-        xml.dom.minidom.parseString(svg)
+        yield path, None if is_xml(drawn.get(name, '')) else 'is not XML'
 
 
 def anchors(page):

@@ -13,12 +13,12 @@ MONO = 'DejaVu Sans Mono, Menlo, Consolas, monospace'
 GREY = '#555555'
 
 
-def text(x, y, words, anchor='start', size=14, weight='normal', fill='black'):
+def text(x, y, words, anchor='start', size=14, weight='normal'):
     """One line of words; what stands in backticks is a word of a script."""
     words = words.replace('&', '&amp;').replace('<', '&lt;')
     words = re.sub(r'`([^`]*)`', r'<tspan font-family="%s">\1</tspan>' % MONO, words)
-    return '<text x="%d" y="%d" text-anchor="%s" font-family="%s" font-size="%d" font-weight="%s" fill="%s">%s</text>' % (
-        x, y, anchor, SANS, size, weight, fill, words)
+    return '<text x="%d" y="%d" text-anchor="%s" font-family="%s" font-size="%d" font-weight="%s">%s</text>' % (
+        x, y, anchor, SANS, size, weight, words)
 
 
 def frame(x, y, w, h, width=1, dashes='none', stroke='black', corner=0, fill='white'):
@@ -26,9 +26,9 @@ def frame(x, y, w, h, width=1, dashes='none', stroke='black', corner=0, fill='wh
         x, y, w, h, corner, fill, stroke, width, dashes)
 
 
-def line(points, width=2, dashes='none', stroke='black'):
-    return '<polyline points="%s" fill="none" stroke="%s" stroke-width="%d" stroke-dasharray="%s"/>' % (
-        ' '.join('%d,%d' % p for p in points), stroke, width, dashes)
+def line(points, width=2, dashes='none'):
+    return '<polyline points="%s" fill="none" stroke="black" stroke-width="%d" stroke-dasharray="%s"/>' % (
+        ' '.join('%d,%d' % p for p in points), width, dashes)
 
 
 def arrow(*points, dashes='none'):
@@ -61,13 +61,13 @@ def slot(x, y, name, filled=True, width=120, mirrored=False):
 
 def thing(x, y, cap, name, w=130, h=64):
     """An object, in the outline of its capability."""
-    outline = {
-        'imm': lambda: frame(x, y, w, h) + frame(x + 4, y + 4, w - 8, h - 8),
-        'iso': lambda: frame(x, y, w, h, 5),
-        'local': lambda: frame(x, y, w, h, 2, '10 5'),
-        'unsafe': lambda: frame(x, y, w, h, 3, '2 5'),
-    }[cap]()
-    return outline + text(x + w // 2, y + h // 2 - 4, name, 'middle') + text(x + w // 2, y + h // 2 + 17, '`%s`' % cap, 'middle', 15, 'bold')
+    outlines = {
+        'imm': frame(x, y, w, h) + frame(x + 4, y + 4, w - 8, h - 8),
+        'iso': frame(x, y, w, h, 5),
+        'local': frame(x, y, w, h, 2, '10 5'),
+        'unsafe': frame(x, y, w, h, 3, '2 5'),
+    }
+    return outlines[cap] + text(x + w // 2, y + h // 2 - 4, name, 'middle') + text(x + w // 2, y + h // 2 + 17, '`%s`' % cap, 'middle', 15, 'bold')
 
 
 def picture(title, height, parts, words, width=680):
