@@ -1,4 +1,5 @@
-/* The freezer box for a C host: link libhost.a (`rt staticlib host`, x86-64).
+/* The freezer box for a C host, x86-64: link libfreezerbox.a. `make` builds it, `make install` puts it where
+ * `pkg-config --cflags --libs freezerbox` finds it, this header as freezerbox/box.h.
  *
  * Words cross as bytes, low byte first: word i of a table is table[2 * i] + 256 * table[2 * i + 1]. docs/LAYOUT.md has both tables to the word.
  *
@@ -11,6 +12,7 @@
  * - Every number that is lent by pointer is written by every call, 0 where there is nothing to say.
  * - A call takes under 72 KB of stack, of which the walk through a chain of 256 objects, for a copy or a report, takes 33 KB; box_read takes
  *   under 24 KB. A call allocates nothing, and may be made by several threads at once, each on arguments of its own.
+ * - Of the C library a call needs memcpy and memset, and nothing else.
  */
 #ifndef BOX_H
 #define BOX_H
@@ -21,6 +23,13 @@
 #ifdef __cplusplus
 extern "C" {
 #endif
+
+/* The version of this header. The minor number counts the requests that have landed since the base, the patch number any other change; in one
+ * number each has two digits. Header and library belong together where box_version() is BOX_VERSION. */
+#define BOX_VERSION_MAJOR 1
+#define BOX_VERSION_MINOR 6
+#define BOX_VERSION_PATCH 0
+#define BOX_VERSION (10000 * BOX_VERSION_MAJOR + 100 * BOX_VERSION_MINOR + BOX_VERSION_PATCH)
 
 /* The shortest table and list that may be lent, in bytes: 8,192 and 256 words. A shorter one is refused with BOX_SHORT_TABLE. */
 #define BOX_TABLE_BYTES 16384
@@ -67,6 +76,37 @@ extern "C" {
 
 /* A refusal of box_write alone. */
 #define BOX_NO_SCRIPT 18 /* no accepted text reads to this table */
+
+/* The word of a number, 1 to 20, as box_run and the others tell it; "" for what is none of them. It stands here and not in the library. */
+static inline const char *box_word(uint16_t number)
+{
+    switch (number) {
+    case BOX_OVERLONG: return "overlong";
+    case BOX_STRAY_BYTE: return "stray byte";
+    case BOX_MALFORMED: return "malformed";
+    case BOX_OVER_COUNT: return "over count";
+    case BOX_UNBOUND: return "unbound";
+    case BOX_SELF_TAKEN: return "self taken";
+    case BOX_UNFINISHED: return "unfinished";
+    case BOX_DANGLING: return "dangling";
+    case BOX_SHORT_TABLE: return "short table";
+    case BOX_ABSENT: return "absent";
+    case BOX_NO_FIELD: return "no field";
+    case BOX_NO_METHOD: return "no method";
+    case BOX_WRONG_THING: return "wrong thing";
+    case BOX_PERMISSION: return "permission";
+    case BOX_CAST: return "cast";
+    case BOX_USED_UP: return "used up";
+    case BOX_NO_THREAD: return "no thread";
+    case BOX_NO_SCRIPT: return "no script";
+    case BOX_ALIAS: return "alias";
+    case BOX_FOREIGN: return "foreign";
+    default: return "";
+    }
+}
+
+/* The version of the library that was linked, as BOX_VERSION is that of this header. */
+uint32_t box_version(void);
 
 /* Reads a script into a program table. A text whose first line is `(script 2)` is of edition 2, which has `copy`; every other is of edition 1.
  *

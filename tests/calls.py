@@ -2,7 +2,8 @@
 """calls.py [declare | rows | rust]: the list of calls, include/calls.txt, which says what its columns are.
 
 Without a word: the declarations of include/box.h and the functions of crates/host are those of the list, and the comment before a declaration
-explains what the call takes, in its order. The last line is 'N passed, M failed'. With one, it prints
+explains what the call takes, in its order; the header's numbers and their words are those of README's table; and the minor number of its version
+counts the requests that docs/CHANGES.md has. The last line is 'N passed, M failed'. With one, it prints
     declare   the declarations, for include/box.h
     rows      the list for C, from which tests/host checks every call
     rust      the calls in Rust, on slices, for tests/linked"""
@@ -15,9 +16,12 @@ ROOT = os.path.dirname(os.path.dirname(os.path.abspath(__file__)))
 LIST = 'include/calls.txt'
 HEADER = 'include/box.h'
 HOST = 'crates/host/src/lib.rt'
+NUMBERS = 'README.md'
+LANDED = 'docs/CHANGES.md'
 ROW = re.compile(r'(?P<name>box_\w+)  +(?P<answers>\w+)  +(?P<checks>-|\w+(?: \w+)*)  +(?P<takes>\S.*)')
 TAKEN = re.compile(r'(?P<name>\w+): (?:(?P<slice>read|write)(?: \.\.(?P<most>\d+)| (?P<least>\d+)\.\.)?|(?P<number>number|gets))')
-TYPES = {'refusal': ('uint16_t', 'u16'), 'end': ('uint16_t', 'u16'), 'length': ('size_t', 'usize')}
+TYPES = {'refusal': ('uint16_t', 'u16'), 'end': ('uint16_t', 'u16'), 'length': ('size_t', 'usize'), 'version': ('uint32_t', 'u32')}
+REFUSES = ('refusal', 'end')
 
 Call = namedtuple('Call', 'name answers checks takes')
 Taken = namedtuple('Taken', 'name kind least most')  # kind: read, write, number or gets
@@ -40,12 +44,12 @@ def call(row):
     found = ROW.fullmatch(row)
     if not found or found['answers'] not in TYPES:
         sys.exit('%s: no row of a call: %s' % (LIST, row))
-    takes = [taken(text, found['name']) for text in found['takes'].split(', ')]
+    takes = [taken(text, found['name']) for text in found['takes'].split(', ') if text != '-']
     call = Call(found['name'], found['answers'], found['checks'].replace('-', '').split(), takes)
     gets = [t.name for t in takes if t.kind == 'gets']
     if sorted(call.checks) != sorted(t.name for t in takes if t.least or t.most):
         sys.exit('%s: %s checks other slices than those that must have a length' % (LIST, call.name))
-    if call.answers == 'end' and 'number' not in gets or call.answers == 'length' and call.checks:
+    if call.answers == 'end' and 'number' not in gets or call.answers not in REFUSES and call.checks:
         sys.exit('%s: %s has nothing that says which refusal it is' % (LIST, call.name))
     if len(set(t.name for t in takes)) < len(takes):
         sys.exit('%s: %s takes two of one name' % (LIST, call.name))
@@ -71,7 +75,7 @@ def in_c(t):
 
 
 def declaration(call):
-    return '%s %s(%s);' % (TYPES[call.answers][0], call.name, ', '.join(in_c(t) for t in call.takes))
+    return '%s %s(%s);' % (TYPES[call.answers][0], call.name, ', '.join(in_c(t) for t in call.takes) or 'void')
 
 
 def declared(call):
@@ -119,7 +123,7 @@ def row_in_c(call):
 
     slices = [slice_row(t) for t in call.takes if t.kind in ('read', 'write')]
     count = lambda kind: sum(t.kind == kind for t in call.takes)
-    return ROW_IN_C % (call.name, call.name, 'ANSWERS_' + call.answers.upper(), ', '.join(slices), len(slices),
+    return ROW_IN_C % (call.name, call.name, 'ANSWERS_' + call.answers.upper(), ', '.join(slices or ['{NULL, 0, 0, 0, 0}']), len(slices),
                        ', '.join(names('number')), count('number'), ', '.join(names('gets')), count('gets'))
 
 
@@ -127,7 +131,7 @@ def rows(calls):
     text = '/* The calls of %s, by tests/calls.py. */\n' % LIST
     for call in calls:
         text += '\nstatic size_t make_%s(const struct part *slices, const size_t *numbers, size_t *gets)\n{\n' % call.name
-        text += '    (void)numbers;\n    return %s(%s);\n}\n' % (call.name, ', '.join(passed_on(call)))
+        text += '    (void)slices, (void)numbers, (void)gets;\n    return %s(%s);\n}\n' % (call.name, ', '.join(passed_on(call)))
     return text + '\nstatic const struct call calls[] = {\n%s};' % ''.join(map(row_in_c, calls))
 
 
@@ -160,7 +164,7 @@ def rust(calls):
     for call in calls:
         gets = [t.name for t in call.takes if t.kind == 'gets']
         given = [t for t in call.takes if t.kind != 'gets']
-        text += WRAPPER % (call.name, ', '.join(gets), call.name[len('box_'):], spelled(IN_RUST, given), TYPES[call.answers][1], len(gets),
+        text += WRAPPER % (call.name, ', '.join(gets) or 'none', call.name[len('box_'):], spelled(IN_RUST, given), TYPES[call.answers][1], len(gets),
                            len(gets), ', '.join(gets), call.name, spelled(LENT, call.takes))
     return text.rstrip('\n')
 
@@ -184,7 +188,7 @@ def declarations():
     pieces = re.finditer(r'(?:/\*((?:(?!\*/).)*)\*/\s*)?^(\w+ \*?(\w+)\([^;{]*\);)', read(HEADER), re.M | re.S)
     for found in pieces:
         explained = re.findall(r'^ \*   ((?:\w+, )*\w+)  ', found[1] or '', re.M)
-        yield found[3], one_line(found[2]), ', '.join(explained).split(', ')
+        yield found[3], one_line(found[2]), [name for names in explained for name in names.split(', ')]
 
 
 def functions():
@@ -204,6 +208,34 @@ def compared(where, calls, there, expected):
             yield '%s: %s is\n    %s\nand not\n    %s' % (where, call.name, there[call.name], expected(call))
 
 
+def numbered():
+    """The numbers of README's table by rising number, each with its word."""
+    table = read(NUMBERS).partition('\n## Numbers\n')[2].partition('\n## ')[0]
+    return sorted((int(number), word) for number, word in re.findall(r'^\| (\d+) \| ([a-z ]+) \|', table, re.M))
+
+
+def misnamed(numbers):
+    """The faults of the header's numbers and of box_word: a define of each number, and a case of each that gives its word; no other case."""
+    named = lambda word: 'BOX_' + word.upper().replace(' ', '_')
+    defined = dict(re.findall(r'^#define (\w+) (\d+)\b', read(HEADER), re.M))
+    cases = re.findall(r'^    case (\w+): return "([^"]*)";', read(HEADER), re.M)
+    for number, word in numbers:
+        if defined.get(named(word)) != str(number):
+            yield '%s: %s is %s, and in %s %d' % (HEADER, named(word), defined.get(named(word), 'not there'), NUMBERS, number)
+    told = [(named(word), word) for _, word in numbers]
+    if not numbers or cases != told:
+        odd = sorted(set(cases) ^ set(told)) or 'their order'
+        yield '%s: box_word has not the words of %s: %s' % (HEADER, NUMBERS, odd)
+
+
+def misversioned():
+    """The fault of the minor number, where it does not count the requests that have landed."""
+    minor = re.findall(r'^#define BOX_VERSION_MINOR (\d+)$', read(HEADER), re.M)
+    landed = len(re.findall(r'^## L\d+\. ', read(LANDED), re.M))
+    if minor != [str(landed)]:
+        yield '%s: BOX_VERSION_MINOR is %s, and %d requests stand in %s' % (HEADER, ', '.join(minor) or 'not there', landed, LANDED)
+
+
 def main():
     calls = listed()
     printed = {'declare': lambda: '\n\n'.join(map(declared, calls)), 'rows': lambda: rows(calls), 'rust': lambda: rust(calls)}
@@ -217,7 +249,10 @@ def main():
     faults = list(compared(HEADER, calls, texts, declaration))
     faults += compared('the comments of ' + HEADER, calls, comments, lambda call: [t.name for t in call.takes])
     faults += compared(HOST, calls, dict(functions()), signature)
-    print('\n'.join(faults + ['%d passed, %d failed' % (max(3 * len(calls) - len(faults), 0), len(faults))]))
+    numbers = numbered()
+    faults += list(misnamed(numbers)) + list(misversioned())
+    held = 3 * len(calls) + len(numbers) + 2
+    print('\n'.join(faults + ['%d passed, %d failed' % (max(held - len(faults), 0), len(faults))]))
     return 1 if faults else 0
 
 

@@ -2,7 +2,7 @@
  * What must hold of every call, checked over the rows of include/calls.txt: what is too long or too short is refused, in the row's order, and
  * changes nothing; bytes past what a call needs stay; an empty slice may be null; every number that is lent is written.
  */
-enum answers { ANSWERS_REFUSAL, ANSWERS_END, ANSWERS_LENGTH };
+enum answers { ANSWERS_REFUSAL, ANSWERS_END, ANSWERS_LENGTH, ANSWERS_VERSION };
 enum { MOST_SLICES = 8, MOST_NUMBERS = 4, MOST_GETS = 16 };
 
 /* What a row says of a slice; `turn` is its place among those whose length is checked. */

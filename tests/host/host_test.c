@@ -99,6 +99,26 @@ static void constants(void)
     check(BOX_TEXT_MOST == MOST_TEXT && BOX_TURNS_MOST == MOST_TURNS, "the header's mosts");
 }
 
+/* Header and library belong together. */
+static void versions(void)
+{
+    check(BOX_VERSION / 10000 == BOX_VERSION_MAJOR && BOX_VERSION / 100 % 100 == BOX_VERSION_MINOR && BOX_VERSION % 100 == BOX_VERSION_PATCH,
+          "the header's version in one number");
+    check(box_version() == BOX_VERSION, "the library's version, %lu, is the header's", (unsigned long)box_version());
+}
+
+/* Every number has a word of its own, and nothing else has one. (tests/calls.py has the words themselves.) */
+static void words(void)
+{
+    unsigned alike = 0, others = 0;
+    for (unsigned n = 1; n <= 20; n++)
+        for (unsigned m = 0; m < n; m++)
+            alike += strcmp(box_word((uint16_t)n), box_word((uint16_t)m)) == 0;
+    for (unsigned n = 0; n <= UINT16_MAX; n++)
+        others += (n == 0 || n > 20) && box_word((uint16_t)n)[0] != '\0';
+    check(alike == 0 && others == 0, "words: %u alike, %u of no number", alike, others);
+}
+
 /* ---- Answers and tables ---- */
 
 static void reading(void)
@@ -655,6 +675,8 @@ static void several_threads(void)
 int main(void)
 {
     constants();
+    versions();
+    words();
     long_slices();
     short_slices();
     longer_slices();

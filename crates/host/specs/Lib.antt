@@ -1,3 +1,4 @@
--- What a C host gets: words as bytes, and the calls on bytes.
+-- What a C host gets: words as bytes, the calls on bytes, and the version.
 pub mod Bytes
 pub mod ByteCalls
+pub mod Version

@@ -9,10 +9,17 @@ ghost use Rattle.rules.specs.Text.{lines, findLine, startOf};
 ghost use Rattle.table.specs.ProgramTable.{freshTable};
 ghost use Rattle.host.specs.Bytes.{bytesAfter, wordsOf};
 ghost use Rattle.host.specs.ByteCalls.{ReadsBytes, MakesBytes, TellsAnswer, RunsBytes, ReachesBytes, WritesBytes};
+ghost use Rattle.host.specs.Version.{version};
 
 const TABLE: usize = 16384; // bytes of a table
 
 const LIST: usize = 512; // bytes of the reach list
+
+const MAJOR: u32 = 1;
+
+const MINOR: u32 = 6; // requests of document 02 that have landed
+
+const PATCH: u32 = 0;
 
 // The words over the first bytes of t.
 fn store(t: &mut [u8], words: &[u16])
@@ -243,4 +250,12 @@ pub extern "C" fn box_write(program: &[u8], script: &mut [u8], length: &mut usiz
             0
         }
     }
+}
+
+// The version of the library in one number, for a host to compare with its header's.
+#[no_mangle]
+pub extern "C" fn box_version() -> u32
+    ensures { λ r. ⌜ r ≡ version ⌝ }
+{
+    10000 * MAJOR + 100 * MINOR + PATCH
 }

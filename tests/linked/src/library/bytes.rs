@@ -55,3 +55,33 @@ pub fn line(text: &[u8], n: usize) -> (usize, usize) {
     let (length, [start]) = calls::line(text, n);
     (start, length)
 }
+
+/// The version of the library.
+pub fn version() -> u32 {
+    let (version, []) = calls::version();
+    version
+}
+
+#[cfg(test)]
+mod tests {
+    use super::version;
+
+    /// A number that the header defines.
+    fn defined(name: &str) -> u32 {
+        let define = format!("#define BOX_VERSION_{} ", name);
+        let header = include_str!("../../../../include/box.h");
+        let line = header.lines().find_map(|line| line.strip_prefix(&define));
+        line.expect("the header defines it")
+            .parse()
+            .expect("a number")
+    }
+
+    #[test]
+    fn the_library_has_the_version_of_the_header() {
+        let parts = ["MAJOR", "MINOR", "PATCH"].map(defined);
+        assert_eq!(
+            version(),
+            parts.iter().fold(0, |so_far, part| 100 * so_far + part)
+        );
+    }
+}
