@@ -2,14 +2,21 @@
  * A small host of the box: runs a script on a list of turns, tells what came of it, and which objects each thread still reaches; then loads the
  * script and saves it again, as an editor does.
  *
- *     cc -std=c11 -O2 -Iinclude -o host examples/host.c target/staticlib/libhost.a
+ *     cc -std=c11 -O2 -o host examples/host.c $(pkg-config --cflags --libs freezerbox)     where the box is installed
+ *     cc -std=c11 -O2 -Iinclude -o host examples/host.c target/staticlib/libfreezerbox.a   in the box's own folder, after `make`
  *
  *     ./host SCRIPT [TURN ..]
  *
  * SCRIPT is a file that holds a script and no line of turns; each TURN is the number of a thread, 0 to 255. To run an example:
  *
  *     sed '$d' examples/withdraw.box | ./host /dev/stdin 0 0 0 0 0 1
+ *
+ * It exits 0 where the script was run, also where a turn stopped the run: that is an answer of the box, and no failure of the host. It exits 1
+ * where the box refused the script or the turns; and 2 where the system did not let it read the script whole or print all that it had to tell,
+ * which it then says on standard error in the system's own words, or where it was called wrongly.
  */
+#include <errno.h>
+#include <stdarg.h>
 #include <stdint.h>
 #include <stdio.h>
 #include <stdlib.h>
@@ -17,19 +24,39 @@
 
 #include "box.h"
 
+enum { DONE = 0, REFUSED = 1, FAILED = 2 };
+
 /* Words of the program table (docs/LAYOUT.md): the script's edition, and where the blocks' first lines begin. */
 enum { EDITION = 3, BLOCK_STARTS = 8 };
 
 static const char *const end_words[] = {[BOX_FINISHED] = "finished", [BOX_STUCK] = "stuck", [BOX_OPEN] = "open"};
-static const char *const number_words[] = {
-    "", "overlong", "stray byte", "malformed", "over count", "unbound", "self taken", "unfinished", "dangling", "short table", "absent",
-    "no field", "no method", "wrong thing", "permission", "cast", "used up", "no thread", "no script", "alias", "foreign",
-};
 
 /* What is lent to the box. Text and turns have room for one more than the most, so that the box itself refuses what is too long. */
 static uint8_t text[BOX_TEXT_MOST + 1], turns[BOX_TURNS_MOST + 1];
 static uint8_t program[BOX_TABLE_BYTES], state[BOX_TABLE_BYTES], list[BOX_LIST_BYTES], script[BOX_SCRIPT_BYTES];
 static size_t text_len, turns_len;
+
+/* Why standard output could not be written, the first time that it could not; 0 while it can. */
+static int output_error;
+
+static void tell(const char *form, ...)
+{
+    va_list values;
+    va_start(values, form);
+    if (vprintf(form, values) < 0 && output_error == 0)
+        output_error = errno;
+    va_end(values);
+}
+
+/* Much of what is told is written only now, or by the system when the output is closed. */
+static int all_told(void)
+{
+    if (fclose(stdout) != 0 && output_error == 0)
+        output_error = errno;
+    if (output_error != 0)
+        fprintf(stderr, "standard output: %s\n", strerror(output_error));
+    return output_error == 0;
+}
 
 /* Word n of a table or list: two bytes, the low one first. */
 static unsigned word(const uint8_t *table, size_t n)
@@ -42,13 +69,13 @@ static void show_line(size_t n)
 {
     size_t start, length = box_line(text, text_len, n, &start);
     if (length > 0)
-        printf("    %.*s\n", (int)length, (const char *)text + start);
+        tell("    %.*s\n", (int)length, (const char *)text + start);
 }
 
 /* A line of a block counts from the line after its opener. The program table has that line's number, which leaves out a first line `(script 2)`. */
 static void tell_stop(size_t number, size_t thread, size_t block, size_t line, size_t moves)
 {
-    printf("stopped: %zu %s, thread %zu, block %zu, line %zu, after %zu moves\n", number, number_words[number], thread, block, line, moves);
+    tell("stopped: %zu %s, thread %zu, block %zu, line %zu, after %zu moves\n", number, box_word((uint16_t)number), thread, block, line, moves);
     size_t before = word(program, EDITION) == 2 ? 1 : 0;
     show_line(before + word(program, BLOCK_STARTS + block) + line);
 }
@@ -56,7 +83,7 @@ static void tell_stop(size_t number, size_t thread, size_t block, size_t line, s
 /* Of a text that is too long no line is at fault. (Refusal 9, a short table, cannot come here.) */
 static void tell_refusal(size_t number, size_t line)
 {
-    printf("refused: %zu %s, line %zu\n", number, number_words[number], line);
+    tell("refused: %zu %s, line %zu\n", number, box_word((uint16_t)number), line);
     if (number != BOX_OVERLONG)
         show_line(line);
 }
@@ -71,7 +98,7 @@ static uint16_t run(void)
     else if (end == BOX_REFUSED)
         tell_refusal(number, line);
     else
-        printf("%s after %zu moves\n", end_words[end], moves);
+        tell("%s after %zu moves\n", end_words[end], moves);
     return end;
 }
 
@@ -86,10 +113,10 @@ static void reports(void)
 {
     size_t count;
     for (size_t thread = 0; reach(thread, &count) == 0; thread++) {
-        printf("thread %zu reaches %zu", thread, count);
+        tell("thread %zu reaches %zu", thread, count);
         for (size_t n = 0; n < count; n++)
-            printf("%s%u", n == 0 ? ": object " : ", ", word(list, n));
-        putchar('\n');
+            tell("%s%u", n == 0 ? ": object " : ", ", word(list, n));
+        tell("\n");
     }
 }
 
@@ -101,23 +128,28 @@ static int save(void)
     if (number == 0)
         number = box_write(program, sizeof program, script, sizeof script, &length);
     if (number != 0) {
-        printf("not saved: %u %s\n", number, number_words[number]);
-        return 0;
+        tell("not saved: %u %s\n", number, box_word(number));
+        return REFUSED;
     }
     int same = length == text_len && memcmp(script, text, length) == 0;
-    printf("saved: %zu bytes, %s\n", length, same ? "the same as were loaded" : "not those that were loaded");
-    return same;
+    tell("saved: %zu bytes, %s\n", length, same ? "the same as were loaded" : "not those that were loaded");
+    return same ? DONE : REFUSED;
 }
 
+/* Reads the file to its end, or up to one byte more than the most. A read that fails is no end. */
 static int load(const char *name)
 {
     FILE *file = fopen(name, "rb");
-    if (file == NULL)
+    if (file == NULL) {
+        perror(name);
         return 0;
+    }
     text_len = fread(text, 1, sizeof text, file);
-    int read = !ferror(file);
+    int whole = !ferror(file);
+    if (!whole)
+        perror(name);
     fclose(file);
-    return read;
+    return whole;
 }
 
 /* The turns of the command line, up to one more than the most. */
@@ -137,14 +169,18 @@ int main(int argc, char **argv)
 {
     if (argc < 2 || !take_turns(argv + 2)) {
         fprintf(stderr, "usage: %s SCRIPT [TURN ..]\n", argv[0]);
-        return 2;
+        return FAILED;
     }
-    if (!load(argv[1])) {
-        perror(argv[1]);
-        return 2;
+    if (box_version() != BOX_VERSION) {
+        fprintf(stderr, "the library's version is %lu, the header's %lu\n", (unsigned long)box_version(), (unsigned long)BOX_VERSION);
+        return FAILED;
     }
-    if (run() == BOX_REFUSED)
-        return 1;
-    reports();
-    return save() ? 0 : 1;
+    if (!load(argv[1]))
+        return FAILED;
+    int status = REFUSED;
+    if (run() != BOX_REFUSED) {
+        reports();
+        status = save();
+    }
+    return all_told() ? status : FAILED;
 }

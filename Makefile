@@ -1,0 +1,61 @@
+# The freezer box for a system: the library for C hosts, its header, and the programs.
+#
+#   make             proves and builds what is not built yet; it needs rt, and some six minutes on two cores the first time
+#   make install     copies it below PREFIX, /usr/local if none is given, and all of it below DESTDIR where that is given. What is built
+#                    already is not built again, so that root may install what a user has built
+#   make uninstall   removes what install has copied
+#
+# The folders below PREFIX have their usual names, bindir, libdir, includedir and mandir, and may be given too.
+
+# Each has a page, docs/NAME.1.
+PROGRAMS = boxrun
+
+PREFIX ?= /usr/local
+prefix = $(PREFIX)
+exec_prefix = $(prefix)
+bindir = $(exec_prefix)/bin
+libdir = $(exec_prefix)/lib
+pkgconfigdir = $(libdir)/pkgconfig
+includedir = $(prefix)/include
+mandir = $(prefix)/share/man
+INSTALL = install
+
+LIBRARY = target/staticlib/libfreezerbox.a
+VERSION := $(shell awk '/define BOX_VERSION_(MAJOR|MINOR|PATCH) / { printf "%s%s", dot, $$3; dot = "." }' include/box.h)
+SOURCES := crates.txt $(shell find $(wildcard crates/*/src crates/*/specs crates/*/proofs))
+
+# The header has a folder of its own, since other libraries have a box.h too; a host may say "box.h", as in this repository, or <freezerbox/box.h>.
+headers = $(includedir)/freezerbox
+
+all: $(LIBRARY) $(PROGRAMS:%=target/bin/%)
+
+$(LIBRARY): target/staticlib/libhost.a
+	cp $< $@
+
+target/staticlib/libhost.a: $(SOURCES)
+	rt staticlib host
+
+# rt leaves a program as it is where nothing that it is made of has changed.
+$(PROGRAMS:%=target/bin/%): target/bin/%: $(SOURCES)
+	rt check $*
+	touch -c $@
+
+install: all
+	$(INSTALL) -d "$(DESTDIR)$(bindir)" "$(DESTDIR)$(libdir)" "$(DESTDIR)$(pkgconfigdir)" "$(DESTDIR)$(headers)" "$(DESTDIR)$(mandir)/man1"
+	$(INSTALL) -m 755 $(PROGRAMS:%=target/bin/%) "$(DESTDIR)$(bindir)"
+	$(INSTALL) -m 644 $(PROGRAMS:%=docs/%.1) "$(DESTDIR)$(mandir)/man1"
+	$(INSTALL) -m 644 $(LIBRARY) "$(DESTDIR)$(libdir)"
+	$(INSTALL) -m 644 include/box.h "$(DESTDIR)$(headers)"
+	sed -e 's|@prefix@|$(prefix)|' -e 's|@exec_prefix@|$(exec_prefix:$(prefix)=$${prefix})|' -e 's|@libdir@|$(libdir:$(exec_prefix)/%=$${exec_prefix}/%)|' \
+	    -e 's|@includedir@|$(includedir:$(prefix)/%=$${prefix}/%)|' -e 's|@version@|$(VERSION)|' include/freezerbox.pc.in >"$(DESTDIR)$(pkgconfigdir)/freezerbox.pc"
+	chmod 644 "$(DESTDIR)$(pkgconfigdir)/freezerbox.pc"
+
+# The folders that others use too stay.
+uninstall:
+	rm -f $(PROGRAMS:%="$(DESTDIR)$(bindir)/%") $(PROGRAMS:%="$(DESTDIR)$(mandir)/man1/%.1")
+	rm -f "$(DESTDIR)$(libdir)/libfreezerbox.a" "$(DESTDIR)$(pkgconfigdir)/freezerbox.pc" "$(DESTDIR)$(headers)/box.h"
+	test ! -d "$(DESTDIR)$(headers)" || rmdir "$(DESTDIR)$(headers)"
+
+.PHONY: all install uninstall
+# One rt at a time: they write in one folder.
+.NOTPARALLEL:
