@@ -46,8 +46,11 @@ install: all
 	$(INSTALL) -m 644 $(PROGRAMS:%=docs/%.1) "$(DESTDIR)$(mandir)/man1"
 	$(INSTALL) -m 644 $(LIBRARY) "$(DESTDIR)$(libdir)"
 	$(INSTALL) -m 644 include/box.h "$(DESTDIR)$(headers)"
-	sed -e 's|@prefix@|$(prefix)|' -e 's|@exec_prefix@|$(exec_prefix:$(prefix)=$${prefix})|' -e 's|@libdir@|$(libdir:$(exec_prefix)/%=$${exec_prefix}/%)|' \
-	    -e 's|@includedir@|$(includedir:$(prefix)/%=$${prefix}/%)|' -e 's|@version@|$(VERSION)|' include/freezerbox.pc.in >"$(DESTDIR)$(pkgconfigdir)/freezerbox.pc"
+	sed -e 's|@prefix@|$(prefix)|' \
+	    -e 's|@exec_prefix@|$(exec_prefix:$(prefix)=$${prefix})|' \
+	    -e 's|@libdir@|$(libdir:$(exec_prefix)/%=$${exec_prefix}/%)|' \
+	    -e 's|@includedir@|$(includedir:$(prefix)/%=$${prefix}/%)|' \
+	    -e 's|@version@|$(VERSION)|' include/freezerbox.pc.in >"$(DESTDIR)$(pkgconfigdir)/freezerbox.pc"
 	chmod 644 "$(DESTDIR)$(pkgconfigdir)/freezerbox.pc"
 
 # The folders that others use too stay.
