@@ -1,6 +1,6 @@
 # The freezer box for a system: the library for C hosts, its header, and the programs.
 #
-#   make             proves and builds what is not built yet; it needs rt, and some six minutes on two cores the first time
+#   make             proves and builds what is not built yet; it needs rt, and some seven minutes on two cores the first time
 #   make install     copies it below PREFIX, /usr/local if none is given, and all of it below DESTDIR where that is given. What is built
 #                    already is not built again, so that root may install what a user has built
 #   make uninstall   removes what install has copied
@@ -32,7 +32,9 @@ all: $(LIBRARY) $(PROGRAMS:%=target/bin/%)
 $(LIBRARY): target/staticlib/libhost.a
 	cp $< $@
 
+# What the host stands on is proved first, on all cores: rt staticlib would prove one crate after the other.
 target/staticlib/libhost.a: $(SOURCES)
+	rt check $$(sed -n 's/^host: \([^#]*\).*/\1/p' crates.txt)
 	rt staticlib host
 
 # rt leaves a program as it is where nothing that it is made of has changed.
