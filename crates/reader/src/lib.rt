@@ -8,6 +8,7 @@ pub use finder::find_line;
 pub use finder::line_start;
 use linking::first_dangling;
 use scanning::Scan;
+pub use scanning::is_allowed;
 use scanning::scan_lines;
 ghost use mathlib.Core.Path.{_≡_};
 ghost use Prim.Native.Nat.{_≤_};

@@ -21,7 +21,7 @@ pub enum Scan {
 }
 
 // "Bytes are a to z, 0 to 9, brackets, space and LF."
-fn is_allowed(b: u8) -> bool
+pub fn is_allowed(b: u8) -> bool
     ensures { λ r. ⌜ r ≡ allowed b ⌝ }
 {
     match b {

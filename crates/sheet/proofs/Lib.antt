@@ -1,0 +1,4 @@
+-- Why the sheet is what its definition says.
+-- the text of a refusal; capabilities that lines name
+mod RefusalLaws
+mod CapLaws

@@ -1,0 +1,5 @@
+-- The check sheet: what each tick stands on; the sheet as text, byte for byte.
+pub mod Ticks
+pub mod SheetText
+-- what is told of a program table's lines
+pub mod CapLines
