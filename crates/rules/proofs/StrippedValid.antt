@@ -1,10 +1,9 @@
 -- The stripped script is valid where the script is: stripping changes no slot, number, kind or sort, and a copy to unsafe is allowed.
 use Prim.Native.Nat.{ℕ, suc, _+_}
-use mathlib.Core.Path.{_≡_, refl, sym, ap, ap₂, _∙_}
+use mathlib.Core.Path.{_≡_, refl, ap, ap₂, _∙_}
 use mathlib.Core.List.{List, [], _∷_, map}
 use lib.ListN.{length, length-map, List·getD-map}
 use Rattle.rules.specs.declared.Mosts.{Mosts}
-use Rattle.rules.specs.Lists.{Every}
 use Rattle.rules.specs.Script.{Expr, value, field, swap, call, new, cast, spawn, send, recv, copy, Sort, Kind, Block, Program, noBlock, kindAt, blockAt}
 use Rattle.rules.specs.Valid.{IsBlock, IsKind, ExprOk, LetsOk, BlockOk, KindOk, letCount, Valid}
 use Rattle.rules.specs.Stripped.{stripExpr, stripBlock, strip}

@@ -15,7 +15,7 @@ ghost use Rattle.stripping.specs.StrippedTexts.{SaysAgain, StrippedText,
 pub fn make_stripped(text: &[u8], turns: &[u8], p: &mut [u16], s: &mut [u16]) -> Answer
     ensures { λ r. ⌜ MakesStripped (now (text .entry)) (now (turns .entry)) (now (p .entry)) (now (s .entry)) r (now (p .exit)) (now (s .exit)) ⌝ }
 {
-    if 32768 < turns.len() {
+    if 32768 < turns.len() { // before the script's own faults
         return Answer::Refused(rules::numbers::OVERLONG, 0);
     }
     if p.len() < 8192 {

@@ -13,11 +13,11 @@ use borrow.Author.Tests.{ltb-false}
 use Rattle.rules.specs.Mosts.{mosts}
 use Rattle.rules.specs.Forms.{formOf}
 use Rattle.rules.specs.Lists.{pad}
-use Rattle.rules.specs.Script.{Operand, Expr, value, field, swap, call, new, cast, spawn, send, recv, copy, bind, give, thread, method, Kind, Form, kind, opens, line, Block, Program, letLines, blockLines, kindLines, linesOf, blocksOf}
+use Rattle.rules.specs.Script.{Expr, value, field, swap, call, new, cast, spawn, send, recv, copy, bind, give, thread, method, Kind, Form, kind, opens, line, Block, Program, letLines, blockLines, kindLines, linesOf}
 use Rattle.rules.specs.State.{Object, State, objectAt, noObject}
 use Rattle.rules.specs.Turn.{putObjects}
 use Rattle.rules.specs.Stripped.{stripExpr, stripBlock, strip, eraseObject, erase}
-use Rattle.rules.specs.Tables.{unmade, lineWords, row, firstLines, editionWord, programWords, objectWords}
+use Rattle.rules.specs.Tables.{lineWords, row, firstLines, editionWord, programWords, objectWords}
 use Rattle.rules.proofs.ListLaws.{by-bool, below}
 use Rattle.table.specs.ProgramTable.{lineTable, Filled, noForm}
 use Rattle.table.specs.StateTable.{Held, Becomes, Any}
