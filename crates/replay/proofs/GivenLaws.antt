@@ -41,10 +41,13 @@ given-whole input list long = rw (le-ltb (length list) Most.turns long) (go (ltb
     go true x = refl
     go false x = refl
 
-pub prints-told : {input list list₁ : List ℕ} {r : Parts} → Splits input list r list₁ → Most.turns ≤ length list → (x : Parts) → r ≡ x
-    → boxrun mosts input ≡ printedGiven (toldOf x input list₁)
-prints-told {input} {list} {list₁} splits long x e =
-    prints-given input ∙ ap printedGiven (sym (given-whole input list long) ∙ splits .is ∙ ap (λ (r : Parts). toldOf r input list₁) e)
+-- as the code answered it
+module _ {input list list₁ : List ℕ} {r : Parts} (splits : Splits input list r list₁) (long : Most.turns ≤ length list) (x : Parts) (e : r ≡ x) where
+  pub given-told : givenOf input ≡ toldOf x input list₁
+  given-told = sym (given-whole input list long) ∙ splits .is ∙ ap (λ (r : Parts). toldOf r input list₁) e
+
+  pub prints-told : boxrun mosts input ≡ printedGiven (toldOf x input list₁)
+  prints-told = prints-given input ∙ ap printedGiven given-told
 
 -- ---- What it comes to
 

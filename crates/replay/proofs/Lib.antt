@@ -2,4 +2,4 @@
 -- the last line and what stands before it; the turns line; the input taken apart, and what is printed
 mod LastLine
 mod TurnsLine
-mod GivenLaws
+pub mod GivenLaws

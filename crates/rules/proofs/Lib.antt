@@ -14,9 +14,10 @@ pub mod OtherThreads
 pub mod Keeps
 -- a run, turn by turn
 pub mod Runs
--- one turn of the stripped script follows the guarded one; demand 3
+-- one turn of the stripped script follows the guarded one; demand 3; the stripped script is valid
 pub mod Simulation
 pub mod Demand3
+pub mod StrippedValid
 -- a report's list; the numbers of the forms; the words of both tables
 pub mod Rising
 pub mod Reports

@@ -1,8 +1,9 @@
--- A report lists exactly what a thread reaches, in rising order: the objects met, put in that order, are the one such list.
-use Prim.Native.Nat.{ℕ, _<_}
+-- A report lists exactly what a thread reaches, in rising order: the objects met, put in that order, are the one such list. It has no more than were made.
+use Prim.Native.Nat.{ℕ, zero, suc, _≤_, _<_, zero-le}
+use native.Mathlib.Omega.{arith}
 use mathlib.Core.Path.{_≡_}
 use mathlib.Core.Bool.{Bool, true}
-use mathlib.Core.List.{List, [], _∷_}
+use mathlib.Core.List.{List, [], _∷_, append-nil}
 use mathlib.Core.Logic.{_↔_}
 use lib.Dec.{eqb}
 use lib.ListN.{length}
@@ -15,7 +16,7 @@ use Rattle.rules.specs.State.{Object, Frame, Sender, ready, waiting, Sta
 use Rattle.rules.specs.Fits.{InRange, Fits}
 use Rattle.rules.specs.Reach.{ReachedFrom, slotsOf, messageOf, messageOn, sendTarget, putBy, inFlight, roots, Lists, OneList, reachList}
 use Rattle.rules.specs.Walk.{metFrom}
-use Rattle.rules.proofs.ListLaws.{by-bool, every-map, every-append, every-snoc}
+use Rattle.rules.proofs.ListLaws.{by-bool, length-snoc, every-map, every-append, every-snoc}
 use Rattle.rules.proofs.Keeps.{fields-in-range, each-frame, thread-fits, channel-fits}
 use Rattle.rules.proofs.Counts.{times-among, among-times}
 use Rattle.rules.proofs.Rising.{rising-has, rising-holds, rising-rises, rising-one}
@@ -82,3 +83,15 @@ module _ {m : Mosts} {P : Program} {n : ℕ} {S : State} (fits : Fits m P n S) w
       (λ x. ((λ h. met-reached (S .objects) (roots P S t) x .0 (times-among x _ h)), (λ r. among-times x _ (met-reached (S .objects) (roots P S t) x .1 r))))
       (reached-range (roots P S t) (roots-made t)) in
       record { lists = lists; only = λ other l. lists-one l lists }
+
+-- ---- its length
+
+length-rising : (f : ℕ → Bool) (n : ℕ) → length (rising n f) ≤ n
+unfolding rising
+length-rising f zero = zero-le
+length-rising f (suc n) =
+    by-bool (f n) (λ t. rw t (omega (arith, length-rising f n, length-snoc (rising n f) n))) (λ t. rw (t, append-nil (rising n f)) (omega (arith, length-rising f n)))
+
+pub reach-few : (os : List Object) (vs : List Value) → length (reachList os vs) ≤ length os
+unfolding reachList
+reach-few os vs = length-rising (λ x. among x (metFrom os vs)) (length os)

@@ -82,7 +82,7 @@ module _ {p turns s s₁ s₂ : List ℕ} {x : Played} (begun : Starts s s₁) (
 -- ---- In fresh tables
 
 -- few turns: what is left is the reader's
-as-read : (text turns : List ℕ) (short : Bool) → length turns ≤ Most.turns → inputs mosts text turns short ≡ reading mosts (longText text) short text
+pub as-read : (text turns : List ℕ) (short : Bool) → length turns ≤ Most.turns → inputs mosts text turns short ≡ reading mosts (longText text) short text
 unfolding inputs longTurns
 as-read text turns short few = rw (le-ltb _ _ few) (by-bool (longText text) (λ t. rw t) (λ t. rw t))
 

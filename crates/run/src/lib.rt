@@ -36,7 +36,7 @@ pub fn is_refusal(answer: Answer) -> bool
 }
 
 // Plays the turns of a program that was read, in a fresh table.
-fn run_program(p: &[u16], s: &mut [u16], turns: &[u8]) -> Answer
+pub fn run_program(p: &[u16], s: &mut [u16], turns: &[u8]) -> Answer
     requires { ⌜ (8192 ≤ length (now p)) × (8192 ≤ length (now s)) × (length (now turns) ≤ 32768) ⌝ }
     ensures { λ r. ⌜ RunsProgram (now (p .entry)) (now (turns .entry)) (now (s .entry)) r (now (s .exit)) ⌝ }
 {

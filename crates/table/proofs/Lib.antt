@@ -13,3 +13,5 @@ pub mod StateReads
 mod StateMoves
 mod StateRecords
 pub mod StateFrames
+-- both tables stripped
+pub mod StrippedWords

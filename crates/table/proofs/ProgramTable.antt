@@ -1,19 +1,22 @@
 -- The program table's words: where each part stands, and what a write of a line, of an opener or of the counts makes of the table.
-use Prim.Native.Nat.{ℕ, suc, _+_, _*_, _≤_, _<_}
-use native.Mathlib.Nat.{add-zero, zero-add, suc-add, add-suc}
+use Prim.Native.Nat.{ℕ, zero, suc, _+_, _*_, _≤_, _<_}
+use native.Mathlib.Nat.{add-zero, zero-add, suc-add, add-suc, zero-mul, suc-mul, add-comm, add-assoc, le-of-suc-le-suc, not-suc-le-zero}
 use native.Mathlib.Numerals.{add-one}
 use native.Mathlib.Omega.{arith}
 use mathlib.Core.Path.{_≡_, refl, sym, ap, _∙_}
+use mathlib.Core.Bool.{Bool, true, false≢true}
 use mathlib.Core.List.{List, [], _∷_, _++_, append-assoc, append-nil}
-use lib.ListN.{length, getD, set, take, drop, length-append, length-replicate, length-set, List·getD-append}
+use lib.Dec.{eqb}
+use lib.ListN.{length, getD, set, take, drop, length-append, length-replicate, length-set, List·getD-append, List·getD-eq-default}
 use lib.Seq.{set-append-left, sets-eq, take-at}
+use borrow.Author.Tests.{eq-eqb, eqb-true}
 use Rattle.rules.specs.Mosts as Most
 use Rattle.rules.specs.Mosts.{mosts}
 use Rattle.rules.specs.Lists.{pad, cells}
 use Rattle.rules.specs.Script.{Sort, thread, method, Form, kind, opens, line, blocksOf, Program, linesOf}
 use Rattle.rules.specs.Tables.{lineWords, row, firstLines, editionWord, usedProgramWords, programWords}
-use Rattle.rules.proofs.ListLaws.{length-snoc, length-pad, pad-front, length-cells, get-past, set-past, get-cell, cells-snoc, get-pad, set-pad, pad-more, pad-snoc}
-use Rattle.table.specs.ProgramTable.{freshTable, lineTable, Filled, noForm, sortNumber, LineCount, UsedWords}
+use Rattle.rules.proofs.ListLaws.{by-bool, and-true, length-snoc, length-pad, pad-front, length-cells, get-past, set-past, get-cell, cells-snoc, get-pad, set-pad, pad-more, pad-snoc}
+use Rattle.table.specs.ProgramTable.{freshTable, lineTable, Filled, noForm, sortNumber, Same, sameWords, LineCount, UsedWords}
 
 -- eight words written one after the other
 pub eight-set : {A : Type 0} (t : List A) (p : ℕ) (a b c d e f g h : A) → p + 8 ≤ length t
@@ -77,6 +80,30 @@ module _ {t : List ℕ} {n : ℕ} (counted : LineCount t n) where
   pub used-by-lines : UsedWords t (72 + n * 8)
   used-by-lines = record { is = λ counts rest Fs filled lines. used-words-are (72 + n * 8) filled (ap (λ (k : ℕ). 72 + k * 8) (counted .is counts rest Fs filled ∙ lines)) }
 
+-- ---- All words compared
+
+pub same-words-same : (l : List ℕ) → sameWords l l ≡ true
+unfolding sameWords
+same-words-same [] = refl
+same-words-same (x ∷ l) = rw (eq-eqb x x refl) (same-words-same l)
+
+same-words-true : (l k : List ℕ) → sameWords l k ≡ true → l ≡ k
+unfolding sameWords
+same-words-true [] [] h = refl
+same-words-true [] (y ∷ k) h = absurd (false≢true h)
+same-words-true (x ∷ l) [] h = absurd (false≢true h)
+same-words-true (x ∷ l) (y ∷ k) h =
+    let both = and-true (eqb x y) (sameWords l k) h in
+    rw (eqb-true x y (both .0), same-words-true l k (both .1)) refl
+
+-- what a comparison answers is the test
+pub same-is : {t words : List ℕ} {r : Bool} → Same t words r → r ≡ sameWords (take Most.words t) words
+same-is {t} {words} {r} told = by-bool r
+    (λ yes. yes ∙ sym (rw (told .same yes) (same-words-same words)))
+    (λ no. by-bool (sameWords (take Most.words t) words)
+    (λ same. absurd (told .other no (same-words-true (take Most.words t) words same)))
+    (λ other. no ∙ sym other))
+
 -- ---- The first lines of blocks
 
 first-lines-append : (n : ℕ) (Fs Gs : List Form) → firstLines n (Fs ++ Gs) ≡ firstLines n Fs ++ firstLines (n + length Fs) Gs
@@ -126,6 +153,11 @@ module _ {t counts rest : List ℕ} {Fs : List Form} (filled : Filled t counts F
       ∙ get-past (pad 8 0 counts) _ 8 (64 + (n * 8 + k)) 0 (length-pad 8 0 counts)
       ∙ get-past (pad (mosts .blocks) 0 (firstLines 0 Fs)) _ 64 (n * 8 + k) 0 (length-pad (mosts .blocks) 0 (firstLines 0 Fs))
       ∙ get-cell row 8 row-length Fs noForm n k h l
+
+  -- past the last line there are zeros
+  pub past-lines : (n i : ℕ) → length Fs ≤ n → n < 672 → i ≡ 72 + n * 8 → getD t i 0 ≡ 0
+  past-lines n i h few e =
+      used-word i (omega arith) ∙ List·getD-eq-default (usedWords counts Fs) 0 (omega (arith, used-length counts Fs))
 
   pub first-line-is : (b : ℕ) → b < mosts .blocks → getD t (8 + b) 0 ≡ getD (firstLines 0 Fs) b 0
   unfolding usedWords
@@ -221,3 +253,49 @@ counts-added {t} {rest} {Fs} filled kinds blocks lines edition t′ e =
       lines = filled .lines;
       blocks = filled .blocks;
     }
+
+-- ---- A word of a line
+
+-- of record i
+set-cell : {A : Type 0} (f : A → List ℕ) (w : ℕ) → ((a : A) → length (f a) ≡ w) → (xs : List A) (d : A) (i j v : ℕ) (x : A)
+    → i < length xs → j < w → set (f (getD xs i d)) j v ≡ f x → set (cells f xs) (i * w + j) v ≡ cells f (set xs i x)
+unfolding cells
+set-cell f w e [] d i j v x hi hj becomes = absurd (not-suc-le-zero hi)
+set-cell f w e (y ∷ xs) d zero j v x hi hj becomes =
+    rw (zero-mul w, zero-add j) (set-append-left (f y) (cells f xs) j v (rw (e y) hj) ∙ ap (λ (l : List ℕ). l ++ cells f xs) becomes)
+set-cell f w e (y ∷ xs) d (suc i) j v x hi hj becomes =
+    rw (suc-mul i w, add-comm (i * w) w, add-assoc w (i * w) j)
+    (set-past (f y) (cells f xs) w (i * w + j) v (e y) ∙ ap (f y ++_) (set-cell f w e xs d i j v x (le-of-suc-le-suc hi) hj becomes))
+
+-- a line in another's place, before which and after which the blocks are the same
+first-lines-set : (Fs : List Form) (n m : ℕ) (G : Form) → ((k : ℕ) (Gs : List Form) → firstLines k (G ∷ Gs) ≡ firstLines k (getD Fs n noForm ∷ Gs))
+    → firstLines m (set Fs n G) ≡ firstLines m Fs
+unfolding firstLines
+first-lines-set [] n m G same = refl
+first-lines-set (F ∷ Fs) zero m G same = same m Fs
+first-lines-set (kind K ∷ Fs) (suc n) m G same = first-lines-set Fs n (suc m) G same
+first-lines-set (opens o ∷ Fs) (suc n) m G same = ap (suc m ∷_) (first-lines-set Fs n (suc m) G same)
+first-lines-set (line x ∷ Fs) (suc n) m G same = first-lines-set Fs n (suc m) G same
+
+module _ {t counts rest : List ℕ} {Fs : List Form} (filled : Filled t counts Fs rest) where
+  -- word k of line n written, with which it is G
+  pub line-word-set : (n k i v : ℕ) (G : Form) → n < length Fs → k < 8 → i ≡ 72 + n * 8 + k → set (row (getD Fs n noForm)) k v ≡ row G
+      → ((m : ℕ) (Gs : List Form) → firstLines m (G ∷ Gs) ≡ firstLines m (getD Fs n noForm ∷ Gs)) → Filled (set t i v) counts (set Fs n G) rest
+  unfolding usedWords
+  line-word-set n k i v G there low e becomes same =
+      let firsts = first-lines-set Fs n 0 G same in
+      let head = pad 8 0 counts in
+      let blocks = pad (mosts .blocks) 0 (firstLines 0 Fs) in
+      let place : i ≡ 8 + (64 + (n * 8 + k)) = omega arith in
+      let written : set (usedWords counts Fs) i v ≡ usedWords counts (set Fs n G) =
+      ap (λ j. set (head ++ (blocks ++ cells row Fs)) j v) place ∙ set-past head (blocks ++ cells row Fs) 8 (64 + (n * 8 + k)) v (length-pad 8 0 counts)
+      ∙ ap (head ++_) (set-past blocks (cells row Fs) 64 (n * 8 + k) v (length-pad (mosts .blocks) 0 (firstLines 0 Fs)) ∙ ap (blocks ++_) (set-cell row 8 row-length Fs noForm n k v G there low becomes))
+      ∙ rw firsts in
+      record {
+        words =
+            ap (λ l. set l i v) (table-words filled)
+            ∙ used-set (usedWords counts Fs) rest i v (omega (arith, used-length counts Fs, filled .lines)) (omega (arith, used-length counts Fs))
+            ∙ rw (written, table-is counts (set Fs n G));
+        lines = omega (arith, length-set Fs n G, filled .lines);
+        blocks = omega (arith, first-lines-length 0 (set Fs n G), ap length firsts, first-lines-length 0 Fs, filled .blocks);
+      }

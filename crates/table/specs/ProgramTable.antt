@@ -1,8 +1,9 @@
 -- The program table by its lines, while it is filled and when it is full; and what each accessor says of the abstract program.
 use Prim.Native.Nat.{ℕ, suc, _≤_, _<_}
 use mathlib.Core.Path.{_≡_}
-use mathlib.Core.Bool.{Bool, true, false}
+use mathlib.Core.Bool.{Bool, true, false, _&&_}
 use mathlib.Core.List.{List, [], _∷_, _++_, map}
+use lib.Dec.{eqb}
 use lib.ListN.{length, getD, take, replicate}
 use Rattle.rules.specs.declared.forms.Form.the-variants as N
 use Rattle.rules.specs.Forms.{formNumber}
@@ -52,6 +53,13 @@ pub record Counted (kinds blocks lines edition : ℕ) (t t′ : List ℕ) : Type
 pub record Same (t words : List ℕ) (r : Bool) : Type 0 where
   pub same : r ≡ true → take Most.words t ≡ words
   pub other : r ≡ false → take Most.words t ≡ words → ⊥
+
+-- the same as a test
+unfoldable pub sameWords : List ℕ → List ℕ → Bool
+sameWords [] [] = true
+sameWords [] (y ∷ ys) = false
+sameWords (x ∷ xs) [] = false
+sameWords (x ∷ xs) (y ∷ ys) = eqb x y && sameWords xs ys
 
 -- by lines of the text
 pub record LineCount (t : List ℕ) (r : ℕ) : Type 0 where

@@ -1,6 +1,7 @@
 // The two tables: the only code that knows where a word stands. Everything above it speaks of the abstract program and state.
 mod program;
 mod state;
+mod stripped;
 
 pub use program::add_line;
 pub use program::add_opener;
@@ -50,3 +51,5 @@ pub use state::start_state;
 pub use state::start_thread;
 pub use state::store_field;
 pub use state::thread_count;
+pub use stripped::erase_state;
+pub use stripped::strip_program;

@@ -15,6 +15,6 @@ mod Copies
 -- a message is its sender's until it is received
 mod LaterStates
 mod InFlight
--- a report fits its list, and capabilities play no part in it
+-- capabilities play no part in a report
 mod ReportLaws
 mod Theorems

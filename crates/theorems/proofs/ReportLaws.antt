@@ -1,31 +1,17 @@
--- A report lists no more objects than were made, and capabilities play no part in it.
-use Prim.Native.Nat.{ℕ, zero, suc, _≤_, zero-le}
-use native.Mathlib.Omega.{arith}
+-- Capabilities play no part in a report: a thread reaches the same objects in the erased state of the stripped script.
+use Prim.Native.Nat.{ℕ}
 use mathlib.Core.Path.{_≡_, refl, ap}
-use mathlib.Core.Bool.{Bool}
-use mathlib.Core.List.{List, [], _∷_, _++_, append-nil}
+use mathlib.Core.List.{List, [], _∷_, _++_}
 use lib.ListN.{length, length-map}
 use Rattle.rules.specs.declared.Value.{Value}
 use Rattle.rules.specs.declared.Value.the-variants.{Absent, Obj, Chan}
 use Rattle.rules.specs.Lists.{rising, among}
 use Rattle.rules.specs.Script.{Program, value, field, swap, call, new, cast, spawn, send, recv, copy, Line, bind, give, lineAt}
-use Rattle.rules.specs.State.{Object, Frame, Sender, ready, waiting, State, threadAt, channelAt}
-use Rattle.rules.specs.Walk.{metFrom}
+use Rattle.rules.specs.State.{Frame, Sender, ready, waiting, State, threadAt, channelAt}
 use Rattle.rules.specs.Stripped.{stripExpr, strip, eraseObject, erase}
 use Rattle.rules.specs.Reach.{slotsOf, messageOn, sendTarget, putBy, inFlight, roots, reachList}
-use Rattle.rules.proofs.ListLaws.{by-bool, length-snoc}
 use Rattle.rules.proofs.Walks.{met-erased}
 use Rattle.rules.proofs.Simulation.{stripLine, lineAt-stripped}
-
-length-rising : (f : ℕ → Bool) (n : ℕ) → length (rising n f) ≤ n
-unfolding rising
-length-rising f zero = zero-le
-length-rising f (suc n) =
-    by-bool (f n) (λ t. rw t (omega (arith, length-rising f n, length-snoc (rising n f) n))) (λ t. rw (t, append-nil (rising n f)) (omega (arith, length-rising f n)))
-
-pub reach-few : (os : List Object) (vs : List Value) → length (reachList os vs) ≤ length os
-unfolding reachList
-reach-few os vs = length-rising (λ x. among x (metFrom os vs)) (length os)
 
 -- a send stays what it is
 send-stripped : (x : Line) (vs : List Value) → sendTarget (stripLine x) vs ≡ sendTarget x vs

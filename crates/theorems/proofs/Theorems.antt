@@ -25,10 +25,9 @@ use Rattle.rules.specs.Writer.{ComesBack}
 use Rattle.rules.proofs.Accepted.{accepted-valid, accepted-prints}
 use Rattle.rules.proofs.Keeps.{keeps-run, moves-few, fits-run}
 use Rattle.rules.proofs.Demand3.{stripped-matches}
-use Rattle.rules.proofs.Reports.{reach-lists}
+use Rattle.rules.proofs.Reports.{reach-few, reach-lists}
 use Rattle.rules.proofs.Writer.{comes-back}
 use Rattle.theorems.proofs.SmallWords.{In16Bits, program-words-small, state-words-small}
-use Rattle.theorems.proofs.ReportLaws.{reach-few}
 use Rattle.theorems.proofs.Copies.{copy-turn}
 use Rattle.theorems.proofs.InFlight.{senders-keep}
 

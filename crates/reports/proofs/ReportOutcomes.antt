@@ -1,0 +1,105 @@
+-- What a report answers is printed as it stands: a refusal by its line, the objects that the list holds by theirs.
+use Prim.Native.Nat.{ℕ, _%_, _≤_}
+use native.Mathlib.Omega.{arith}
+use native.Mathlib.Nat.{mod-eq-of-lt}
+use mathlib.Core.Path.{_≡_, refl, sym, ap, _∙_}
+use mathlib.Core.Bool.{Bool, true, false}
+use mathlib.Core.List.{List, _++_, append-assoc}
+use lib.Dec.{ltb}
+use lib.ListN.{length, take, drop}
+use lib.Seq.{take-at}
+use borrow.Author.Tests.{le-ltb, ltb-false}
+use Rattle.rules.specs.Mosts as Most
+use Rattle.rules.specs.Mosts.{mosts}
+use Rattle.rules.specs.Script.{Program}
+use Rattle.rules.specs.State.{State}
+use Rattle.rules.specs.Reading.{Reading, turnedAway, accepted}
+use Rattle.rules.specs.Run.{refused, run}
+use Rattle.rules.specs.Reach.{roots, reachList}
+use Rattle.rules.specs.Calls.{longText, longTurns, shortTable, inputs, lentInputs, reachCall, Report, unreported, reached, reportOn, reachReport, listWords, listAfter}
+use Rattle.rules.specs.Listing.{answerLine}
+use Rattle.rules.proofs.ListLaws.{impossible, or-false, pad-front}
+use Rattle.rules.proofs.Accepted.{accepted-valid, reading-accepted}
+use Rattle.rules.proofs.Keeps.{fits-run}
+use Rattle.rules.proofs.Reports.{reach-few}
+use Rattle.reach.specs.declared.Report as R
+use Rattle.reach.specs.declared.Report.the-variants as T
+use Rattle.reach.specs.Reported.{reportOf, Reports, Reached}
+use Rattle.replay.specs.declared.Parts.{Parts}
+use Rattle.replay.specs.Given.{toldOf, Splits}
+use Rattle.replay.proofs.GivenLaws.{given-told}
+use Rattle.reports.specs.ReachedLines.{reachedLine, reported, reportText, reachedGiven, reachedText}
+
+-- ---- The inputs
+
+none-short : (text turns program state list : List ℕ) → length program ≡ Most.words → length state ≡ Most.words → length list ≡ Most.reachList
+    → reachCall mosts text turns program state list ≡ inputs mosts text turns false
+unfolding reachCall lentInputs shortTable
+none-short text turns program state list program-long state-long list-long =
+    rw (le-ltb (length program) Most.words (omega arith), le-ltb (length state) Most.words (omega arith), le-ltb (length list) Most.reachList (omega arith)) refl
+
+pub the-report : (text turns : List ℕ) {program state list program₁ state₁ list₁ : List ℕ} {t : ℕ} {r : R.Report}
+    → Reached (reachCall mosts text turns program state list) turns t program state list r program₁ state₁ list₁
+    → length program ≡ Most.words → length state ≡ Most.words → length list ≡ Most.reachList → Reports (reachReport mosts turns t (inputs mosts text turns false)) list r list₁
+the-report text turns {program} {state} {list} told program-long state-long list-long =
+    rw (none-short text turns program state list program-long state-long list-long) at (told .report)
+
+-- ---- What is printed of it
+
+refused-report : (x : Report) {k n : ℕ} → T.Refused k n ≡ reportOf x → answerLine (refused k n) ≡ reported x
+refused-report (unreported i j) {k} {n} e =
+    let number : k ≡ i = cc in
+    let line : n ≡ j = cc in
+    rw (number, line) refl
+refused-report (reached objects) e = impossible cc
+
+record IsReached (x : Report) (n : ℕ) : Type 0 where
+  objects : List ℕ
+  is : x ≡ reached objects
+  many : n ≡ length objects
+
+reached-report : (x : Report) {n : ℕ} → T.Reached n ≡ reportOf x → IsReached x n
+reached-report (unreported i j) e = impossible cc
+reached-report (reached objects) e = record { objects = objects; is = refl; many = cc }
+
+-- a report has no more objects than a run makes
+few-on : (P : Program) (S : State) (t : ℕ) (b : Bool) → length (S .objects) ≤ mosts .objects → (objects : List ℕ) → reportOn P S t b ≡ reached objects → length objects ≤ Most.reachList
+few-on P S t true few objects e =
+    let same : reachList (S .objects) (roots P S t) ≡ objects = cc in
+    omega (arith, reach-few (S .objects) (roots P S t), ap length same)
+few-on P S t false few objects e = impossible cc
+
+few-of : (text turns : List ℕ) (t : ℕ) (C : Reading) → inputs mosts text turns false ≡ C → (objects : List ℕ) → reachReport mosts turns t C ≡ reached objects
+    → length objects ≤ Most.reachList
+unfolding inputs longTurns
+few-of text turns t (turnedAway k n) is objects e = impossible cc
+few-of text turns t (accepted P) is objects e =
+    let so = reading-accepted mosts _ _ text P is in
+    let valid = accepted-valid mosts text P (so .2) in
+    let fits = fits-run P turns valid (ltb-false Most.turns (length turns) (or-false (longText text) _ (so .0) .1)) in
+    few-on P (run mosts P turns .state) t (ltb t (length (run mosts P turns .state .threads))) (fits .few-objects) objects e
+
+module _ (text turns : List ℕ) (t : ℕ) {list list₁ : List ℕ} {r : R.Report} (told : Reports (reachReport mosts turns t (inputs mosts text turns false)) list r list₁) where
+  pub refusal-printed : {k n : ℕ} → r ≡ T.Refused k n → reportText text turns t ≡ answerLine (refused k n)
+  unfolding reportText
+  refusal-printed is = sym (refused-report (reachReport mosts turns t (inputs mosts text turns false)) (sym is ∙ told .answers))
+
+  pub objects-printed : {n : ℕ} → r ≡ T.Reached n → reachedLine (take (n % 257) list₁) ≡ reportText text turns t
+  unfolding reportText
+  objects-printed {n} is =
+      let of = reached-report (reachReport mosts turns t (inputs mosts text turns false)) (sym is ∙ told .answers) in
+      let objects : List ℕ = of .objects in
+      let few : length objects ≤ Most.reachList = few-of text turns t (inputs mosts text turns false) refl objects (of .is) in
+      let count : n % 257 ≡ length objects = mod-eq-of-lt (omega (arith, of .many)) ∙ of .many in
+      let rest : List ℕ = drop Most.reachList list in
+      let after : list₁ ≡ listWords objects ++ rest = told .leaves ∙ ap (λ (x : Report). listAfter x list) (of .is) in
+      let front : take (n % 257) list₁ ≡ objects =
+      ap (take (n % 257)) (after ∙ ap (λ (l : List ℕ). l ++ rest) (pad-front Most.reachList 0 objects few) ∙ append-assoc objects _ rest) ∙ take-at objects _ (n % 257) (sym count) in
+      ap reachedLine front ∙ sym (ap reported (of .is))
+
+-- ---- An input, as the code takes it apart
+
+pub text-told : {input list list₁ : List ℕ} {parts : Parts} → Splits input list parts list₁ → Most.turns ≤ length list → (t : ℕ) (x : Parts) → parts ≡ x
+    → reachedText input t ≡ reachedGiven t (toldOf x input list₁)
+unfolding reachedText
+text-told splits long t x is = ap (reachedGiven t) (given-told splits long x is)

@@ -1,0 +1,2 @@
+-- What the printed reports say.
+pub mod ReachedLines
