@@ -1,7 +1,6 @@
 -- What a report answers is printed as it stands: a refusal by its line, the objects that the list holds by theirs.
-use Prim.Native.Nat.{ℕ, _%_, _≤_}
+use Prim.Native.Nat.{ℕ, _≤_}
 use native.Mathlib.Omega.{arith}
-use native.Mathlib.Nat.{mod-eq-of-lt}
 use mathlib.Core.Path.{_≡_, refl, sym, ap, _∙_}
 use mathlib.Core.Bool.{Bool, true, false}
 use mathlib.Core.List.{List, _++_, append-assoc}
@@ -84,17 +83,25 @@ module _ (text turns : List ℕ) (t : ℕ) {list list₁ : List ℕ} {r : R.Repo
   unfolding reportText
   refusal-printed is = sym (refused-report (reachReport mosts turns t (inputs mosts text turns false)) (sym is ∙ told .answers))
 
-  pub objects-printed : {n : ℕ} → r ≡ T.Reached n → reachedLine (take (n % 257) list₁) ≡ reportText text turns t
+  reached-is : {n : ℕ} → r ≡ T.Reached n → IsReached (reachReport mosts turns t (inputs mosts text turns false)) n
+  reached-is is = reached-report (reachReport mosts turns t (inputs mosts text turns false)) (sym is ∙ told .answers)
+
+  pub few-reached : {n : ℕ} → r ≡ T.Reached n → n ≤ Most.reachList
+  few-reached is =
+      let of = reached-is is in
+      omega (arith, of .many, few-of text turns t (inputs mosts text turns false) refl (of .objects) (of .is))
+
+  -- the first of the list are the objects
+  pub objects-printed : {n : ℕ} → r ≡ T.Reached n → (k : ℕ) → k ≡ n → reachedLine (take k list₁) ≡ reportText text turns t
   unfolding reportText
-  objects-printed {n} is =
-      let of = reached-report (reachReport mosts turns t (inputs mosts text turns false)) (sym is ∙ told .answers) in
+  objects-printed is k all =
+      let of = reached-is is in
       let objects : List ℕ = of .objects in
-      let few : length objects ≤ Most.reachList = few-of text turns t (inputs mosts text turns false) refl objects (of .is) in
-      let count : n % 257 ≡ length objects = mod-eq-of-lt (omega (arith, of .many)) ∙ of .many in
+      let few : length objects ≤ Most.reachList = omega (arith, of .many, few-reached is) in
       let rest : List ℕ = drop Most.reachList list in
       let after : list₁ ≡ listWords objects ++ rest = told .leaves ∙ ap (λ (x : Report). listAfter x list) (of .is) in
-      let front : take (n % 257) list₁ ≡ objects =
-      ap (take (n % 257)) (after ∙ ap (λ (l : List ℕ). l ++ rest) (pad-front Most.reachList 0 objects few) ∙ append-assoc objects _ rest) ∙ take-at objects _ (n % 257) (sym count) in
+      let front : take k list₁ ≡ objects =
+      ap (take k) (after ∙ ap (λ (l : List ℕ). l ++ rest) (pad-front Most.reachList 0 objects few) ∙ append-assoc objects _ rest) ∙ take-at objects _ k (sym (all ∙ of .many)) in
       ap reachedLine front ∙ sym (ap reported (of .is))
 
 -- ---- An input, as the code takes it apart

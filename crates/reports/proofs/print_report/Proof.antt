@@ -1,10 +1,11 @@
 -- `reports::print_report` meets its contract: its own tables and list are long enough, and a report has no more objects than the list has room for.
+use native.Mathlib.Nat.{mod-eq-of-lt}
 use native.Mathlib.Omega.{arith}
 use denote.Ref.{now}
 use Rattle.buffer.proofs.Appends.{same-text}
 use Rattle.listing.proofs.PrintOutcomes.{in-output}
 use Rattle.reports.specs.ReachedLines.{reportText}
-use Rattle.reports.proofs.ReportOutcomes.{the-report, refusal-printed, objects-printed}
+use Rattle.reports.proofs.ReportOutcomes.{the-report, refusal-printed, few-reached, objects-printed}
 use borrow.Author.Needs.{needs}
 use Rattle.reports.proofs.print_report.Statement.{statement}
 use Rattle.reports.proofs.print_report.Tie as tie
@@ -60,7 +61,9 @@ returns-2 c =
     let start = at-reach .before .before .before .before .before .before .before in
     let a = start .args in
     let told = the-report (now (a .text)) (now (a .turns)) (at-reach .reach .ensures) (search needs) (search needs) (search needs) in
-    let x = in-output (reportText (now (a .text)) (now (a .turns)) (a .thread)) (search needs) (same-text 1546 (objects-printed (now (a .text)) (now (a .turns)) (a .thread) told (at-report2 .report2 .given .1)) (omega arith) (at-put-reached .put-reached .ensures)) in
+    let is = at-report2 .report2 .given .1 in
+    let few = few-reached (now (a .text)) (now (a .turns)) (a .thread) told is in
+    let x = in-output (reportText (now (a .text)) (now (a .turns)) (a .thread)) (search needs) (same-text 1546 (objects-printed (now (a .text)) (now (a .turns)) (a .thread) told is _ (mod-eq-of-lt (omega (arith, few)))) (omega arith) (at-put-reached .put-reached .ensures)) in
     (x .answers, x .leaves)
 
 pub print-report-spec : {M : Type 1} → statement M
