@@ -3,7 +3,7 @@ mod answers;
 mod state_lines;
 mod values;
 
-use answers::put_answer;
+pub use answers::put_answer;
 use answers::put_refused;
 use state_lines::put_state;
 ghost use mathlib.Core.Path.{_≡_};

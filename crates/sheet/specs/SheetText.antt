@@ -12,11 +12,16 @@ use Rattle.rules.specs.Text.{bytes, space, lf, allowed, lines, findLine, startO
 use Rattle.rules.specs.Templates.{decimal, printMany}
 use Rattle.rules.specs.Script.{Program, linesOf}
 use Rattle.rules.specs.Reading.{Reading, turnedAway, accepted, linesBefore}
-use Rattle.rules.specs.Listing.{answerLine}
 use Rattle.buffer.specs.Writing.{numberPart}
-use Rattle.replay.specs.Given.{Given, away, faulty, given}
+use Rattle.run.specs.declared.Answer as Run
+use Rattle.run.specs.RunAnswers.{answerOf}
+use Rattle.listing.specs.Outputs.{answerText, outputBytes}
+use Rattle.replay.specs.Given.{Given, away, faulty, given, givenOf}
 use Rattle.tally.specs.Fates.{rows, tally, played}
-use Rattle.sheet.specs.Ticks.{readingOf, making, naming, guardsChangeNothing, guardedAnswer, strippedAnswer}
+use Rattle.stripping.specs.StrippedRuns.{guardsChangeNothing}
+use Rattle.sheet.specs.declared.Checked.{Checked}
+use Rattle.sheet.specs.declared.Checked.the-variants.{Refused, Sheet}
+use Rattle.sheet.specs.Ticks.{readingOf, making, naming, guardedAnswer, strippedAnswer}
 
 -- ---- Ticks
 
@@ -120,33 +125,42 @@ turnsRefusal k n input = refusal k n input ++ turnsHint (endsInCr n input) (unen
 abbrev pub lineCount : Program → ℕ
 lineCount P = length (linesOf P) + linesBefore (P .edition)
 
+unfoldable pub readText : Program → List ℕ
+readText P = tick true titleOne ++ (bytes "      " ++ (numberPart (lineCount P) ++ bytes " lines\n"))
+
 unfoldable pub partOne : Reading → List ℕ → List ℕ
 partOne (turnedAway k n) text = tick false titleOne ++ scriptRefusal k n text
-partOne (accepted P) text = tick true titleOne ++ (bytes "      " ++ (numberPart (lineCount P) ++ bytes " lines\n"))
+partOne (accepted P) text = readText P
 
 -- ---- 2
 
+abbrev pub capPart : S.String → ℕ → List ℕ
+capPart w n = bytes w ++ numberPart n
+
+unfoldable pub capText : (imm iso local free : ℕ) → List ℕ
+capText a b c d = capPart "       lines that make records: imm" a ++ (capPart ", iso" b ++ (capPart ", local" c ++ (capPart ", unsafe" d ++ bytes "\n")))
+
 unfoldable pub capCounts : Program → List ℕ
-capCounts P =
-    let Fs = linesOf P in
-    bytes "       lines that make records: imm" ++ (numberPart (making 1 Fs) ++ (bytes ", iso" ++ (numberPart (making 2 Fs)
-    ++ (bytes ", local" ++ (numberPart (making 3 Fs) ++ (bytes ", unsafe" ++ (numberPart (making 4 Fs) ++ bytes "\n")))))))
+capCounts P = let Fs = linesOf P in capText (making 1 Fs) (making 2 Fs) (making 3 Fs) (making 4 Fs)
 
 abbrev pub namesOrNone : List ℕ → List ℕ
 namesOrNone [] = bytes " none"
 namesOrNone (n ∷ ns) = printMany decimal (n ∷ ns)
 
-unfoldable pub namingText : List ℕ → List ℕ
-namingText ns = bytes "       lines that name unsafe:" ++ (namesOrNone ns ++ bytes "\n")
+unfoldable pub namingOf : Program → List ℕ
+namingOf P = bytes "       lines that name unsafe:" ++ (namesOrNone (naming 4 (linesBefore (P .edition)) (linesOf P)) ++ bytes "\n")
+
+unfoldable pub twoText : Program → List ℕ
+twoText P = tick true titleTwo ++ (capCounts P ++ namingOf P)
 
 unfoldable pub partTwo : Reading → List ℕ
 partTwo (turnedAway k n) = unexamined titleTwo
-partTwo (accepted P) = tick true titleTwo ++ (capCounts P ++ namingText (naming 4 (linesBefore (P .edition)) (linesOf P)))
+partTwo (accepted P) = twoText P
 
 -- ---- 3
 
-abbrev pub turnCount : List ℕ → List ℕ
-turnCount ts = bytes "      " ++ (numberPart (length ts) ++ bytes " turns\n")
+abbrev pub turnCount : ℕ → List ℕ
+turnCount n = bytes "      " ++ (numberPart n ++ bytes " turns\n")
 
 -- turns that are played, turns that are not
 unfoldable pub playedText : ℕ → ℕ → ℕ → List ℕ
@@ -173,17 +187,24 @@ unfoldable pub rowsText : List ℕ → ℕ → List ℕ
 rowsText counts zero = []
 rowsText counts (suc n) = rowsText counts n ++ rowText counts n
 
+-- of a list that is filed, by its length and its counts
+unfoldable pub threeText : ℕ → List ℕ → List ℕ
+threeText n counts = tick true titleThree ++ (turnCount n ++ rowsText counts rows)
+
 -- ---- 4
 
 abbrev pub wordsText : Bool → List ℕ
 wordsText true = bytes "       the same words, capabilities aside, after"
 wordsText false = bytes "       other words, capabilities aside, after"
 
+unfoldable pub comparedText : (same : Bool) → (turns : ℕ) → List ℕ
+comparedText b n = wordsText b ++ (numberPart n ++ bytes " turns\n")
+
+unfoldable pub fourText : (guarded stripped : Run.Answer) → (same : Bool) → (turns : ℕ) → List ℕ
+fourText g r b n = tick b titleFour ++ (bytes "       with guards: " ++ (answerText g ++ (bytes "       without:     " ++ (answerText r ++ comparedText b n))))
+
 unfoldable pub partFour : Program → List ℕ → List ℕ
-partFour P ts =
-    let stands = guardsChangeNothing P ts in
-    tick stands titleFour ++ (bytes "       with guards: " ++ (answerLine (guardedAnswer P ts) ++ (bytes "       without:     " ++ (answerLine (strippedAnswer P ts)
-    ++ (wordsText stands ++ (numberPart (played mosts P ts) ++ bytes " turns\n"))))))
+partFour P ts = fourText (answerOf (guardedAnswer P ts)) (answerOf (strippedAnswer P ts)) (guardsChangeNothing P ts) (played mosts P ts)
 
 -- ---- The sheet
 
@@ -191,27 +212,52 @@ abbrev pub verdict : Bool → List ℕ
 verdict true = bytes "\nVerdict: all four conditions hold\n"
 verdict false = bytes "\nVerdict: not all four conditions hold\n"
 
+-- what follows a refused script, and a text that was not looked at
+unfoldable pub refusedEnd : ℕ → List ℕ
+refusedEnd n = unexamined titleTwo ++ (tick true titleThree ++ (turnCount n ++ (unexamined titleFour ++ verdict false)))
+
+unfoldable pub unreadEnd : List ℕ
+unreadEnd = unexamined titleTwo ++ (unexamined titleThree ++ (unexamined titleFour ++ verdict false))
+
 -- with a list of turns that is filed
 unfoldable pub filedSheet : Reading → (text turns : List ℕ) → List ℕ
-filedSheet (turnedAway k n) text ts =
-    partOne (turnedAway k n) text ++ (unexamined titleTwo ++ (tick true titleThree ++ (turnCount ts ++ (unexamined titleFour ++ verdict false))))
-filedSheet (accepted P) text ts =
-    partOne (accepted P) text ++ (partTwo (accepted P) ++ (tick true titleThree ++ (turnCount ts ++ (rowsText (tally mosts P ts) rows
-    ++ (partFour P ts ++ verdict (guardsChangeNothing P ts))))))
+filedSheet (turnedAway k n) text ts = partOne (turnedAway k n) text ++ refusedEnd (length ts)
+filedSheet (accepted P) text ts = readText P ++ (twoText P ++ (threeText (length ts) (tally mosts P ts) ++ (partFour P ts ++ verdict (guardsChangeNothing P ts))))
 
 -- with a last line that has a fault, which is a line of the whole input
-unfoldable pub faultySheet : Reading → (text : List ℕ) → (number line : ℕ) → (input : List ℕ) → List ℕ
-faultySheet R text k n input =
-    partOne R text ++ (partTwo R ++ (tick false titleThree ++ (turnsRefusal k n input ++ (unexamined titleFour ++ verdict false))))
+unfoldable pub faultyEnd : (number line : ℕ) → (input : List ℕ) → List ℕ
+faultyEnd k n input = tick false titleThree ++ (turnsRefusal k n input ++ (unexamined titleFour ++ verdict false))
 
-unfoldable pub sheetBy : (input : List ℕ) → Given → List ℕ
-sheetBy input (away k) =
-    heading ++ (tick false titleOne ++ (scriptRefusal k 0 [] ++ (unexamined titleTwo ++ (unexamined titleThree ++ (unexamined titleFour ++ verdict false)))))
+unfoldable pub faultySheet : Reading → (text : List ℕ) → (number line : ℕ) → (input : List ℕ) → List ℕ
+faultySheet R text k n input = partOne R text ++ (partTwo R ++ faultyEnd k n input)
+
+-- of an input that is too long
+unfoldable pub awaySheet : (number : ℕ) → List ℕ
+awaySheet k = partOne (turnedAway k 0) [] ++ unreadEnd
+
+abbrev pub sheetBy : (input : List ℕ) → Given → List ℕ
+sheetBy input (away k) = heading ++ awaySheet k
 sheetBy input (faulty text k n) = heading ++ faultySheet (readingOf text) text k n input
 sheetBy input (given text ts) = heading ++ filedSheet (readingOf text) text ts
 
 -- whether all four stand
-unfoldable pub holdsBy : Given → Bool
+abbrev pub holdsFiled : Reading → (turns : List ℕ) → Bool
+holdsFiled (turnedAway k n) ts = false
+holdsFiled (accepted P) ts = guardsChangeNothing P ts
+
+abbrev pub holdsBy : Given → Bool
 holdsBy (away k) = false
 holdsBy (faulty text k n) = false
-holdsBy (given text ts) = elim (readingOf text) [ turnedAway k n ↦ false | accepted P ↦ guardsChangeNothing P ts ]
+holdsBy (given text ts) = holdsFiled (readingOf text) ts
+
+-- ---- In a lent output
+
+unfoldable pub sheetOf : (input : List ℕ) → List ℕ
+sheetOf input = sheetBy input (givenOf input)
+
+unfoldable pub holdsOf : (input : List ℕ) → Bool
+holdsOf input = holdsBy (givenOf input)
+
+-- "9 short table: a lent table or list under its length"; otherwise the sheet's bytes are counted, and told whether all four conditions hold
+unfoldable pub checkedOf : (input output : List ℕ) → Checked
+checkedOf input output = cond (ltb (length output) outputBytes) (Refused No.shortTable) (Sheet (length (sheetOf input)) (holdsOf input))

@@ -1,17 +1,14 @@
 -- The four conditions for one script and one list of turns: when each tick stands, and what is told of it.
 use Prim.Native.Nat.{ℕ, suc, _+_}
-use mathlib.Core.Bool.{Bool, true, false, _&&_, cond}
+use mathlib.Core.Bool.{Bool, true, false, cond}
 use mathlib.Core.List.{List, [], _∷_}
 use lib.Dec.{eqb}
-use lib.ListN.{take}
 use Rattle.rules.specs.Mosts.{mosts}
 use Rattle.rules.specs.Script.{value, field, swap, call, new, cast, spawn, send, recv, copy, bind, give, Form, kind, opens, line, Program, linesOf, rank}
-use Rattle.rules.specs.Reading.{Reading, turnedAway, accepted, reading, linesBefore}
+use Rattle.rules.specs.Reading.{Reading, turnedAway, accepted, reading}
 use Rattle.rules.specs.Run.{Answer, run, answer}
-use Rattle.rules.specs.Stripped.{strip, erase}
-use Rattle.rules.specs.Tables.{stateWords}
+use Rattle.rules.specs.Stripped.{strip}
 use Rattle.rules.specs.Calls.{longText}
-use Rattle.tally.specs.Fates.{played}
 
 -- ---- 1: "Every script on the box reads clean."
 
@@ -66,18 +63,7 @@ unfoldable pub naming : ℕ → ℕ → List Form → List ℕ
 naming k n [] = []
 naming k n (F ∷ Fs) = cond (eqb (capNamed F) k) (n ∷ naming k (suc n) Fs) (naming k (suc n) Fs)
 
--- ---- 4: "A script with its guards in gives the table it gave when all records were unsafe."
-
-unfoldable pub same : List ℕ → List ℕ → Bool
-same [] [] = true
-same [] (y ∷ ys) = false
-same (x ∷ xs) [] = false
-same (x ∷ xs) (y ∷ ys) = eqb x y && same xs ys
-
--- "tables are equal, capabilities aside, when the guarded state with every object made unsafe has the same 8,192 words as the stripped state":
--- at the guarded run's end, or where it stopped, and after as many turns of the stripped one
-unfoldable pub guardsChangeNothing : Program → List ℕ → Bool
-guardsChangeNothing P ts = same (stateWords (erase (run mosts P ts .state))) (stateWords (run mosts (strip P) (take (played mosts P ts) ts) .state))
+-- ---- 4: "A script with its guards in gives the table it gave when all records were unsafe.": `guardsChangeNothing` of crate stripping
 
 abbrev pub guardedAnswer : Program → List ℕ → Answer
 guardedAnswer P ts = answer mosts P (run mosts P ts)

@@ -1,87 +1,68 @@
+-- Its two halves.
 use native.Mathlib.Omega.{arith}
 use mathlib.Core.Path.{refl}
+use borrow.Author.Needs.{needs}
 use Rattle.buffer.proofs.Appends.{_▹_, same-text}
 use Rattle.sheet.specs.SheetText.{fatesText}
-use borrow.Author.Needs.{needs}
 use Rattle.sheet.proofs.rows.put_fates.Statement.{statement}
 use Rattle.sheet.proofs.rows.put_fates.Tie as tie
-use Rattle.sheet.proofs.rows.put_fates.Reads as reads
-use Rattle.sheet.proofs.rows.put_fates.Lts as lts
-use Rattle.sheet.proofs.rows.put_halted.Reads as put-halted-reads
-use Rattle.sheet.proofs.rows.put_played.Reads as put-played-reads
 
--- src/rows.rt:53:33
 mul-put-played : tie.Need-mul-put-played
 mul-put-played c = search needs
 
--- src/rows.rt:53:33
 shared-slice-read-put-played : tie.Need-shared-slice-read-put-played
 shared-slice-read-put-played c = search needs
 
--- src/rows.rt:53:51
 add-put-played : tie.Need-add-put-played
 add-put-played c = search needs
 
--- src/rows.rt:53:44
 mul-put-played-2 : tie.Need-mul-put-played-2
 mul-put-played-2 c = search needs
 
--- src/rows.rt:53:44
 shared-slice-read-put-played-2 : tie.Need-shared-slice-read-put-played-2
 shared-slice-read-put-played-2 c = search needs
 
--- src/rows.rt:53:66
 add-put-played-2 : tie.Need-add-put-played-2
 add-put-played-2 c = search needs
 
--- src/rows.rt:53:59
 mul-put-played-3 : tie.Need-mul-put-played-3
 mul-put-played-3 c = search needs
 
--- src/rows.rt:53:59
 shared-slice-read-put-played-3 : tie.Need-shared-slice-read-put-played-3
 shared-slice-read-put-played-3 c = search needs
 
--- src/rows.rt:53:9
 put-played-requires : tie.Need-put-played-requires
 put-played-requires c κs = search needs
 
--- src/rows.rt:54:31
 add-put-halted : tie.Need-add-put-halted
 add-put-halted c = search needs
 
--- src/rows.rt:54:24
 mul-put-halted : tie.Need-mul-put-halted
 mul-put-halted c = search needs
 
--- src/rows.rt:54:24
 shared-slice-read-put-halted : tie.Need-shared-slice-read-put-halted
 shared-slice-read-put-halted c = search needs
 
--- src/rows.rt:54:46
 add-put-halted-2 : tie.Need-add-put-halted-2
 add-put-halted-2 c = search needs
 
--- src/rows.rt:54:39
 mul-put-halted-2 : tie.Need-mul-put-halted-2
 mul-put-halted-2 c = search needs
 
--- src/rows.rt:54:39
 shared-slice-read-put-halted-2 : tie.Need-shared-slice-read-put-halted-2
 shared-slice-read-put-halted-2 c = search needs
 
--- src/rows.rt:54:5
 put-halted-requires : tie.Need-put-halted-requires
 put-halted-requires c κs = search needs
 
--- src/rows.rt:49:1
 same-length : tie.Need-same-length
 same-length c = search needs
 
--- src/rows.rt:49:1
 returns : tie.Need-returns
 unfolding fatesText
-returns c = same-text 73 refl (omega arith) (c .before .before .before .before .before .before .before .before .put-played .ensures ▹ c .before .before .put-halted .ensures)
+returns c =
+    let at-put-played = c .before .before .before .before .before .before .before .before in
+    same-text 73 refl (omega arith) (at-put-played .put-played .ensures ▹ c .before .before .put-halted .ensures)
 
 pub put-fates-spec : {M : Type 1} → statement M
 put-fates-spec =
