@@ -1,5 +1,5 @@
--- Condition 4 on one script and one list: the turns that the guarded run plays before one stops it, if one does, leave the state that it ends with; and by demand 3
--- the stripped run has the same table after them, capabilities aside. What is compared on the tables is that.
+-- Condition 4 on one script and one list: the turns that the guarded run plays before one stops it, if one does, leave the state that it ends with;
+-- and by demand 3 the stripped run has the same table after them, capabilities aside. What is compared on the tables is that.
 use Prim.Native.Nat.{ℕ, _+_, _≤_}
 use native.Mathlib.Nat.{le-refl}
 use native.Mathlib.Omega.{arith}

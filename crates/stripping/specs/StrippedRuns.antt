@@ -24,7 +24,7 @@ strippedOf (accepted P) = accepted (strip P)
 pub record MakesStripped (text turns p s : List ℕ) (r : Answer) (p₁ s₁ : List ℕ) : Type 0 where
   pub makes : p ≡ freshTable → s ≡ freshTable → Made (strippedOf (inputs mosts text turns false)) turns r p₁ s₁
 
--- "A script with its guards in gives the table it gave when all records were unsafe", capabilities aside: word for word, where the guarded run ended or stopped
--- and after as many turns of the stripped one
+-- "A script with its guards in gives the table it gave when all records were unsafe", capabilities aside: word for word, where the guarded run
+-- ended or stopped, and after as many turns of the stripped one
 unfoldable pub guardsChangeNothing : Program → (turns : List ℕ) → Bool
 guardsChangeNothing P turns = sameWords (stateWords (erase (run mosts P turns .state))) (stateWords (run mosts (strip P) (take (played mosts P turns) turns) .state))

@@ -6,6 +6,8 @@ mod Cases
 mod Readings
 -- a form written as its line reads as that form
 mod ShownForms
+-- and a text of such lines as these lines
+mod ShownTexts
 -- each word fits in 16 bits; a state's words tell it
 mod SmallWords
 mod WordsTell
@@ -17,4 +19,6 @@ mod LaterStates
 mod InFlight
 -- capabilities play no part in a report
 mod ReportLaws
+-- the stripped script's text is accepted unless it is too long
+mod StrippedReads
 mod Theorems

@@ -1,5 +1,5 @@
 -- What is proved of every accepted script, gathered: each is a corollary of the file that proves it.
-use Prim.Native.Nat.{ℕ, _≤_}
+use Prim.Native.Nat.{ℕ, _≤_, _<_}
 use native.Mathlib.Omega.{arith}
 use mathlib.Core.Path.{_≡_}
 use mathlib.Core.List.{List, _++_, map}
@@ -15,13 +15,14 @@ use Rattle.rules.specs.Reading.{accepted, script}
 use Rattle.rules.specs.State.{Frame, State}
 use Rattle.rules.specs.Run.{run}
 use Rattle.rules.specs.Tables.{programWords, stateWords}
-use Rattle.rules.specs.Stripped.{Matches}
+use Rattle.rules.specs.Stripped.{strip, Matches}
 use Rattle.rules.specs.Valid.{Valid}
 use Rattle.rules.specs.Fits.{Fits}
 use Rattle.rules.specs.Reach.{roots, OneList, reachList}
 use Rattle.theorems.specs.Copies.{AtCopy, CopyTurn}
 use Rattle.theorems.specs.InFlight.{SendersKeep}
-use Rattle.rules.specs.Writer.{ComesBack}
+use Rattle.theorems.specs.StrippedScripts.{strippedScript}
+use Rattle.rules.specs.Writer.{ReadsTo, NoneReadsTo, ComesBack}
 use Rattle.rules.proofs.Accepted.{accepted-valid, accepted-prints}
 use Rattle.rules.proofs.Keeps.{keeps-run, moves-few, fits-run}
 use Rattle.rules.proofs.Demand3.{stripped-matches}
@@ -30,6 +31,7 @@ use Rattle.rules.proofs.Writer.{comes-back}
 use Rattle.theorems.proofs.SmallWords.{In16Bits, program-words-small, state-words-small}
 use Rattle.theorems.proofs.Copies.{copy-turn}
 use Rattle.theorems.proofs.InFlight.{senders-keep}
+use Rattle.theorems.proofs.StrippedReads.{stripped-reads, none-is-long}
 
 module _ (text : List ℕ) (P : Program) (is-accepted : script mosts text ≡ accepted P) where
   -- its program guarantees what the run relies on
@@ -39,6 +41,14 @@ module _ (text : List ℕ) (P : Program) (is-accepted : script mosts text ≡ ac
   -- its text is the printing of what was read: nothing of it is lost
   pub text-is-printed : text ≡ headOf (P .edition) ++ join (map show (linesOf P))
   text-is-printed = accepted-prints mosts text P is-accepted
+
+  -- its stripped script is accepted too, and reads to the stripped program's table, unless its text is too long; so 18 of that table is for its
+  -- length alone
+  pub stripped-text-reads : length (strippedScript P) ≤ Most.text → ReadsTo mosts (programWords (strip P)) (strippedScript P)
+  stripped-text-reads = stripped-reads text P is-accepted
+
+  pub no-script-is-long : NoneReadsTo mosts (programWords (strip P)) → Most.text < length (strippedScript P)
+  no-script-is-long = none-is-long text P is-accepted
 
   pub program-words-in-16-bits : Every In16Bits (programWords P)
   program-words-in-16-bits = program-words-small valid

@@ -6,3 +6,5 @@ pub mod Readings
 -- what a copy comes to; messages that are sent and not yet received
 pub mod Copies
 pub mod InFlight
+-- the text of a stripped script
+pub mod StrippedScripts
