@@ -1,0 +1,64 @@
+-- The status is told by what was printed, and that is right of what the input comes to.
+use denote.Ref.{now}
+use mathlib.Core.Path.{refl, sym, ap, _∙_}
+use mathlib.Core.Logic.{inl}
+use lib.Seq.{length-take-le}
+use Rattle.save.proofs.Saves.{saved-front}
+use Rattle.box_tool.specs.Status.{textOf, statusOf}
+use Rattle.box_tool.proofs.Statuses.{job-told, same-status}
+use borrow.Author.Needs.{needs}
+use Rattle.box_tool.proofs.finish.Statement.{statement}
+use Rattle.box_tool.proofs.finish.Tie as tie
+
+slice-aggregate-print : tie.Need-slice-aggregate-print
+slice-aggregate-print c = search needs
+
+print-requires : tie.Need-print-requires
+print-requires c κs = search needs
+
+enum-known-printed : tie.Need-enum-known-printed
+enum-known-printed c = search needs
+
+array-share-prefix-output : tie.Need-array-share-prefix-output
+array-share-prefix-output c = let call = c .before .before .before .before .print in saved-front (textOf (c .before .before .before .before .before .before .before .args .job) (now (c .before .before .before .before .before .before .before .args .input))) _ (call .ensures .0) (call .ensures .1) (c .before .printed .given .1) .0
+
+slice-aggregate-status-of : tie.Need-slice-aggregate-status-of
+slice-aggregate-status-of c = let call = c .before .before .before .before .before .print in sym (length-take-le _ _ (saved-front (textOf (c .before .before .before .before .before .before .before .before .args .job) (now (c .before .before .before .before .before .before .before .before .args .input))) _ (call .ensures .0) (call .ensures .1) (c .before .before .printed .given .1) .0))
+
+status-of-requires : tie.Need-status-of-requires
+status-of-requires c κs = search needs
+
+array-share-prefix-output-2 : tie.Need-array-share-prefix-output-2
+array-share-prefix-output-2 c = let call = c .before .before .before .before .before .before .print in saved-front (textOf (c .before .before .before .before .before .before .before .before .before .args .job) (now (c .before .before .before .before .before .before .before .before .before .args .input))) _ (call .ensures .0) (call .ensures .1) (c .before .before .before .printed .given .1) .0
+
+slice-aggregate-write-out : tie.Need-slice-aggregate-write-out
+slice-aggregate-write-out c = let call = c .before .before .before .before .before .before .before .print in sym (length-take-le _ _ (saved-front (textOf (c .before .before .before .before .before .before .before .before .before .before .args .job) (now (c .before .before .before .before .before .before .before .before .before .before .args .input))) _ (call .ensures .0) (call .ensures .1) (c .before .before .before .before .printed .given .1) .0))
+
+write-out-requires : tie.Need-write-out-requires
+write-out-requires c κs = search needs
+
+enum-told : tie.Need-enum-told
+enum-told c = search needs
+
+returns : tie.Need-returns
+returns c = let call = c .before .before .before .before .before .before .before .before .print in same-status (c .write-out .result) (c .before .before .status-of .ensures ∙ ap statusOf (saved-front (textOf (c .before .before .before .before .before .before .before .before .before .before .before .args .job) (now (c .before .before .before .before .before .before .before .before .before .before .before .args .input))) _ (call .ensures .0) (call .ensures .1) (c .before .before .before .before .before .printed .given .1) .1) ∙ job-told (c .before .before .before .before .before .before .before .before .before .before .before .args .job) (now (c .before .before .before .before .before .before .before .before .before .before .before .args .input))) (c .write-out .ensures)
+
+returns-2 : tie.Need-returns-2
+returns-2 c = inl refl
+
+pub finish-spec : {M : Type 1} → statement M
+finish-spec =
+    tie.close
+    (tie.spec
+    slice-aggregate-print
+    print-requires
+    enum-known-printed
+    array-share-prefix-output
+    slice-aggregate-status-of
+    status-of-requires
+    array-share-prefix-output-2
+    slice-aggregate-write-out
+    write-out-requires
+    enum-told
+    returns
+    returns-2)
