@@ -535,11 +535,11 @@ fn long_inputs() -> Vec<Fixed> {
     all
 }
 
-/// Texts for boxsave, each with the refusal that is settled for it; with none, the text comes back.
-pub fn texts() -> Vec<Fixed> {
+/// Texts to be saved, with a line of turns after them, and the refusal that is settled for each; with none, the input comes back.
+pub fn saves() -> Vec<Fixed> {
     let text = |name: &str, text: String, first_line: &str| Fixed {
         name: format!("save: {}", name),
-        input: text.into_bytes(),
+        input: format!("{}(turns 0 1 16 255)\n", text).into_bytes(),
         first_line: first_line.to_string(),
     };
     let longest = longest_script(Edition::One);

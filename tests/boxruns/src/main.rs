@@ -1,6 +1,6 @@
 //! The program `boxruns`: `boxruns PATH SEED COUNT` starts the boxrun at PATH on the examples, on inputs that are written out and on COUNT
-//! random ones, and holds what it prints to the second interpreter's, byte for byte, and to demand 3. `boxruns save PATH SEED COUNT` does the
-//! same with the boxsave at PATH, on scripts alone.
+//! random ones, and holds what it prints to the second interpreter's, byte for byte, and to demand 3. `boxruns save PATH SEED COUNT` holds what
+//! the box_tool at PATH prints for `save` on such inputs to the inputs themselves.
 
 #![forbid(unsafe_code)]
 
@@ -35,10 +35,12 @@ fn main() {
     let arguments: Vec<String> = env::args().skip(1).collect();
     let words: Vec<&str> = arguments.iter().map(String::as_str).collect();
     let status = match words.as_slice() {
-        ["save", path, seed, count] => started(path, seed, count, |program, seed, count| {
-            saves::all(program, seed, count).map(|counts| counts.rows())
-        }),
-        [path, seed, count] => started(path, seed, count, |program, seed, count| {
+        ["save", path, seed, count] => {
+            started(path, &["save"], seed, count, |program, seed, count| {
+                saves::all(program, seed, count).map(|counts| counts.rows())
+            })
+        }
+        [path, seed, count] => started(path, &[], seed, count, |program, seed, count| {
             all(program, seed, count).map(|counts| counts.rows())
         }),
         _ => usage(),
@@ -51,10 +53,16 @@ fn usage() -> i32 {
     2
 }
 
-fn started(path: &str, seed: &str, count: &str, all: fn(&Program, u64, u64) -> Held) -> i32 {
+fn started(
+    path: &str,
+    words: &'static [&'static str],
+    seed: &str,
+    count: &str,
+    all: fn(&Program, u64, u64) -> Held,
+) -> i32 {
     let path = PathBuf::from(path);
     match (seed.parse(), count.parse()) {
-        (Ok(seed), Ok(count)) => told(all(&Program { path }, seed, count)),
+        (Ok(seed), Ok(count)) => told(all(&Program { path, words }, seed, count)),
         _ => usage(),
     }
 }

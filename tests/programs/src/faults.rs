@@ -41,8 +41,14 @@ impl Faults {
     pub fn built(room: &Path) -> Faults {
         let source = Path::new(env!("CARGO_MANIFEST_DIR")).join("faults.c");
         let library = room.join("faults.so");
-        let flags = ["-shared", "-fPIC", "-O2", "-Wall", "-Wextra", "-Werror", "-o"];
-        let built = Command::new("cc").args(flags).arg(&library).arg(&source).status();
+        let flags = [
+            "-shared", "-fPIC", "-O2", "-Wall", "-Wextra", "-Werror", "-o",
+        ];
+        let built = Command::new("cc")
+            .args(flags)
+            .arg(&library)
+            .arg(&source)
+            .status();
         assert!(built.expect("cc starts").success(), "faults.c builds");
         Faults {
             library,
@@ -62,7 +68,9 @@ impl Faults {
     /// How many calls the last program made, and how many of them were interrupted.
     fn calls(&self) -> (u64, u64) {
         let text = fs::read_to_string(&self.tally).unwrap_or_default();
-        let mut words = text.split_whitespace().map(|word| word.parse().unwrap_or(0));
+        let mut words = text
+            .split_whitespace()
+            .map(|word| word.parse().unwrap_or(0));
         (words.next().unwrap_or(0), words.next().unwrap_or(0))
     }
 }
@@ -85,7 +93,9 @@ impl Subject {
 fn failing_reads(tally: &mut Tally, faults: &Faults, subject: &Subject, input: &[u8]) {
     for bytes in 0..=input.len() {
         let start = faults.start(subject, input);
-        let got = start.set("FAULT_READ", format!("{}:{}", bytes, EIO)).ended();
+        let got = start
+            .set("FAULT_READ", format!("{}:{}", bytes, EIO))
+            .ended();
         let name = format!("{}: a read fails after {} bytes", subject.name, bytes);
         tally.same(&name, &got, &subject.unread("Input/output error"));
     }
@@ -110,7 +120,10 @@ fn slow_calls(tally: &mut Tally, faults: &Faults, subject: &Subject, input: &[u8
         let start = faults.start(subject, input);
         let start = start.set("FAULT_SHORT", short);
         let got = start.set("FAULT_INTERRUPT", interrupts).ended();
-        let name = format!("{}: {} bytes a call, interrupted {} times", subject.name, short, interrupts);
+        let name = format!(
+            "{}: {} bytes a call, interrupted {} times",
+            subject.name, short, interrupts
+        );
         tally.same(&name, &got, &subject.well());
         let (calls, interrupted) = faults.calls();
         let slow = match (short, interrupts) {
@@ -118,17 +131,27 @@ fn slow_calls(tally: &mut Tally, faults: &Faults, subject: &Subject, input: &[u8
             ("1", _) => calls == 2 * least && interrupted == least,
             (_, _) => interrupted >= 6 && calls > interrupted,
         };
-        tally.holds(slow, || format!("{}: {} calls, {} interrupted", name, calls, interrupted));
+        tally.holds(slow, || {
+            format!("{}: {} calls, {} interrupted", name, calls, interrupted)
+        });
     }
 }
 
 /// A call that is always interrupted is given up in the end.
 fn given_up(tally: &mut Tally, faults: &Faults, subject: &Subject, input: &[u8]) {
-    let start = faults.start(subject, input).set("FAULT_INTERRUPT", "1000000000");
+    let start = faults
+        .start(subject, input)
+        .set("FAULT_INTERRUPT", "1000000000");
     let name = format!("{}: always interrupted", subject.name);
-    tally.same(&name, &start.ended(), &subject.unread("Interrupted system call"));
+    tally.same(
+        &name,
+        &start.ended(),
+        &subject.unread("Interrupted system call"),
+    );
     let (calls, interrupted) = faults.calls();
-    tally.holds(calls > 1000 && calls == interrupted, || format!("{}: {} calls", name, calls));
+    tally.holds(calls > 1000 && calls == interrupted, || {
+        format!("{}: {} calls", name, calls)
+    });
 }
 
 /// What the shell can do to standard input and output. A program that is never asked to read its standard input does not mind it.
@@ -140,7 +163,10 @@ fn streams(tally: &mut Tally, subject: &Subject, input: &[u8]) {
     };
     let cases = [
         ("", subject.well()),
-        (">/dev/full", subject.unwritten("", "No space left on device")),
+        (
+            ">/dev/full",
+            subject.unwritten("", "No space left on device"),
+        ),
         (">&-", subject.unwritten("", "Bad file descriptor")),
         ("<&-", unread("Bad file descriptor")),
         ("</", unread("Is a directory")),
@@ -152,7 +178,11 @@ fn streams(tally: &mut Tally, subject: &Subject, input: &[u8]) {
             wanted = subject.unwritten("", "Bad file descriptor");
         }
         let name = format!("{}: {:?}", subject.name, redirected);
-        tally.same(&name, &start.clone().redirected(redirected).ended(), &wanted);
+        tally.same(
+            &name,
+            &start.clone().redirected(redirected).ended(),
+            &wanted,
+        );
     }
 }
 

@@ -1,11 +1,11 @@
 //! boxrun as a function: its input, a script and the last line `(turns T ..)`, to what it prints. And
-//! boxsave: a script alone, to the same script.
+//! box save: such an input to itself.
 
 use crate::form::turns_line;
 use crate::listing::{listing, refused};
 use crate::machine::run;
 use crate::numbers::*;
-use crate::reading::{read, read_lent};
+use crate::reading::read_lent;
 use crate::script::Program;
 use crate::stripped::strip;
 
@@ -32,9 +32,9 @@ pub fn boxrun_stripped(input: &[u8]) -> Vec<u8> {
     }
 }
 
-/// What boxsave prints: the script itself, for every text that is accepted comes back byte for byte.
-pub fn boxsave(input: &[u8]) -> Vec<u8> {
-    match read(input) {
+/// What box save prints: the input itself, for every script that is accepted comes back byte for byte.
+pub fn saved(input: &[u8]) -> Vec<u8> {
+    match accepted(input) {
         Ok(_) => input.to_vec(),
         Err(refusal) => refused(refusal).into_bytes(),
     }

@@ -1,10 +1,10 @@
-//! boxrun's own input: the last line, its faults before the script's, and long input; and boxsave's,
-//! a script alone.
+//! boxrun's own input: the last line, its faults before the script's, and long input; and the same
+//! saved.
 
 mod common;
 
 use common::*;
-use second::input::{boxrun, boxsave};
+use second::input::{boxrun, saved};
 
 fn prints(input: &str) -> String {
     String::from_utf8(boxrun(input.as_bytes())).unwrap()
@@ -162,14 +162,18 @@ fn threads_out_of_range_are_idle() {
 }
 
 #[test]
-fn boxsave_prints_the_script_or_its_refusal() {
-    let saved = |text: &str| String::from_utf8(boxsave(text.as_bytes())).unwrap();
+fn an_input_is_saved_as_it_is_or_refused() {
+    let printed = |text: &str| String::from_utf8(saved(text.as_bytes())).unwrap();
     for script in [SMALL.to_string(), case_a(), case_g()] {
-        assert_eq!(saved(&script), script);
+        let input = input(&script, "0 1 255");
+        assert_eq!(printed(&input), input);
     }
-    assert_eq!(saved(""), "(refused 7 0)\n");
-    assert_eq!(saved(SMALL.trim_end()), "(refused 3 1)\n");
-    assert_eq!(saved(&input(SMALL, "0")), "(refused 3 2)\n");
-    assert_eq!(saved(&"(".repeat(16_384)), "(refused 3 0)\n");
-    assert_eq!(saved(&"(".repeat(16_385)), "(refused 1 0)\n");
+    assert_eq!(printed(""), "(refused 3 0)\n");
+    assert_eq!(printed("(turns)\n"), "(refused 7 0)\n");
+    assert_eq!(printed(SMALL), "(refused 3 1)\n");
+    assert_eq!(printed(&input(&input(SMALL, "0"), "0")), "(refused 3 2)\n");
+    assert_eq!(printed(&input(SMALL, "256")), "(refused 4 2)\n");
+    let long = |bytes| input(&format!("{}\n", "(".repeat(bytes - 1)), "0");
+    assert_eq!(printed(&long(16_384)), "(refused 3 0)\n");
+    assert_eq!(printed(&long(16_385)), "(refused 1 0)\n");
 }
