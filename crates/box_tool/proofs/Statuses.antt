@@ -11,7 +11,8 @@ use Rattle.rules.specs.Mosts as Most
 use Rattle.rules.specs.Mosts.{mosts}
 use Rattle.rules.specs.Numbers as No
 use Rattle.rules.specs.Text.{bytes, lines, join}
-use Rattle.rules.specs.Script.{value, field, swap, call, new, cast, spawn, send, recv, copy, bind, give, thread, method, Form, kind, opens, line, Edition, edition1, edition2, Kind, Block, Program, blockLines, kindLines, linesOf}
+use Rattle.rules.specs.Script.{value, field, swap, call, new, cast, spawn, send, recv, copy, bind, give, thread, method, Form, kind, opens, line}
+use Rattle.rules.specs.Script.{Edition, edition1, edition2, Kind, Block, Program, blockLines, kindLines, linesOf}
 use Rattle.rules.specs.Templates.{print, show, headOf}
 use Rattle.rules.specs.Reading.{Reading, turnedAway, accepted, reading, script}
 use Rattle.rules.specs.Run.{Run, Stop, none, stopped, refused, run, answer, answerOf}

@@ -107,7 +107,10 @@ fn explain_number(i: usize) -> u8 {
     match printed {
         Printed::Written(m) => {
             if m == 0 {
-                io::write_all(libc::STDERR_FILENO, b"box: explain: there are the numbers 1 to 20\n");
+                io::write_all(
+                    libc::STDERR_FILENO,
+                    b"box: explain: there are the numbers 1 to 20\n",
+                );
                 return REFUSED;
             }
             write_out(&output[..m], WELL)

@@ -107,19 +107,19 @@ pub fn read_all(fd: i32, buf: &mut [u8]) -> Reading
 
 // Writes all of a text and answers true; or false, where a write failed after some of it, or none, was written.
 pub fn write_all(fd: i32, text: &[u8]) -> bool {
-    let mut done: usize = 0;
-    let mut patience = PATIENCE;
-    while done < text.len() {
-        let step = write_on(fd, text, done);
+    let mut written: usize = 0;
+    let mut tries = PATIENCE;
+    while written < text.len() {
+        let step = write_on(fd, text, written);
         match step {
             Step::Moved(n) => {
-                done += n;
+                written += n;
             }
             Step::Interrupted => {
-                if patience == 0 {
+                if tries == 0 {
                     return false;
                 }
-                patience -= 1;
+                tries -= 1;
             }
             Step::Nothing => {
                 return false;

@@ -40,7 +40,9 @@ array-share-prefix-output : tie.Need-array-share-prefix-output
 array-share-prefix-output c = let call = c .before .before .before .before .before .print-explained in written-fits _ _ (call .ensures .0) (call .ensures .1) (c .before .before .printed .given .1)
 
 slice-aggregate-write-out : tie.Need-slice-aggregate-write-out
-slice-aggregate-write-out c = let call = c .before .before .before .before .before .before .print-explained in sym (length-take-le _ _ (written-fits _ _ (call .ensures .0) (call .ensures .1) (c .before .before .before .printed .given .1)))
+slice-aggregate-write-out c =
+    let call = c .before .before .before .before .before .before .print-explained in
+    sym (length-take-le _ _ (written-fits _ _ (call .ensures .0) (call .ensures .1) (c .before .before .before .printed .given .1)))
 
 write-out-requires : tie.Need-write-out-requires
 write-out-requires c κs = search needs

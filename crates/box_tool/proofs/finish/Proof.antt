@@ -20,19 +20,35 @@ enum-known-printed : tie.Need-enum-known-printed
 enum-known-printed c = search needs
 
 array-share-prefix-output : tie.Need-array-share-prefix-output
-array-share-prefix-output c = let call = c .before .before .before .before .print in saved-front (textOf (c .before .before .before .before .before .before .before .args .job) (now (c .before .before .before .before .before .before .before .args .input))) _ (call .ensures .0) (call .ensures .1) (c .before .printed .given .1) .0
+array-share-prefix-output c =
+    let at-print = c .before .before .before .before in
+    let start = at-print .before .before .before .args in
+    let front = saved-front (textOf (start .job) (now (start .input))) _ (at-print .print .ensures .0) (at-print .print .ensures .1) (c .before .printed .given .1) in
+    front .0
 
 slice-aggregate-status-of : tie.Need-slice-aggregate-status-of
-slice-aggregate-status-of c = let call = c .before .before .before .before .before .print in sym (length-take-le _ _ (saved-front (textOf (c .before .before .before .before .before .before .before .before .args .job) (now (c .before .before .before .before .before .before .before .before .args .input))) _ (call .ensures .0) (call .ensures .1) (c .before .before .printed .given .1) .0))
+slice-aggregate-status-of c =
+    let at-print = c .before .before .before .before .before in
+    let start = at-print .before .before .before .args in
+    let front = saved-front (textOf (start .job) (now (start .input))) _ (at-print .print .ensures .0) (at-print .print .ensures .1) (c .before .before .printed .given .1) in
+    sym (length-take-le _ _ (front .0))
 
 status-of-requires : tie.Need-status-of-requires
 status-of-requires c κs = search needs
 
 array-share-prefix-output-2 : tie.Need-array-share-prefix-output-2
-array-share-prefix-output-2 c = let call = c .before .before .before .before .before .before .print in saved-front (textOf (c .before .before .before .before .before .before .before .before .before .args .job) (now (c .before .before .before .before .before .before .before .before .before .args .input))) _ (call .ensures .0) (call .ensures .1) (c .before .before .before .printed .given .1) .0
+array-share-prefix-output-2 c =
+    let at-print = c .before .before .before .before .before .before in
+    let start = at-print .before .before .before .args in
+    let front = saved-front (textOf (start .job) (now (start .input))) _ (at-print .print .ensures .0) (at-print .print .ensures .1) (c .before .before .before .printed .given .1) in
+    front .0
 
 slice-aggregate-write-out : tie.Need-slice-aggregate-write-out
-slice-aggregate-write-out c = let call = c .before .before .before .before .before .before .before .print in sym (length-take-le _ _ (saved-front (textOf (c .before .before .before .before .before .before .before .before .before .before .args .job) (now (c .before .before .before .before .before .before .before .before .before .before .args .input))) _ (call .ensures .0) (call .ensures .1) (c .before .before .before .before .printed .given .1) .0))
+slice-aggregate-write-out c =
+    let at-print = c .before .before .before .before .before .before .before in
+    let start = at-print .before .before .before .args in
+    let front = saved-front (textOf (start .job) (now (start .input))) _ (at-print .print .ensures .0) (at-print .print .ensures .1) (c .before .before .before .before .printed .given .1) in
+    sym (length-take-le _ _ (front .0))
 
 write-out-requires : tie.Need-write-out-requires
 write-out-requires c κs = search needs
@@ -41,7 +57,11 @@ enum-told : tie.Need-enum-told
 enum-told c = search needs
 
 returns : tie.Need-returns
-returns c = let call = c .before .before .before .before .before .before .before .before .print in same-status (c .write-out .result) (c .before .before .status-of .ensures ∙ ap statusOf (saved-front (textOf (c .before .before .before .before .before .before .before .before .before .before .before .args .job) (now (c .before .before .before .before .before .before .before .before .before .before .before .args .input))) _ (call .ensures .0) (call .ensures .1) (c .before .before .before .before .before .printed .given .1) .1) ∙ job-told (c .before .before .before .before .before .before .before .before .before .before .before .args .job) (now (c .before .before .before .before .before .before .before .before .before .before .before .args .input))) (c .write-out .ensures)
+returns c =
+    let at-print = c .before .before .before .before .before .before .before .before in
+    let start = at-print .before .before .before .args in
+    let front = saved-front (textOf (start .job) (now (start .input))) _ (at-print .print .ensures .0) (at-print .print .ensures .1) (c .before .before .before .before .before .printed .given .1) in
+    same-status (c .write-out .result) (c .before .before .status-of .ensures ∙ ap statusOf (front .1) ∙ job-told (start .job) (now (start .input))) (c .write-out .ensures)
 
 returns-2 : tie.Need-returns-2
 returns-2 c = inl refl

@@ -21,7 +21,10 @@ same-length : tie.Need-same-length
 same-length c = search needs
 
 returns : tie.Need-returns
-returns c = rw (c .before .before .before .before .enum-told .given .1) (saved-line _ (now (c .before .before .before .before .before .before .before .before .args .output)) (c .before .before .before .before .before .before .before .before .pre) (c .before .before .print-input .ensures))
+returns c =
+    let arm = c .before .before .before .before in
+    let start = arm .before .before .before .before in
+    rw (arm .enum-told .given .1) (saved-line _ (now (start .args .output)) (start .pre) (c .before .before .print-input .ensures))
 
 same-length-2 : tie.Need-same-length-2
 same-length-2 c = search needs

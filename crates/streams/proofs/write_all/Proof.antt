@@ -1,4 +1,4 @@
--- `streams::write_all` ends: a write leaves fewer bytes of the text, or an interruption less patience.
+-- `streams::write_all` ends: a write leaves fewer bytes of the text, or an interruption fewer tries.
 use borrow.Author.Needs.{needs}
 use Prim.Native.Nat.{_+_, _-_, _≤_}
 use native.Mathlib.Omega.{arith}
@@ -9,10 +9,10 @@ use Rattle.streams.proofs.write_all.Statement.{statement}
 use Rattle.streams.proofs.write_all.Tie as tie
 
 abbrev Inv-loop : tie.InvT-loop
-Inv-loop fd text done₀ patience₀ done patience = done ≤ length text
+Inv-loop fd text written₀ tries₀ written tries = written ≤ length text
 
 abbrev μ-loop : tie.MeasureT-loop
-μ-loop fd text done₀ patience₀ done patience = length text - done + patience
+μ-loop fd text written₀ tries₀ written tries = length text - written + tries
 
 loop-holds : tie.Need-loop-holds Inv-loop μ-loop
 loop-holds c = search needs
@@ -23,25 +23,25 @@ write-on-requires c κs = search needs
 enum-known-step : tie.Need-enum-known-step Inv-loop μ-loop
 enum-known-step c = search needs
 
-add-done : tie.Need-add-done Inv-loop μ-loop
-add-done c =
+add-written : tie.Need-add-written Inv-loop μ-loop
+add-written c =
     let at = c .before .before .before .before .before .loop in
     let put = c .before .before .before .write-on in
-    let moved = some-moved (length (now (c .before .before .before .before .before .before .before .args .text)) - at .done) (c .before .step .given .1) (put .ensures) in
+    let moved = some-moved (length (now (c .before .before .before .before .before .before .before .args .text)) - at .written) (c .before .step .given .1) (put .ensures) in
     search needs
 
 loop-less : tie.Need-loop-less Inv-loop μ-loop
 loop-less c =
     let at = c .before .before .before .before .before .loop in
     let put = c .before .before .before .write-on in
-    let moved = some-moved (length (now (c .before .before .before .before .before .before .before .args .text)) - at .done) (c .before .step .given .1) (put .ensures) in
+    let moved = some-moved (length (now (c .before .before .before .before .before .before .before .args .text)) - at .written) (c .before .step .given .1) (put .ensures) in
     omega arith
 
 loop-again : tie.Need-loop-again Inv-loop μ-loop
 loop-again c =
     let at = c .before .before .before .before .before .loop in
     let put = c .before .before .before .write-on in
-    let moved = some-moved (length (now (c .before .before .before .before .before .before .before .args .text)) - at .done) (c .before .step .given .1) (put .ensures) in
+    let moved = some-moved (length (now (c .before .before .before .before .before .before .before .args .text)) - at .written) (c .before .step .given .1) (put .ensures) in
     omega arith
 
 enum-told : tie.Need-enum-told Inv-loop μ-loop
@@ -50,8 +50,8 @@ enum-told c = search needs
 returns : tie.Need-returns Inv-loop μ-loop
 returns c = search needs
 
-sub-patience : tie.Need-sub-patience Inv-loop μ-loop
-sub-patience c = search needs
+sub-tries : tie.Need-sub-tries Inv-loop μ-loop
+sub-tries c = search needs
 
 loop-less-2 : tie.Need-loop-less-2 Inv-loop μ-loop
 loop-less-2 c = search needs
@@ -83,12 +83,12 @@ write-all-spec =
     loop-holds
     write-on-requires
     enum-known-step
-    add-done
+    add-written
     loop-less
     loop-again
     enum-told
     returns
-    sub-patience
+    sub-tries
     loop-less-2
     loop-again-2
     enum-told-2

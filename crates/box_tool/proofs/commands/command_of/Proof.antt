@@ -23,7 +23,12 @@ is-requires-2 c κs = search needs
 
 returns-2 : tie.Need-returns-2
 unfolding commandOf
-returns-2 c = rw (sym (c .before .before .before .before .is .ensures) ∙ c .before .before .before .if1 .left, sym (c .before .is2 .ensures) ∙ c .if2 .taken)
+returns-2 c =
+    let t1 = c .before .before .before in
+    rw (
+      sym (t1 .before .is .ensures) ∙ t1 .if1 .left,
+      sym (c .before .is2 .ensures) ∙ c .if2 .taken,
+    )
 
 slice-aggregate-is-3 : tie.Need-slice-aggregate-is-3
 slice-aggregate-is-3 c = search needs
@@ -33,7 +38,14 @@ is-requires-3 c κs = search needs
 
 returns-3 : tie.Need-returns-3
 unfolding commandOf
-returns-3 c = rw (sym (c .before .before .before .before .before .before .before .is .ensures) ∙ c .before .before .before .before .before .before .if1 .left, sym (c .before .before .before .before .is2 .ensures) ∙ c .before .before .before .if2 .left, sym (c .before .is3 .ensures) ∙ c .if3 .taken)
+returns-3 c =
+    let t2 = c .before .before .before in
+    let t1 = t2 .before .before .before in
+    rw (
+      sym (t1 .before .is .ensures) ∙ t1 .if1 .left,
+      sym (t2 .before .is2 .ensures) ∙ t2 .if2 .left,
+      sym (c .before .is3 .ensures) ∙ c .if3 .taken,
+    )
 
 slice-aggregate-is-4 : tie.Need-slice-aggregate-is-4
 slice-aggregate-is-4 c = search needs
@@ -43,7 +55,16 @@ is-requires-4 c κs = search needs
 
 returns-4 : tie.Need-returns-4
 unfolding commandOf
-returns-4 c = rw (sym (c .before .before .before .before .before .before .before .before .before .before .is .ensures) ∙ c .before .before .before .before .before .before .before .before .before .if1 .left, sym (c .before .before .before .before .before .before .before .is2 .ensures) ∙ c .before .before .before .before .before .before .if2 .left, sym (c .before .before .before .before .is3 .ensures) ∙ c .before .before .before .if3 .left, sym (c .before .is4 .ensures) ∙ c .if4 .taken)
+returns-4 c =
+    let t3 = c .before .before .before in
+    let t2 = t3 .before .before .before in
+    let t1 = t2 .before .before .before in
+    rw (
+      sym (t1 .before .is .ensures) ∙ t1 .if1 .left,
+      sym (t2 .before .is2 .ensures) ∙ t2 .if2 .left,
+      sym (t3 .before .is3 .ensures) ∙ t3 .if3 .left,
+      sym (c .before .is4 .ensures) ∙ c .if4 .taken,
+    )
 
 slice-aggregate-is-5 : tie.Need-slice-aggregate-is-5
 slice-aggregate-is-5 c = search needs
@@ -53,7 +74,18 @@ is-requires-5 c κs = search needs
 
 returns-5 : tie.Need-returns-5
 unfolding commandOf
-returns-5 c = rw (sym (c .before .before .before .before .before .before .before .before .before .before .before .before .before .is .ensures) ∙ c .before .before .before .before .before .before .before .before .before .before .before .before .if1 .left, sym (c .before .before .before .before .before .before .before .before .before .before .is2 .ensures) ∙ c .before .before .before .before .before .before .before .before .before .if2 .left, sym (c .before .before .before .before .before .before .before .is3 .ensures) ∙ c .before .before .before .before .before .before .if3 .left, sym (c .before .before .before .before .is4 .ensures) ∙ c .before .before .before .if4 .left, sym (c .before .is5 .ensures) ∙ c .if5 .taken)
+returns-5 c =
+    let t4 = c .before .before .before in
+    let t3 = t4 .before .before .before in
+    let t2 = t3 .before .before .before in
+    let t1 = t2 .before .before .before in
+    rw (
+      sym (t1 .before .is .ensures) ∙ t1 .if1 .left,
+      sym (t2 .before .is2 .ensures) ∙ t2 .if2 .left,
+      sym (t3 .before .is3 .ensures) ∙ t3 .if3 .left,
+      sym (t4 .before .is4 .ensures) ∙ t4 .if4 .left,
+      sym (c .before .is5 .ensures) ∙ c .if5 .taken,
+    )
 
 slice-aggregate-is-6 : tie.Need-slice-aggregate-is-6
 slice-aggregate-is-6 c = search needs
@@ -63,11 +95,37 @@ is-requires-6 c κs = search needs
 
 returns-6 : tie.Need-returns-6
 unfolding commandOf
-returns-6 c = rw (sym (c .before .before .before .before .before .before .before .before .before .before .before .before .before .before .before .before .is .ensures) ∙ c .before .before .before .before .before .before .before .before .before .before .before .before .before .before .before .if1 .left, sym (c .before .before .before .before .before .before .before .before .before .before .before .before .before .is2 .ensures) ∙ c .before .before .before .before .before .before .before .before .before .before .before .before .if2 .left, sym (c .before .before .before .before .before .before .before .before .before .before .is3 .ensures) ∙ c .before .before .before .before .before .before .before .before .before .if3 .left, sym (c .before .before .before .before .before .before .before .is4 .ensures) ∙ c .before .before .before .before .before .before .if4 .left, sym (c .before .before .before .before .is5 .ensures) ∙ c .before .before .before .if5 .left, sym (c .before .is6 .ensures) ∙ c .if6 .taken)
+returns-6 c =
+    let t5 = c .before .before .before in
+    let t4 = t5 .before .before .before in
+    let t3 = t4 .before .before .before in
+    let t2 = t3 .before .before .before in
+    let t1 = t2 .before .before .before in
+    rw (
+      sym (t1 .before .is .ensures) ∙ t1 .if1 .left,
+      sym (t2 .before .is2 .ensures) ∙ t2 .if2 .left,
+      sym (t3 .before .is3 .ensures) ∙ t3 .if3 .left,
+      sym (t4 .before .is4 .ensures) ∙ t4 .if4 .left,
+      sym (t5 .before .is5 .ensures) ∙ t5 .if5 .left,
+      sym (c .before .is6 .ensures) ∙ c .if6 .taken,
+    )
 
 returns-7 : tie.Need-returns-7
 unfolding commandOf
-returns-7 c = rw (sym (c .before .before .before .before .before .before .before .before .before .before .before .before .before .before .before .before .is .ensures) ∙ c .before .before .before .before .before .before .before .before .before .before .before .before .before .before .before .if1 .left, sym (c .before .before .before .before .before .before .before .before .before .before .before .before .before .is2 .ensures) ∙ c .before .before .before .before .before .before .before .before .before .before .before .before .if2 .left, sym (c .before .before .before .before .before .before .before .before .before .before .is3 .ensures) ∙ c .before .before .before .before .before .before .before .before .before .if3 .left, sym (c .before .before .before .before .before .before .before .is4 .ensures) ∙ c .before .before .before .before .before .before .if4 .left, sym (c .before .before .before .before .is5 .ensures) ∙ c .before .before .before .if5 .left, sym (c .before .is6 .ensures) ∙ c .if6 .left)
+returns-7 c =
+    let t5 = c .before .before .before in
+    let t4 = t5 .before .before .before in
+    let t3 = t4 .before .before .before in
+    let t2 = t3 .before .before .before in
+    let t1 = t2 .before .before .before in
+    rw (
+      sym (t1 .before .is .ensures) ∙ t1 .if1 .left,
+      sym (t2 .before .is2 .ensures) ∙ t2 .if2 .left,
+      sym (t3 .before .is3 .ensures) ∙ t3 .if3 .left,
+      sym (t4 .before .is4 .ensures) ∙ t4 .if4 .left,
+      sym (t5 .before .is5 .ensures) ∙ t5 .if5 .left,
+      sym (c .before .is6 .ensures) ∙ c .if6 .left,
+    )
 
 pub command-of-spec : {M : Type 1} → statement M
 command-of-spec =

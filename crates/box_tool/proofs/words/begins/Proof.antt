@@ -20,7 +20,12 @@ loop-holds : tie.Need-loop-holds Inv-loop μ-loop
 loop-holds c = (search needs, refl)
 
 returns : tie.Need-returns Inv-loop μ-loop
-returns c = let at = c .before .before .loop in sym (c .before .before .loop .inv .1 ∙ text-ends (now (c .before .before .before .args .word)) (now (c .before .before .before .args .text)) (at .i) (c .before .loop-test .taken) (c .if1 .taken))
+returns c =
+    let loop = c .before .before .loop in
+    let start = c .before .before .before .args in
+    let word = now (start .word) in
+    let text = now (start .text) in
+    sym (loop .inv .1 ∙ text-ends word text (loop .i) (c .before .loop-test .taken) (c .if1 .taken))
 
 shared-slice-read-if2 : tie.Need-shared-slice-read-if2 Inv-loop μ-loop
 shared-slice-read-if2 c = search needs
@@ -29,7 +34,12 @@ shared-slice-read-if2-2 : tie.Need-shared-slice-read-if2-2 Inv-loop μ-loop
 shared-slice-read-if2-2 c = search needs
 
 returns-2 : tie.Need-returns-2 Inv-loop μ-loop
-returns-2 c = let at = c .before .before .before .before .before .loop in sym (at .inv .1 ∙ byte-differs (now (c .before .before .before .before .before .before .args .word)) (now (c .before .before .before .before .before .before .args .text)) (at .i) (c .before .before .before .before .loop-test .taken) (c .before .before .before .if1 .left) (c .if2 .taken))
+returns-2 c =
+    let loop = c .before .before .before .before .before .loop in
+    let start = c .before .before .before .before .before .before .args in
+    let word = now (start .word) in
+    let text = now (start .text) in
+    sym (loop .inv .1 ∙ byte-differs word text (loop .i) (c .before .before .before .before .loop-test .taken) (c .before .before .before .if1 .left) (c .if2 .taken))
 
 add-i : tie.Need-add-i Inv-loop μ-loop
 add-i c = search needs
@@ -38,10 +48,20 @@ loop-less : tie.Need-loop-less Inv-loop μ-loop
 loop-less c = search needs
 
 loop-again : tie.Need-loop-again Inv-loop μ-loop
-loop-again c = let at = c .before .before .before .before .before .loop in (omega arith, at .inv .1 ∙ byte-agrees (now (c .before .before .before .before .before .before .args .word)) (now (c .before .before .before .before .before .before .args .text)) (at .i) (c .before .before .before .before .loop-test .taken) (c .before .before .before .if1 .left) (c .if2 .left))
+loop-again c =
+    let loop = c .before .before .before .before .before .loop in
+    let start = c .before .before .before .before .before .before .args in
+    let word = now (start .word) in
+    let text = now (start .text) in
+    (omega arith, loop .inv .1 ∙ byte-agrees word text (loop .i) (c .before .before .before .before .loop-test .taken) (c .before .before .before .if1 .left) (c .if2 .left))
 
 returns-3 : tie.Need-returns-3 Inv-loop μ-loop
-returns-3 c = let at = c .before .loop in sym (at .inv .1 ∙ whole-word (now (c .before .before .args .word)) (now (c .before .before .args .text)) (at .i) (c .loop-test .left))
+returns-3 c =
+    let loop = c .before .loop in
+    let start = c .before .before .args in
+    let word = now (start .word) in
+    let text = now (start .text) in
+    sym (loop .inv .1 ∙ whole-word word text (loop .i) (c .loop-test .left))
 
 pub begins-spec : {M : Type 1} → statement M
 begins-spec =
