@@ -1,5 +1,5 @@
--- The status that is told by what was printed is that of what the input comes to: a refusal begins with its word, a run with another, and an
--- input that is accepted with a form.
+-- The status that is told by what was printed of a run, or of an input that is saved, is that of what the input comes to: a refusal begins with
+-- its word, a run with another, and an input that is accepted with a form.
 use Prim.Native.Nat.{ℕ, _+_, _≤_, _<_}
 use native.Mathlib.Omega.{arith}
 use mathlib.Core.Path.{_≡_, refl, sym, ap, _∙_, subst}
@@ -23,9 +23,7 @@ use Rattle.rules.proofs.Printing.{join-lines}
 use Rattle.rules.proofs.Accepted.{accepted-valid, accepted-prints, reading-accepted}
 use Rattle.grammar.specs.Words.{begins}
 use Rattle.save.specs.Saved.{savedAs, saved}
-use Rattle.box_tool.specs.declared.commands.Job.{Job}
-use Rattle.box_tool.specs.declared.commands.Job.the-variants as J
-use Rattle.box_tool.specs.Status.{well, statusBy, textOf, statusOf, Unless}
+use Rattle.box_tool.specs.Status.{well, statusBy, statusOf}
 use Rattle.box_tool.specs.Status as Status
 
 -- ---- What an input comes to
@@ -103,12 +101,13 @@ script-told P text rest is = rw (accepted-prints mosts text P is) (go (P .editio
     go edition1 = first-told (P .kinds) (P .blocks) (accepted-valid mosts text P is .first .there) rest
     go edition2 = rw append-assoc (head-told _)
 
-pub job-told : (job : Job) (input : List ℕ) → statusOf (textOf job input) ≡ statusBy (outcome mosts input)
-unfolding boxrun saved
-job-told J.Run input = by-outcome input (λ o. statusOf (printed o) ≡ statusBy o) refusal-told (λ P ts text rest split is. run-told P (run mosts P ts))
-job-told J.Save input =
+-- so 1 is told exactly where boxrun turns the input away: by a run, and by an input that is saved
+pub run-status : (input : List ℕ) → statusOf (boxrun mosts input) ≡ statusBy (outcome mosts input)
+unfolding boxrun
+run-status input = by-outcome input (λ o. statusOf (printed o) ≡ statusBy o) refusal-told (λ P ts text rest split is. run-told P (run mosts P ts))
+
+pub save-status : (input : List ℕ) → statusOf (saved input) ≡ statusBy (outcome mosts input)
+unfolding saved
+save-status input =
     by-outcome input (λ o. statusOf (savedAs input o) ≡ statusBy o) refusal-told
     (λ P ts text rest split is. rw split (script-told P text rest is))
-
-pub same-status : (status : ℕ) {right right₁ : ℕ} → right ≡ right₁ → Unless status right → Unless status right₁
-same-status status same told = subst (Unless status) same told

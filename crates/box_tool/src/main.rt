@@ -11,15 +11,16 @@ use commands::takes;
 use files::read_input;
 use listing::Printed;
 use streams::Reading;
+use words::Number;
 use words::begins;
 use words::is;
+use words::number_of;
 ghost use mathlib.Core.Path.{_≡_};
 ghost use Prim.Native.Nat.{_≤_};
 ghost use lib.ListN.{length};
-ghost use Rattle.rules.specs.Mosts.{mosts};
-ghost use Rattle.rules.specs.Input.{outcome};
-ghost use Rattle.save.specs.Saved.{savedIn, savedAfter};
-ghost use Rattle.box_tool.specs.Status.{statusBy, statusOf, textOf, Unless};
+ghost use Rattle.stripping.specs.StrippedTexts.{Prints};
+ghost use Rattle.box_tool.specs.Status.{statusOf, Unless};
+ghost use Rattle.box_tool.specs.Jobs.{IsText, Finishes};
 
 const WELL: u8 = b'0';
 
@@ -29,13 +30,15 @@ const REFUSED: u8 = b'1';
 // An error of the system, or of usage.
 const FAULT: u8 = b'2';
 
-const USAGE: [u8; 384] = *b"\
+const USAGE: [u8; 546] = *b"\
 usage: one of\n\
-box run [FILE]       print the run of an input: a script, then its turns\n\
-box save [FILE]      print the input again, its script from the program table\n\
-box explain NUMBER   print what the number of a refusal or a stop means\n\
-box --version        print the version\n\
-box --help           print this\n\
+box run [FILE]          print the run of an input: a script, then its turns\n\
+box save [FILE]         print the input again, its script from the program table\n\
+box strip [FILE]        print the input with every capability unsafe\n\
+box reach FILE THREAD   print the objects that a thread reaches after the run\n\
+box explain NUMBER      print what the number of a refusal or a stop means\n\
+box --version           print the version\n\
+box --help              print this\n\
 FILE is an input as boxrun reads it; with none, or -, it is standard input.\n\
 ";
 
@@ -61,21 +64,22 @@ fn write_out(text: &[u8], status: u8) -> u8
     status
 }
 
-// Prints a job.
+// Prints what is asked of an input.
 fn print(job: Job, input: &[u8], output: &mut [u8]) -> Printed
     requires { ⌜ 65536 ≤ length (now output) ⌝ }
-    ensures { λ r. ⌜ r ≡ savedIn (textOf job (now (input .entry))) (now (output .entry)) ⌝ }
-    ensures { λ _. ⌜ now (output .exit) ≡ savedAfter (textOf job (now (input .entry))) (now (output .entry)) ⌝ }
+    ensures { λ r. ⌜ Prints (IsText job (now (input .entry))) (now (output .entry)) r (now (output .exit)) ⌝ }
 {
     match job {
         Job::Run => replay::print_input(input, output),
         Job::Save => save::print_saved(input, output),
+        Job::Strip => stripping::print_stripped(input, output),
+        Job::Reached(thread) => reports::print_reached(input, thread, output),
     }
 }
 
-// Does a job on an input that was read whole.
+// Prints it, writes it and answers the status.
 fn finish(job: Job, input: &[u8]) -> u8
-    ensures { λ r. ⌜ Unless r (statusBy (outcome mosts (now (input .entry)))) ⌝ }
+    ensures { λ r. ⌜ Finishes job (now (input .entry)) r ⌝ }
 {
     let mut output = [0u8; 65536];
     let printed = print(job, input, &mut output);
@@ -98,12 +102,33 @@ fn on_input(job: Job, i: usize) -> u8 {
     }
 }
 
-// What the number means that argument i names.
-fn explain_number(i: usize) -> u8 {
+// What the thread reaches that argument i + 1 names, on the input that argument i names.
+fn reach(i: usize) -> u8
+    requires { ⌜ i ≤ 3 ⌝ }
+{
+    let mut word = [0u8; 16];
+    let n = os::arg(i + 1, &mut word);
+    let number = number_of(&word[..n]);
+    match number {
+        Number::Of(thread) => on_input(Job::Reached(thread), i),
+        Number::None => usage(),
+    }
+}
+
+// What the number means that argument i names, if there is one.
+fn explain_argument(i: usize) -> u8 {
     let mut word = [0u8; 16];
     let n = os::arg(i, &mut word);
+    let number = number_of(&word[..n]);
+    match number {
+        Number::Of(k) => explain_number(k),
+        Number::None => explain_number(0),
+    }
+}
+
+fn explain_number(number: usize) -> u8 {
     let mut output = [0u8; 32768];
-    let printed = explain::print_explained(&word[..n], &mut output);
+    let printed = explain::print_explained(number, &mut output);
     match printed {
         Printed::Written(m) => {
             if m == 0 {
@@ -136,7 +161,8 @@ fn perform(i: usize) -> u8
     }
     match command {
         Command::Print(job) => on_input(job, i + 1),
-        Command::Explain => explain_number(i + 1),
+        Command::Reach => reach(i + 1),
+        Command::Explain => explain_argument(i + 1),
         Command::Version => write_out(b"box 1.6.0\n", WELL),
         Command::Help => write_out(&USAGE, WELL),
         Command::Unknown => usage(),

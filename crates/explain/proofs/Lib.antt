@@ -1,5 +1,4 @@
 -- Why a page is what the code writes.
--- lines by their places; the pages; the number as it is written
+-- lines by their places; the pages
 mod LinesBetween
 mod PageLines
-mod Explains

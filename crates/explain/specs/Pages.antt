@@ -4,7 +4,6 @@ use Prim.Native.String as S
 use mathlib.Core.List.{List, [], _∷_, _++_, map}
 use lib.ListN.{take, drop}
 use Rattle.rules.specs.Text.{bytes, lf, join}
-use Rattle.rules.specs.Templates.{Taken, took, unfit, number, whole}
 
 unfoldable pub pages : List S.String
 pages =
@@ -117,11 +116,3 @@ lineOf s = bytes s ++ (lf ∷ [])
 unfoldable pub page : ℕ → List ℕ
 page zero = []
 page (suc n) = join (take 5 (drop (5 * n) (map lineOf pages)))
-
--- as the number is written: one to three digits, with no needless zero; nothing is said of what is none
-abbrev pub pageBy : Taken ℕ → List ℕ
-pageBy (took n l) = page n
-pageBy unfit = []
-
-unfoldable pub explained : List ℕ → List ℕ
-explained word = pageBy (whole (number word))

@@ -2,13 +2,12 @@
 use buffer::put_text;
 use listing::Printed;
 ghost use mathlib.Core.Path.{_≡_};
-ghost use mathlib.Core.List.{[]};
 ghost use Prim.Native.Nat.{_-_, _≤_};
 ghost use lib.ListN.{length, take, drop};
 ghost use Rattle.rules.specs.Text.{lines, join};
 ghost use Rattle.buffer.specs.Writing.{Wrote};
 ghost use Rattle.listing.specs.Outputs.{printedOf, outputAfter};
-ghost use Rattle.explain.specs.Pages.{page, explained};
+ghost use Rattle.explain.specs.Pages.{page};
 
 // A page of five lines for each number: its word, what it means, what to do.
 const PAGES: [u8; 5736] = *b"\
@@ -126,7 +125,7 @@ fn put_lines(output: &mut [u8], text: &[u8], from: usize, to: usize) -> usize
 
 // The page of a number.
 fn put_page(output: &mut [u8], n: usize) -> usize
-    requires { ⌜ (n ≤ 999) × (32768 ≤ length (now output)) ⌝ }
+    requires { ⌜ (n ≤ 20) × (32768 ≤ length (now output)) ⌝ }
     ensures { λ r. ⌜ Wrote 32768 (now (output .entry)) (now (output .exit)) 0 r (page n) ⌝ }
 {
     if n == 0 {
@@ -135,21 +134,17 @@ fn put_page(output: &mut [u8], n: usize) -> usize
     put_lines(output, &PAGES, 5 * (n - 1), 5 * n)
 }
 
-// Prints what is said of a number as it is written, and nothing for what is none of 1 to 20. An output under 32,768 bytes is refused with 9
-// and stays as it was.
-pub fn print_explained(word: &[u8], output: &mut [u8]) -> Printed
-    ensures { λ r. ⌜ r ≡ printedOf (explained (now (word .entry))) (now (output .entry)) ⌝ }
-    ensures { λ _. ⌜ now (output .exit) ≡ outputAfter (explained (now (word .entry))) (now (output .entry)) ⌝ }
+// Prints what is said of a number, and nothing for one that is none of 1 to 20. An output under 32,768 bytes is refused with 9 and stays as it
+// was.
+pub fn print_explained(number: usize, output: &mut [u8]) -> Printed
+    ensures { λ r. ⌜ r ≡ printedOf (page number) (now (output .entry)) ⌝ }
+    ensures { λ _. ⌜ now (output .exit) ≡ outputAfter (page number) (now (output .entry)) ⌝ }
 {
     if output.len() < 32768 {
         return Printed::Refused(rules::numbers::SHORT_TABLE, 0);
     }
-    let number = grammar::number_at(word, 0);
-    if !number.ok {
+    if 20 < number {
         return Printed::Written(0);
     }
-    if number.end < word.len() {
-        return Printed::Written(0);
-    }
-    Printed::Written(put_page(output, number.word as usize))
+    Printed::Written(put_page(output, number))
 }

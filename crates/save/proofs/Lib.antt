@@ -1,2 +1,2 @@
 -- Why the input that was read is what is printed.
-pub mod Saves
+mod Saves

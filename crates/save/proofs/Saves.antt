@@ -6,8 +6,8 @@ use mathlib.Core.Path.{_≡_, refl, sym, ap, _∙_, subst}
 use mathlib.Core.Bool.{Bool, true, false, _||_, cond}
 use mathlib.Core.List.{List, _++_}
 use lib.Dec.{ltb}
-use lib.ListN.{length, take, drop, take-append-drop, length-append, length-drop}
-use lib.Seq.{length-take-le, take-all, take-append-seam}
+use lib.ListN.{length, take, drop, take-append-drop, length-drop}
+use lib.Seq.{length-take-le, take-all}
 use borrow.Author.Tests.{lt-ltb, le-ltb, ltb-false}
 use Rattle.rules.specs.Mosts as Most
 use Rattle.rules.specs.Mosts.{mosts}
@@ -56,17 +56,6 @@ module _ (text output : List ℕ) where
   unfolding savedIn savedAfter over
   saved-whole room w =
       rw (le-ltb (length output) savedBytes room) (ap Written (w .end ∙ zero-add (length text)), rw (zero-add (length text)) at (w .is))
-
--- what is written fits in the output, and is the text
-pub saved-front : (text l : List ℕ) {r : Printed} {l₁ : List ℕ} {m : ℕ} → r ≡ savedIn text l → l₁ ≡ savedAfter text l → r ≡ Written m
-    → (m ≤ length l₁) × (take m l₁ ≡ text)
-unfolding savedIn savedAfter
-saved-front text l {l₁ = l₁} {m = m} answers leaves written = by-bool (ltb (length l) savedBytes)
-    (λ short. let refused = rw short at answers in impossible cc)
-    (λ long.
-    let after = rw long at leaves in
-    let count : m ≡ length text = let all = rw long at answers in cc in
-    (omega (arith, count, ap length after, length-append text (drop (length text) l)), rw (after, count) (take-append-seam text (drop (length text) l))))
 
 -- ---- The script
 

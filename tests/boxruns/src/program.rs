@@ -9,13 +9,13 @@ use std::time::Duration;
 pub struct Program {
     pub path: PathBuf,
     /// Its arguments.
-    pub words: &'static [&'static str],
+    pub words: Vec<String>,
 }
 
 impl Program {
     fn start(&self) -> Result<Child, String> {
         Command::new(&self.path)
-            .args(self.words)
+            .args(&self.words)
             .stdin(Stdio::piped())
             .stdout(Stdio::piped())
             .stderr(Stdio::piped())

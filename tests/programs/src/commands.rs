@@ -22,7 +22,11 @@ fn inputs(tally: &mut Tally, room: &Path, wrapper: &str) {
     let missing = room.join("missing").display().to_string();
     let folder = room.display().to_string();
     let refused = printed(REFUSED);
-    for (command, out) in [("run", printed(INPUT)), ("save", INPUT.to_string())] {
+    for (command, out) in [
+        ("run", printed(INPUT)),
+        ("save", INPUT.to_string()),
+        ("strip", INPUT.to_string()),
+    ] {
         let told = |path: &str, why: &str| ended(2, "", &format!("box: {}: {}\n", path, why));
         let cases = [
             (vec![command], INPUT, ended(0, &out, "")),
@@ -57,6 +61,40 @@ fn inputs(tally: &mut Tally, room: &Path, wrapper: &str) {
     tally.same("a long name", &boxed(wrapper, &["run", &long], ""), &wanted);
 }
 
+/// What is asked of a thread, and of a script that has capabilities.
+fn asked(tally: &mut Tally, room: &Path, wrapper: &str) {
+    let text = "(kind (fields 0) (does))\n(thread)\n(let (new iso 0))\n(let (new imm 0))\n(give (take 1))\n(turns 0 0)\n";
+    let bare = text
+        .replace(" iso ", " unsafe ")
+        .replace(" imm ", " unsafe ");
+    let path = file(room, "asked", text);
+    let usage = ended(2, "", &boxed(wrapper, &["--help"], "").out);
+    let unstarted = ended(1, "(refused 17 0)\n", "");
+    for (words, wanted) in [
+        (vec!["strip", &path], ended(0, &bare, "")),
+        (vec!["reach", &path, "0"], ended(0, "(reached 0 1)\n", "")),
+        (vec!["reach", "-", "0"], ended(0, "(reached 0 1)\n", "")),
+        (vec!["reach", &path, "1"], unstarted.clone()),
+        (vec!["reach", &path, "999"], unstarted),
+        (vec!["reach", &path, "1000"], usage.clone()),
+        (vec!["reach", &path, "00"], usage.clone()),
+        (vec!["reach", &path, ""], usage.clone()),
+        (vec!["reach", &path, "x"], usage.clone()),
+        (vec!["reach", &path], usage.clone()),
+        (vec!["reach"], usage.clone()),
+        (vec!["reach", &path, "0", "1"], usage.clone()),
+        (vec!["strip", &path, "0"], usage),
+    ] {
+        tally.same(
+            &format!("box {:?}", words),
+            &boxed(wrapper, &words, text),
+            &wanted,
+        );
+    }
+    let got = boxed(wrapper, &["reach", "-", "0"], REFUSED);
+    tally.same("box reach, refused", &got, &ended(1, &printed(REFUSED), ""));
+}
+
 /// A run that stopped is well: it answers what came of the turns.
 fn stopped(tally: &mut Tally, wrapper: &str) {
     let input = "(thread)\n(give (read 0))\n(turns 0)\n";
@@ -71,7 +109,13 @@ fn stopped(tally: &mut Tally, wrapper: &str) {
 
 fn others(tally: &mut Tally, wrapper: &str) {
     let usage = boxed(wrapper, &["--help"], "").out;
-    for line in ["box run [FILE]", "box save [FILE]", "box explain NUMBER"] {
+    for line in [
+        "box run [FILE]",
+        "box save [FILE]",
+        "box strip [FILE]",
+        "box reach FILE THREAD",
+        "box explain NUMBER",
+    ] {
         tally.holds(usage.contains(line), || format!("no {} in the usage", line));
     }
     let none = ended(1, "", NUMBERS);
@@ -170,6 +214,7 @@ fn installed(tally: &mut Tally, room: &Path, folder: &str, wrapper: &str) {
 
 pub fn all(tally: &mut Tally, room: &Path, folder: &str, wrapper: &str) {
     inputs(tally, room, wrapper);
+    asked(tally, room, wrapper);
     stopped(tally, wrapper);
     others(tally, wrapper);
     descriptor_3(tally, room, folder);

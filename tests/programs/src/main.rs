@@ -84,7 +84,12 @@ fn subjects(folder: &str, wrapper: &str, path: &str, input: &str) -> Vec<Subject
         fault: 0,
         from_file: false,
     }];
-    for (command, file) in [("run", None), ("run", Some(path)), ("save", Some("-"))] {
+    for (command, file) in [
+        ("run", None),
+        ("run", Some(path)),
+        ("save", Some("-")),
+        ("strip", None),
+    ] {
         let mut words = vec![wrapper.to_string(), command.to_string()];
         words.extend(file.map(str::to_string));
         let from_file = file.map_or(false, |file| file != "-");
@@ -93,7 +98,7 @@ fn subjects(folder: &str, wrapper: &str, path: &str, input: &str) -> Vec<Subject
             words,
             program: "box_tool".to_string(),
             prints: match command {
-                "save" if !refused => input.to_string(),
+                "save" | "strip" if !refused => input.to_string(), // it names no capability
                 _ => printed(input),
             },
             reads: match file {

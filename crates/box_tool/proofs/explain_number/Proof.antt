@@ -6,20 +6,8 @@ use borrow.Author.Needs.{needs}
 use Rattle.box_tool.proofs.explain_number.Statement.{statement}
 use Rattle.box_tool.proofs.explain_number.Tie as tie
 
-slice-aggregate-arg : tie.Need-slice-aggregate-arg
-slice-aggregate-arg c = search needs
-
-arg-requires : tie.Need-arg-requires
-arg-requires c κs = search needs
-
-array-share-prefix-word : tie.Need-array-share-prefix-word
-array-share-prefix-word c = search needs
-
 slice-aggregate-print-explained : tie.Need-slice-aggregate-print-explained
 slice-aggregate-print-explained c = search needs
-
-slice-aggregate-print-explained-2 : tie.Need-slice-aggregate-print-explained-2
-slice-aggregate-print-explained-2 c = search needs
 
 print-explained-requires : tie.Need-print-explained-requires
 print-explained-requires c κs = search needs
@@ -60,11 +48,7 @@ pub explain-number-spec : {M : Type 1} → statement M
 explain-number-spec =
     tie.close
     (tie.spec
-    slice-aggregate-arg
-    arg-requires
-    array-share-prefix-word
     slice-aggregate-print-explained
-    slice-aggregate-print-explained-2
     print-explained-requires
     enum-known-printed
     slice-aggregate-write-all

@@ -1,11 +1,9 @@
--- The status is told by what was printed, and that is right of what the input comes to.
+-- The status is told by what was printed, which is the text at the front of the output.
 use denote.Ref.{now}
 use mathlib.Core.Path.{refl, sym, ap, _∙_}
-use mathlib.Core.Logic.{inl}
 use lib.Seq.{length-take-le}
-use Rattle.save.proofs.Saves.{saved-front}
-use Rattle.box_tool.specs.Status.{textOf, statusOf}
-use Rattle.box_tool.proofs.Statuses.{job-told, same-status}
+use Rattle.box_tool.specs.Status.{statusOf}
+use Rattle.box_tool.proofs.JobTexts.{front-fits, front-is, finishes, finishes-failed}
 use borrow.Author.Needs.{needs}
 use Rattle.box_tool.proofs.finish.Statement.{statement}
 use Rattle.box_tool.proofs.finish.Tie as tie
@@ -20,35 +18,19 @@ enum-known-printed : tie.Need-enum-known-printed
 enum-known-printed c = search needs
 
 array-share-prefix-output : tie.Need-array-share-prefix-output
-array-share-prefix-output c =
-    let at-print = c .before .before .before .before in
-    let start = at-print .before .before .before .args in
-    let front = saved-front (textOf (start .job) (now (start .input))) _ (at-print .print .ensures .0) (at-print .print .ensures .1) (c .before .printed .given .1) in
-    front .0
+array-share-prefix-output c = front-fits (c .before .before .before .before .print .ensures) (c .before .printed .given .1)
 
 slice-aggregate-status-of : tie.Need-slice-aggregate-status-of
-slice-aggregate-status-of c =
-    let at-print = c .before .before .before .before .before in
-    let start = at-print .before .before .before .args in
-    let front = saved-front (textOf (start .job) (now (start .input))) _ (at-print .print .ensures .0) (at-print .print .ensures .1) (c .before .before .printed .given .1) in
-    sym (length-take-le _ _ (front .0))
+slice-aggregate-status-of c = sym (length-take-le _ _ (front-fits (c .before .before .before .before .before .print .ensures) (c .before .before .printed .given .1)))
 
 status-of-requires : tie.Need-status-of-requires
 status-of-requires c κs = search needs
 
 array-share-prefix-output-2 : tie.Need-array-share-prefix-output-2
-array-share-prefix-output-2 c =
-    let at-print = c .before .before .before .before .before .before in
-    let start = at-print .before .before .before .args in
-    let front = saved-front (textOf (start .job) (now (start .input))) _ (at-print .print .ensures .0) (at-print .print .ensures .1) (c .before .before .before .printed .given .1) in
-    front .0
+array-share-prefix-output-2 c = front-fits (c .before .before .before .before .before .before .print .ensures) (c .before .before .before .printed .given .1)
 
 slice-aggregate-write-out : tie.Need-slice-aggregate-write-out
-slice-aggregate-write-out c =
-    let at-print = c .before .before .before .before .before .before .before in
-    let start = at-print .before .before .before .args in
-    let front = saved-front (textOf (start .job) (now (start .input))) _ (at-print .print .ensures .0) (at-print .print .ensures .1) (c .before .before .before .before .printed .given .1) in
-    sym (length-take-le _ _ (front .0))
+slice-aggregate-write-out c = sym (length-take-le _ _ (front-fits (c .before .before .before .before .before .before .before .print .ensures) (c .before .before .before .before .printed .given .1)))
 
 write-out-requires : tie.Need-write-out-requires
 write-out-requires c κs = search needs
@@ -60,11 +42,13 @@ returns : tie.Need-returns
 returns c =
     let at-print = c .before .before .before .before .before .before .before .before in
     let start = at-print .before .before .before .args in
-    let front = saved-front (textOf (start .job) (now (start .input))) _ (at-print .print .ensures .0) (at-print .print .ensures .1) (c .before .before .before .before .before .printed .given .1) in
-    same-status (c .write-out .result) (c .before .before .status-of .ensures ∙ ap statusOf (front .1) ∙ job-told (start .job) (now (start .input))) (c .write-out .ensures)
+    let p = at-print .print .ensures in
+    finishes (start .job) (now (start .input)) p (c .write-out .result) (c .before .before .status-of .ensures ∙ ap statusOf (front-is p (c .before .before .before .before .before .printed .given .1))) (c .write-out .ensures)
 
 returns-2 : tie.Need-returns-2
-returns-2 c = inl refl
+returns-2 c =
+    let start = c .before .before .before .before .before .before .args in
+    finishes-failed (start .job) (now (start .input)) (c .before .before .before .print .ensures) _ refl
 
 pub finish-spec : {M : Type 1} → statement M
 finish-spec =

@@ -60,7 +60,9 @@ returns c =
     let start = c .before .before .before .before .before .before .before .before .before .before .before .before .before in
     let read = c .before .before .before .before .before .before .before .before .read in
     let is = sym (c .before .before .before .before .before .answer .given .1) ∙ read .ensures .0 in
-    script-refused (take (start .args .at) (now (start .args .input))) _ (search needs) (drop (start .args .at) (now (start .args .input))) (now (start .args .output)) (start .pre .2) is (c .before .before .print-refusal .ensures)
+    let input = now (start .args .input) in
+    let at = start .args .at in
+    script-refused (take at input) _ (search needs) (drop at input) (now (start .args .output)) (start .pre .2) is (c .before .before .print-refusal .ensures)
 
 same-length-2 : tie.Need-same-length-2
 same-length-2 c = search needs

@@ -1,4 +1,4 @@
--- The words are compared one after the other, as the definition has them.
+-- The words are compared one after the other, as the definition has them; the rest is a command on an input.
 use mathlib.Core.Path.{sym, _∙_}
 use Rattle.box_tool.specs.Commands.{commandOf}
 use borrow.Author.Needs.{needs}
@@ -66,16 +66,13 @@ returns-4 c =
       sym (c .before .is4 .ensures) ∙ c .if4 .taken,
     )
 
-slice-aggregate-is-5 : tie.Need-slice-aggregate-is-5
-slice-aggregate-is-5 c = search needs
-
-is-requires-5 : tie.Need-is-requires-5
-is-requires-5 c κs = search needs
+input-command-of-requires : tie.Need-input-command-of-requires
+input-command-of-requires c κs = search needs
 
 returns-5 : tie.Need-returns-5
 unfolding commandOf
 returns-5 c =
-    let t4 = c .before .before .before in
+    let t4 = c .before in
     let t3 = t4 .before .before .before in
     let t2 = t3 .before .before .before in
     let t1 = t2 .before .before .before in
@@ -84,48 +81,7 @@ returns-5 c =
       sym (t2 .before .is2 .ensures) ∙ t2 .if2 .left,
       sym (t3 .before .is3 .ensures) ∙ t3 .if3 .left,
       sym (t4 .before .is4 .ensures) ∙ t4 .if4 .left,
-      sym (c .before .is5 .ensures) ∙ c .if5 .taken,
-    )
-
-slice-aggregate-is-6 : tie.Need-slice-aggregate-is-6
-slice-aggregate-is-6 c = search needs
-
-is-requires-6 : tie.Need-is-requires-6
-is-requires-6 c κs = search needs
-
-returns-6 : tie.Need-returns-6
-unfolding commandOf
-returns-6 c =
-    let t5 = c .before .before .before in
-    let t4 = t5 .before .before .before in
-    let t3 = t4 .before .before .before in
-    let t2 = t3 .before .before .before in
-    let t1 = t2 .before .before .before in
-    rw (
-      sym (t1 .before .is .ensures) ∙ t1 .if1 .left,
-      sym (t2 .before .is2 .ensures) ∙ t2 .if2 .left,
-      sym (t3 .before .is3 .ensures) ∙ t3 .if3 .left,
-      sym (t4 .before .is4 .ensures) ∙ t4 .if4 .left,
-      sym (t5 .before .is5 .ensures) ∙ t5 .if5 .left,
-      sym (c .before .is6 .ensures) ∙ c .if6 .taken,
-    )
-
-returns-7 : tie.Need-returns-7
-unfolding commandOf
-returns-7 c =
-    let t5 = c .before .before .before in
-    let t4 = t5 .before .before .before in
-    let t3 = t4 .before .before .before in
-    let t2 = t3 .before .before .before in
-    let t1 = t2 .before .before .before in
-    rw (
-      sym (t1 .before .is .ensures) ∙ t1 .if1 .left,
-      sym (t2 .before .is2 .ensures) ∙ t2 .if2 .left,
-      sym (t3 .before .is3 .ensures) ∙ t3 .if3 .left,
-      sym (t4 .before .is4 .ensures) ∙ t4 .if4 .left,
-      sym (t5 .before .is5 .ensures) ∙ t5 .if5 .left,
-      sym (c .before .is6 .ensures) ∙ c .if6 .left,
-    )
+    ) (c .input-command-of .ensures)
 
 pub command-of-spec : {M : Type 1} → statement M
 command-of-spec =
@@ -143,10 +99,5 @@ command-of-spec =
     slice-aggregate-is-4
     is-requires-4
     returns-4
-    slice-aggregate-is-5
-    is-requires-5
-    returns-5
-    slice-aggregate-is-6
-    is-requires-6
-    returns-6
-    returns-7)
+    input-command-of-requires
+    returns-5)
