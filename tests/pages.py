@@ -173,7 +173,7 @@ def tried():
     yield finds('a number left out', numbers(page.replace('| 12 | no method |', '| no method |'), SCRIPTS, 'The numbers'))
     yield finds('another word', numbers(page.replace('| 19 | alias |', '| 19 | second |'), SCRIPTS, 'The numbers'))
     yield finds('a point left out', index(decisions.replace('159, 163 |', '159 |')))
-    yield finds('a point that is not there', index(decisions.replace('| boxsave | 124', '| boxsave | 999, 124')))
+    yield finds('a point that is not there', index(decisions.replace('| box | 124', '| box | 999, 124')))
     yield finds('a picture that is not shown', pictures(page.replace('](pictures/iso.svg)', '](pictures/imm.svg)')))
     yield finds('a link to nothing', links(SCRIPTS, page.replace('](../examples)', '](../example)')))
     yield finds('an anchor to nothing', links(SCRIPTS, page.replace('](#limits)', '](#limit)')))

@@ -535,11 +535,11 @@ fn long_inputs() -> Vec<Fixed> {
     all
 }
 
-/// Texts for boxsave, each with the refusal that is settled for it; with none, the text comes back.
-pub fn texts() -> Vec<Fixed> {
+/// Texts to be saved, with a line of turns after them, and the refusal that is settled for each; with none, the input comes back.
+pub fn saves() -> Vec<Fixed> {
     let text = |name: &str, text: String, first_line: &str| Fixed {
         name: format!("save: {}", name),
-        input: text.into_bytes(),
+        input: format!("{}(turns 0 1 16 255)\n", text).into_bytes(),
         first_line: first_line.to_string(),
     };
     let longest = longest_script(Edition::One);
@@ -549,7 +549,9 @@ pub fn texts() -> Vec<Fixed> {
     let every = "(kind (fields 4) (does 2 2 2 2))\n(thread)\n(let (read 0))\n(let (take 1))\n(let (field 2 0))\n(let (swap 3 10 (take 2)))\n\
                  (let (call 1 255 (read 4)))\n(let (new local 0 (read 1) (take 2) (read 3) (take 4)))\n(let (cast unsafe (take 5)))\n\
                  (let (spawn 1))\n(let (send 8 (take 6)))\n(let (recv 8))\n(give (take 10))\n(thread)\n(give (read 0))\n(method)\n(give (take 1))\n";
+    let grows = longest.replacen("(swap 0 255 (read 0))", "(cast imm (read 0))", 1);
     vec![
+        text("grows when stripped", grows, ""),
         text("the shortest", SMALL.to_string(), ""),
         text("case A", A.to_string(), ""),
         text("every form", every.to_string(), ""),

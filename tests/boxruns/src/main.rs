@@ -1,9 +1,10 @@
 //! The program `boxruns`: `boxruns PATH SEED COUNT` starts the boxrun at PATH on the examples, on inputs that are written out and on COUNT
-//! random ones, and holds what it prints to the second interpreter's, byte for byte, and to demand 3. `boxruns save PATH SEED COUNT` does the
-//! same with the boxsave at PATH, on scripts alone.
+//! random ones, and holds what it prints to the second interpreter's, byte for byte, and to demand 3. `boxruns save PATH SEED COUNT` holds what
+//! the box_tool at PATH prints for `save` on such inputs to what the second interpreter has; `strip` and `reach` likewise.
 
 #![forbid(unsafe_code)]
 
+mod asked;
 mod counts;
 mod demand3;
 mod fixed;
@@ -11,7 +12,6 @@ mod many;
 mod one;
 mod printed;
 mod program;
-mod saves;
 
 use std::env;
 use std::fs;
@@ -35,26 +35,32 @@ fn main() {
     let arguments: Vec<String> = env::args().skip(1).collect();
     let words: Vec<&str> = arguments.iter().map(String::as_str).collect();
     let status = match words.as_slice() {
-        ["save", path, seed, count] => started(path, seed, count, |program, seed, count| {
-            saves::all(program, seed, count).map(|counts| counts.rows())
-        }),
-        [path, seed, count] => started(path, seed, count, |program, seed, count| {
+        [path, seed, count] => started(path, seed, count, &|program, seed, count| {
             all(program, seed, count).map(|counts| counts.rows())
         }),
+        [word, path, seed, count] => match asked::of(word) {
+            Some(asked) => started(path, seed, count, &|program, seed, count| {
+                asked.all(program, seed, count)
+            }),
+            None => usage(),
+        },
         _ => usage(),
     };
     process::exit(status);
 }
 
 fn usage() -> i32 {
-    complain("boxruns PATH SEED COUNT | save PATH SEED COUNT\n");
+    complain("boxruns PATH SEED COUNT | boxruns save|strip|reach PATH SEED COUNT\n");
     2
 }
 
-fn started(path: &str, seed: &str, count: &str, all: fn(&Program, u64, u64) -> Held) -> i32 {
-    let path = PathBuf::from(path);
+fn started(path: &str, seed: &str, count: &str, all: &dyn Fn(&Program, u64, u64) -> Held) -> i32 {
+    let program = Program {
+        path: PathBuf::from(path),
+        words: Vec::new(),
+    };
     match (seed.parse(), count.parse()) {
-        (Ok(seed), Ok(count)) => told(all(&Program { path }, seed, count)),
+        (Ok(seed), Ok(count)) => told(all(&program, seed, count)),
         _ => usage(),
     }
 }

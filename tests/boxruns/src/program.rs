@@ -8,11 +8,14 @@ use std::time::Duration;
 
 pub struct Program {
     pub path: PathBuf,
+    /// Its arguments.
+    pub words: Vec<String>,
 }
 
 impl Program {
     fn start(&self) -> Result<Child, String> {
         Command::new(&self.path)
+            .args(&self.words)
             .stdin(Stdio::piped())
             .stdout(Stdio::piped())
             .stderr(Stdio::piped())

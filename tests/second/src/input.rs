@@ -1,13 +1,14 @@
 //! boxrun as a function: its input, a script and the last line `(turns T ..)`, to what it prints. And
-//! boxsave: a script alone, to the same script.
+//! box save, strip and reach on such an input.
 
 use crate::form::turns_line;
 use crate::listing::{listing, refused};
 use crate::machine::run;
 use crate::numbers::*;
-use crate::reading::{read, read_lent};
+use crate::reach::reach;
+use crate::reading::read_lent;
 use crate::script::Program;
-use crate::stripped::strip;
+use crate::stripped::{strip, strip_text};
 
 /// The input of boxrun, taken apart: the script's text, not yet judged, and the turns.
 #[derive(Clone, Debug, PartialEq, Eq)]
@@ -32,12 +33,39 @@ pub fn boxrun_stripped(input: &[u8]) -> Vec<u8> {
     }
 }
 
-/// What boxsave prints: the script itself, for every text that is accepted comes back byte for byte.
-pub fn boxsave(input: &[u8]) -> Vec<u8> {
-    match read(input) {
-        Ok(_) => input.to_vec(),
-        Err(refusal) => refused(refusal).into_bytes(),
-    }
+/// What box save prints: the input itself, for every script that is accepted comes back byte for byte.
+pub fn saved(input: &[u8]) -> Vec<u8> {
+    or_refused(accepted(input).map(|_| input.to_vec()))
+}
+
+/// What box strip prints: the input with its script stripped. A script that grows past the most is no text, and an input that does is
+/// overlong.
+pub fn stripped(input: &[u8]) -> Vec<u8> {
+    or_refused(accepted(input).and_then(|_| {
+        let script = parts(input)?.script;
+        let text = strip_text(script);
+        if text.len() > MOST_TEXT {
+            return Err(refused_at_zero(NO_SCRIPT));
+        }
+        let whole = [&text[..], &input[script.len()..]].concat();
+        if whole.len() > MOST_INPUT {
+            return Err(refused_at_zero(OVERLONG));
+        }
+        Ok(whole)
+    }))
+}
+
+/// What box reach prints: the objects that a thread reaches after the run, by rising number.
+pub fn reached(input: &[u8], thread: usize) -> Vec<u8> {
+    or_refused(accepted(input).and_then(|(program, turns)| {
+        let objects = reach(&run(&program, &turns).state, thread)?;
+        let words: String = objects.iter().map(|n| format!(" {}", n)).collect();
+        Ok(format!("(reached{})\n", words).into_bytes())
+    }))
+}
+
+fn or_refused(text: Result<Vec<u8>, Refusal>) -> Vec<u8> {
+    text.unwrap_or_else(|refusal| refused(refusal).into_bytes())
 }
 
 /// The program and the turns. Faults go in the order: long input, the turns line, the script.

@@ -1,10 +1,10 @@
-//! boxrun's own input: the last line, its faults before the script's, and long input; and boxsave's,
-//! a script alone.
+//! boxrun's own input: the last line, its faults before the script's, and long input; and the same
+//! saved, stripped and reported on.
 
 mod common;
 
 use common::*;
-use second::input::{boxrun, boxsave};
+use second::input::{boxrun, reached, saved, stripped};
 
 fn prints(input: &str) -> String {
     String::from_utf8(boxrun(input.as_bytes())).unwrap()
@@ -162,14 +162,52 @@ fn threads_out_of_range_are_idle() {
 }
 
 #[test]
-fn boxsave_prints_the_script_or_its_refusal() {
-    let saved = |text: &str| String::from_utf8(boxsave(text.as_bytes())).unwrap();
+fn an_input_is_saved_as_it_is_or_refused() {
+    let printed = |text: &str| String::from_utf8(saved(text.as_bytes())).unwrap();
     for script in [SMALL.to_string(), case_a(), case_g()] {
-        assert_eq!(saved(&script), script);
+        let input = input(&script, "0 1 255");
+        assert_eq!(printed(&input), input);
     }
-    assert_eq!(saved(""), "(refused 7 0)\n");
-    assert_eq!(saved(SMALL.trim_end()), "(refused 3 1)\n");
-    assert_eq!(saved(&input(SMALL, "0")), "(refused 3 2)\n");
-    assert_eq!(saved(&"(".repeat(16_384)), "(refused 3 0)\n");
-    assert_eq!(saved(&"(".repeat(16_385)), "(refused 1 0)\n");
+    assert_eq!(printed(""), "(refused 3 0)\n");
+    assert_eq!(printed("(turns)\n"), "(refused 7 0)\n");
+    assert_eq!(printed(SMALL), "(refused 3 1)\n");
+    assert_eq!(printed(&input(&input(SMALL, "0"), "0")), "(refused 3 2)\n");
+    assert_eq!(printed(&input(SMALL, "256")), "(refused 4 2)\n");
+    let long = |bytes: usize| input(&format!("{}\n", "(".repeat(bytes - 1)), "0");
+    assert_eq!(printed(&long(16_384)), "(refused 3 0)\n");
+    assert_eq!(printed(&long(16_385)), "(refused 1 0)\n");
+}
+
+#[test]
+fn an_input_is_stripped() {
+    let printed = |text: &str| String::from_utf8(stripped(text.as_bytes())).unwrap();
+    let script = input(&case_a(), "0 0 0 1 0");
+    assert_eq!(printed(&script), script.replace("new iso", "new unsafe"));
+    assert_eq!(printed(&input(SMALL, "0")), input(SMALL, "0"));
+    assert_eq!(printed(SMALL), "(refused 3 1)\n");
+    let longest = second::shapes::longest_script(second::script::Edition::One);
+    let grows = longest.replacen("(swap 0 255 (read 0))", "(cast imm (read 0))", 1);
+    assert_eq!(grows.len(), 16_382);
+    assert_eq!(printed(&input(&grows, "0")), "(refused 18 0)\n");
+    let mut turns = "1".to_string();
+    while input(&case_a(), &turns).len() < 65_535 {
+        turns.push_str(" 1");
+    }
+    assert_eq!(input(&case_a(), &turns).len(), 65_536);
+    assert_eq!(printed(&input(&case_a(), &turns)), "(refused 1 0)\n");
+}
+
+#[test]
+fn what_a_thread_reaches_is_printed() {
+    let printed = |turns: &str, thread| {
+        let text = reached(input(&case_a(), turns).as_bytes(), thread);
+        String::from_utf8(text).unwrap()
+    };
+    assert_eq!(printed("0 0", 0), "(reached 0)\n");
+    assert_eq!(printed("0 0 0 1 0", 0), "(reached)\n");
+    assert_eq!(printed("0 0 0 1 0", 1), "(reached 0)\n");
+    assert_eq!(printed("0", 1), "(reached)\n");
+    assert_eq!(printed("", 1), "(refused 17 0)\n");
+    assert_eq!(printed("0", 255), "(refused 17 0)\n");
+    assert_eq!(printed("256", 0), "(refused 4 9)\n");
 }

@@ -1,45 +1,35 @@
--- `boxrun::main` does nothing undefined: it reads at most what its input holds, and what was printed fits in the output.
-use mathlib.Core.Path.{sym}
-use lib.Seq.{length-take-le}
-use Rattle.listing.proofs.PrintOutcomes.{written-fits}
+-- `boxrun::main` does nothing undefined: what was read stands in the input.
+use Rattle.streams.proofs.StepLaws.{got-counted}
 use borrow.Author.Needs.{needs}
 use Rattle.boxrun.proofs.main.Statement.{statement}
 use Rattle.boxrun.proofs.main.Tie as tie
 
-slice-aggregate-read-full : tie.Need-slice-aggregate-read-full
-slice-aggregate-read-full c = search needs
+slice-aggregate-read-all : tie.Need-slice-aggregate-read-all
+slice-aggregate-read-all c = search needs
 
-read-full-requires : tie.Need-read-full-requires
-read-full-requires c κs = search needs
+read-all-requires : tie.Need-read-all-requires
+read-all-requires c κs = search needs
+
+enum-known-reading : tie.Need-enum-known-reading
+enum-known-reading c = search needs
 
 array-share-prefix-input : tie.Need-array-share-prefix-input
-array-share-prefix-input c = search needs
+array-share-prefix-input c = let call = c .before .before .before .before .read-all in got-counted (call .last .1 .0) (c .before .reading .given .1) (call .ensures) .0
 
-slice-aggregate-print-input : tie.Need-slice-aggregate-print-input
-slice-aggregate-print-input c = search needs
+slice-aggregate-print : tie.Need-slice-aggregate-print
+slice-aggregate-print c = let call = c .before .before .before .before .before .read-all in got-counted (call .last .1 .0) (c .before .before .reading .given .1) (call .ensures) .1
 
-slice-aggregate-print-input-2 : tie.Need-slice-aggregate-print-input-2
-slice-aggregate-print-input-2 c = search needs
-
-print-input-requires : tie.Need-print-input-requires
-print-input-requires c κs = search needs
-
-enum-known-printed : tie.Need-enum-known-printed
-enum-known-printed c = search needs
-
-array-share-prefix-output : tie.Need-array-share-prefix-output
-array-share-prefix-output c = let call = c .before .before .before .before .print-input in written-fits _ _ (call .ensures .0) (call .ensures .1) (c .before .printed .given .1)
-
-slice-aggregate-write-all : tie.Need-slice-aggregate-write-all
-slice-aggregate-write-all c =
-    let call = c .before .before .before .before .before .print-input in
-    sym (length-take-le _ _ (written-fits _ _ (call .ensures .0) (call .ensures .1) (c .before .before .printed .given .1)))
-
-write-all-requires : tie.Need-write-all-requires
-write-all-requires c κs = search needs
+print-requires : tie.Need-print-requires
+print-requires c κs = search needs
 
 enum-told : tie.Need-enum-told
 enum-told c = search needs
+
+slice-aggregate-fail : tie.Need-slice-aggregate-fail
+slice-aggregate-fail c = search needs
+
+fail-requires : tie.Need-fail-requires
+fail-requires c κs = search needs
 
 returns : tie.Need-returns
 returns c = search needs
@@ -51,16 +41,14 @@ pub main-spec : {M : Type 1} → statement M
 main-spec =
     tie.close
     (tie.spec
-    slice-aggregate-read-full
-    read-full-requires
+    slice-aggregate-read-all
+    read-all-requires
+    enum-known-reading
     array-share-prefix-input
-    slice-aggregate-print-input
-    slice-aggregate-print-input-2
-    print-input-requires
-    enum-known-printed
-    array-share-prefix-output
-    slice-aggregate-write-all
-    write-all-requires
+    slice-aggregate-print
+    print-requires
     enum-told
+    slice-aggregate-fail
+    fail-requires
     returns
     returns-2)

@@ -1,2 +1,0 @@
--- Why the text that was read is what boxsave prints.
-mod Saves

@@ -1,2 +1,0 @@
--- What boxsave prints.
-pub mod Saved

@@ -1,0 +1,2 @@
+-- What is said of a number.
+pub mod Pages

@@ -1,0 +1,2 @@
+-- Why the input that was read is what is printed.
+mod Saves

@@ -1,0 +1,2 @@
+-- What box save prints.
+pub mod Saved

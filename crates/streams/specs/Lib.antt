@@ -1,0 +1,2 @@
+-- What can be said of a call that reads or writes.
+pub mod Counted
