@@ -4,3 +4,4 @@ mod Begins
 mod Numerals
 mod JobTexts
 mod Statuses
+mod SheetStatus

@@ -7,7 +7,7 @@ use lib.ListN.{length}
 use Rattle.rules.specs.Text.{bytes}
 use Rattle.grammar.specs.Words.{begins}
 use Rattle.box_tool.specs.declared.commands.Command.{Command}
-use Rattle.box_tool.specs.declared.commands.Command.the-variants.{Print, Reach, Explain, Version, Help, Unknown}
+use Rattle.box_tool.specs.declared.commands.Command.the-variants.{Print, Check, Reach, Explain, Version, Help, Unknown}
 use Rattle.box_tool.specs.declared.commands.Job.the-variants.{Run, Save, Strip}
 
 -- the text is the word
@@ -27,10 +27,12 @@ commandOf word =
     cond (is (bytes "explain") word) Explain
     (cond (is (bytes "--version") word) Version
     (cond (is (bytes "--help") word) Help
-    (cond (is (bytes "help") word) Help (inputCommandOf word))))
+    (cond (is (bytes "help") word) Help
+    (cond (is (bytes "check") word) Check (inputCommandOf word)))))
 
 abbrev pub least : Command → ℕ
 least (Print j) = 0
+least Check = 0
 least Reach = 2
 least Explain = 0
 least Version = 0
@@ -39,6 +41,7 @@ least Unknown = 0
 
 abbrev pub most : Command → ℕ
 most (Print j) = 1
+most Check = 1
 most Reach = 2
 most Explain = 1
 most Version = 0

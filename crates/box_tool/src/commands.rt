@@ -15,6 +15,7 @@ pub enum Job {
 
 pub enum Command {
     Print(Job),
+    Check,
     Reach,
     Explain,
     Version,
@@ -56,6 +57,9 @@ pub fn command_of(word: &[u8]) -> Command
     if is(b"help", word) {
         return Command::Help;
     }
+    if is(b"check", word) {
+        return Command::Check;
+    }
     input_command_of(word)
 }
 
@@ -72,6 +76,7 @@ pub fn takes(command: Command, words: usize) -> bool
 {
     match command {
         Command::Print(_) => between(0, words, 1),
+        Command::Check => between(0, words, 1),
         Command::Reach => between(2, words, 2),
         Command::Explain => between(0, words, 1),
         Command::Version => between(0, words, 0),

@@ -10,6 +10,7 @@ use commands::command_of;
 use commands::takes;
 use files::read_input;
 use listing::Printed;
+use sheet::Checked;
 use streams::Reading;
 use words::Number;
 use words::begins;
@@ -19,19 +20,21 @@ ghost use mathlib.Core.Path.{_≡_};
 ghost use Prim.Native.Nat.{_≤_};
 ghost use lib.ListN.{length};
 ghost use Rattle.stripping.specs.StrippedTexts.{Prints};
-ghost use Rattle.box_tool.specs.Status.{statusOf, Unless};
+ghost use Rattle.sheet.specs.SheetText.{holdsOf};
+ghost use Rattle.box_tool.specs.Status.{statusOf, statusOfSheet, Unless};
 ghost use Rattle.box_tool.specs.Jobs.{IsText, Finishes};
 
 const WELL: u8 = b'0';
 
-// A refusal; or no such number.
+// A refusal, or a failed tick; or no such number.
 const REFUSED: u8 = b'1';
 
 // An error of the system, or of usage.
 const FAULT: u8 = b'2';
 
-const USAGE: [u8; 546] = *b"\
+const USAGE: [u8; 625] = *b"\
 usage: one of\n\
+box check [FILE]        print the check sheet of an input: the four conditions\n\
 box run [FILE]          print the run of an input: a script, then its turns\n\
 box save [FILE]         print the input again, its script from the program table\n\
 box strip [FILE]        print the input with every capability unsafe\n\
@@ -89,6 +92,34 @@ fn finish(job: Job, input: &[u8]) -> u8
             write_out(&output[..n], status)
         }
         Printed::Refused(_, _) => FAULT, // the output is long enough
+    }
+}
+
+fn status_of_sheet(holds: bool) -> u8
+    ensures { λ r. ⌜ r ≡ statusOfSheet holds ⌝ }
+{
+    if holds { WELL } else { REFUSED }
+}
+
+// Prints the check sheet, writes it and answers the status.
+fn finish_check(input: &[u8]) -> u8
+    ensures { λ r. ⌜ Unless r (statusOfSheet (holdsOf (now (input .entry)))) ⌝ }
+{
+    let mut output = [0u8; 32768];
+    let checked = sheet::print_sheet(input, &mut output);
+    match checked {
+        Checked::Sheet(n, holds) => write_out(&output[..n], status_of_sheet(holds)),
+        Checked::Refused(_) => FAULT, // the output is long enough
+    }
+}
+
+// The sheet of the input that argument i names.
+fn check(i: usize) -> u8 {
+    let mut input = [0u8; 65537]; // one byte more than an input may have
+    let reading = read_input(i, &mut input);
+    match reading {
+        Reading::Got(n) => finish_check(&input[..n]),
+        Reading::Failed => FAULT,
     }
 }
 
@@ -161,6 +192,7 @@ fn perform(i: usize) -> u8
     }
     match command {
         Command::Print(job) => on_input(job, i + 1),
+        Command::Check => check(i + 1),
         Command::Reach => reach(i + 1),
         Command::Explain => explain_argument(i + 1),
         Command::Version => write_out(b"box 1.6.0\n", WELL),

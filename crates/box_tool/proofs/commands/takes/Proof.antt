@@ -39,6 +39,12 @@ enum-told-6 c = search needs
 between-requires-6 : tie.Need-between-requires-6
 between-requires-6 c κs = search needs
 
+enum-told-7 : tie.Need-enum-told-7
+enum-told-7 c = search needs
+
+between-requires-7 : tie.Need-between-requires-7
+between-requires-7 c κs = search needs
+
 returns : tie.Need-returns
 returns c = rw (c .before .enum-told .given .1) (c .between .ensures)
 
@@ -57,6 +63,9 @@ returns-5 c = rw (c .before .enum-told5 .given .1) (c .between5 .ensures)
 returns-6 : tie.Need-returns-6
 returns-6 c = rw (c .before .enum-told6 .given .1) (c .between6 .ensures)
 
+returns-7 : tie.Need-returns-7
+returns-7 c = rw (c .before .enum-told7 .given .1) (c .between7 .ensures)
+
 pub takes-spec : {M : Type 1} → statement M
 takes-spec =
     tie.close
@@ -73,9 +82,12 @@ takes-spec =
     between-requires-5
     enum-told-6
     between-requires-6
+    enum-told-7
+    between-requires-7
     returns
     returns-2
     returns-3
     returns-4
     returns-5
-    returns-6)
+    returns-6
+    returns-7)
