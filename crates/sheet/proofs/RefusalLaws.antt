@@ -15,7 +15,7 @@ use Rattle.rules.specs.Templates.{decimal}
 use Rattle.rules.proofs.ListLaws.{by-bool}
 use Rattle.buffer.specs.Writing.{Wrote, numberPart}
 use Rattle.buffer.proofs.Appends.{_▹_, byte}
-use Rattle.sheet.specs.SheetText.{visible, markUnder, shown, lastOf, editorLine, refusal}
+use Rattle.sheet.specs.SheetText.{visible, markUnder, shown, lastOf, editorLine, wordText, refusal}
 
 -- one byte more of a text, each byte as f gives it
 pub one-more-as : {l l₁ : List ℕ} {at : ℕ} (f : ℕ → ℕ) (t : List ℕ) (i : ℕ) → i < length t → at + i < length l₁ → Wrote i l l₁ at (at + i) (map f (take i t))
@@ -60,12 +60,12 @@ shown-some k (c ∷ l) n some e = rw e refl
 -- a refusal as its parts
 module _ (k n : ℕ) (text : List ℕ) where
   pub refusal-text : {l : List ℕ} → l ≡ findLine n text → (k ≡ No.overlong → ⊥)
-      → bytes "       refused:" ++ (numberPart k ++ (bytes " at line" ++ (numberPart n ++ ((bytes ", in an editor line" ++ (numberPart (editorLine n) ++ bytes "\n")) ++ shown k l))))
+      → bytes "       refused:" ++ ((numberPart k ++ wordText k) ++ (bytes " at line" ++ (numberPart n ++ ((bytes ", in an editor line" ++ (numberPart (editorLine n) ++ bytes "\n")) ++ shown k l))))
       ≡ refusal k n text
   unfolding refusal
   refusal-text {l} e other = rw (ne-eqb k No.overlong other, ← e, append-assoc (decimal (editorLine n)) (bytes "\n") (shown k l)) refl
 
   pub overlong-text : k ≡ No.overlong
-      → bytes "       refused:" ++ (numberPart k ++ (bytes " at line" ++ (numberPart n ++ (bytes ", in an editor line" ++ (numberPart (editorLine n) ++ bytes "\n"))))) ≡ refusal k n text
+      → bytes "       refused:" ++ ((numberPart k ++ wordText k) ++ (bytes " at line" ++ (numberPart n ++ (bytes ", in an editor line" ++ (numberPart (editorLine n) ++ bytes "\n"))))) ≡ refusal k n text
   unfolding refusal
   overlong-text is = rw (eq-eqb k No.overlong is) refl

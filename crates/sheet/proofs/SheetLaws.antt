@@ -43,7 +43,7 @@ use Rattle.sheet.proofs.ExaminedLaws.{inputs-are}
 
 module _ {text p p₁ l l₁ l₂ : List ℕ} {at a r : ℕ} where
   pub script-refused : {answer : Reads.Answer} {k n : ℕ} → ReadAnswers.Makes text false p answer p₁ → p ≡ freshTable → answer ≡ Reader.Refused k n
-      → Wrote 434 l l₁ at a (partOne (turnedAway k n) text) → Wrote 64 l₁ l₂ a r (unexamined titleTwo)
+      → Wrote 446 l l₁ at a (partOne (turnedAway k n) text) → Wrote 64 l₁ l₂ a r (unexamined titleTwo)
       → Wrote 4400 l l₂ at r (partOne (readingOf text) text ++ partTwo (readingOf text))
   unfolding readingOf partTwo
   script-refused makes fresh is one two =
@@ -61,7 +61,7 @@ module _ {text p p₁ l l₁ l₂ : List ℕ} {at a r : ℕ} where
 -- ---- A last line with a fault
 
 pub faulty-sheet : (text input : List ℕ) (k n : ℕ) {l l₁ l₂ l₃ : List ℕ} {a b r : ℕ} → Wrote 32 l l₁ 0 a heading
-    → Wrote 4400 l₁ l₂ a b (partOne (readingOf text) text ++ partTwo (readingOf text)) → Wrote 538 l₂ l₃ b r (faultyEnd k n input)
+    → Wrote 4400 l₁ l₂ a b (partOne (readingOf text) text ++ partTwo (readingOf text)) → Wrote 550 l₂ l₃ b r (faultyEnd k n input)
     → Wrote 8192 l l₃ 0 r (heading ++ faultySheet (readingOf text) text k n input)
 unfolding faultySheet
 faulty-sheet text input k n head script end =
@@ -95,7 +95,7 @@ module _ {text turns p s p₁ s₁ : List ℕ} {guarded : Answer} (makes : Makes
   turned-away is = sym (inputs-are text turns few) ∙ refusal-is turns (inputs mosts text turns false) (sym is ∙ answers-are turns p₁ s₁ (inputs mosts text turns false) made)
 
   pub filed-refused : {l l₁ l₂ l₃ : List ℕ} {a b c k n : ℕ} → guarded ≡ Run.Refused k n → Wrote 32 l l₁ 0 a heading
-      → Wrote 434 l₁ l₂ a b (partOne (turnedAway k n) text) → Wrote 231 l₂ l₃ b c (refusedEnd (length turns))
+      → Wrote 446 l₁ l₂ a b (partOne (turnedAway k n) text) → Wrote 231 l₂ l₃ b c (refusedEnd (length turns))
       → Wrote 8192 l l₃ 0 c (heading ++ filedSheet (readingOf text) text turns) × (false ≡ holdsFiled (readingOf text) turns)
   unfolding filedSheet
   filed-refused is head one end = rw (turned-away is) (same-text 8192 refl (omega arith) (head ▹ one ▹ end), refl)

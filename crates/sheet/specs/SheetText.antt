@@ -103,6 +103,17 @@ turnsHint cr cut =
 abbrev pub endsInCr : ℕ → List ℕ → Bool
 endsInCr n text = eqb (lastOf (findLine n text)) 13
 
+-- the number's word, after a space
+unfoldable pub wordText : (number : ℕ) → List ℕ
+wordText k =
+    cond (eqb k No.overlong) (bytes " overlong")
+    (cond (eqb k No.strayByte) (bytes " stray byte")
+    (cond (eqb k No.malformed) (bytes " malformed")
+    (cond (eqb k No.overCount) (bytes " over count")
+    (cond (eqb k No.unbound) (bytes " unbound")
+    (cond (eqb k No.selfTaken) (bytes " self taken")
+    (cond (eqb k No.unfinished) (bytes " unfinished") (bytes " dangling")))))))
+
 -- lines count from 0 as the box does, and from 1 as editors do; no line of an input has a larger number
 abbrev pub editorLine : ℕ → ℕ
 editorLine n = cond (ltb n 65536) (n + 1) 0
@@ -110,7 +121,7 @@ editorLine n = cond (ltb n 65536) (n + 1) 0
 -- refused with a number, at line n of a text; no line is at fault where the text is too long
 unfoldable pub refusal : (number line : ℕ) → (text : List ℕ) → List ℕ
 refusal k n text =
-    bytes "       refused:" ++ (numberPart k ++ (bytes " at line" ++ (numberPart n ++ (bytes ", in an editor line" ++ (numberPart (editorLine n) ++ (bytes "\n"
+    bytes "       refused:" ++ ((numberPart k ++ wordText k) ++ (bytes " at line" ++ (numberPart n ++ (bytes ", in an editor line" ++ (numberPart (editorLine n) ++ (bytes "\n"
     ++ cond (eqb k No.overlong) [] (shown k (findLine n text))))))))
 
 unfoldable pub scriptRefusal : (number line : ℕ) → (text : List ℕ) → List ℕ

@@ -7,7 +7,7 @@ ghost use Prim.Native.Nat.{_+_, _≤_};
 ghost use lib.ListN.{length, take};
 ghost use Rattle.rules.specs.Text.{bytes};
 ghost use Rattle.buffer.specs.Writing.{Wrote, numberPart};
-ghost use Rattle.sheet.specs.SheetText.{endsInCr, unended, hint, malformedHint, markUnder, refusal, scriptRefusal, shown, strayHint, turnsHint, turnsRefusal};
+ghost use Rattle.sheet.specs.SheetText.{endsInCr, unended, hint, malformedHint, markUnder, refusal, scriptRefusal, shown, strayHint, turnsHint, turnsRefusal, wordText};
 ghost use Rattle.sheet.specs.SheetText.{visible as visibleByte, editorLine};
 
 fn visible(b: u8) -> u8
@@ -213,12 +213,37 @@ fn put_editor_line(buf: &mut [u8], at: usize, line: usize) -> usize
     put_text(buf, b, b"\n")
 }
 
+fn put_word(buf: &mut [u8], at: usize, number: u16) -> usize
+    requires { ⌜ at + 12 ≤ length (now buf) ⌝ }
+    ensures { λ r. ⌜ Wrote 12 (now (buf .entry)) (now (buf .exit)) at r (wordText number) ⌝ }
+{
+    match number {
+        rules::numbers::OVERLONG => put_text(buf, at, b" overlong"),
+        rules::numbers::STRAY_BYTE => put_text(buf, at, b" stray byte"),
+        rules::numbers::MALFORMED => put_text(buf, at, b" malformed"),
+        rules::numbers::OVER_COUNT => put_text(buf, at, b" over count"),
+        rules::numbers::UNBOUND => put_text(buf, at, b" unbound"),
+        rules::numbers::SELF_TAKEN => put_text(buf, at, b" self taken"),
+        rules::numbers::UNFINISHED => put_text(buf, at, b" unfinished"),
+        _ => put_text(buf, at, b" dangling"),
+    }
+}
+
+// A refusal's number and its word.
+fn put_number_word(buf: &mut [u8], at: usize, number: u16) -> usize
+    requires { ⌜ at + 18 ≤ length (now buf) ⌝ }
+    ensures { λ r. ⌜ Wrote 18 (now (buf .entry)) (now (buf .exit)) at r (numberPart number ++ wordText number) ⌝ }
+{
+    let a = put_number(buf, at, number as usize);
+    put_word(buf, a, number)
+}
+
 fn put_refusal(buf: &mut [u8], at: usize, number: u16, line: usize, text: &[u8]) -> usize
-    requires { ⌜ at + 280 ≤ length (now buf) ⌝ }
-    ensures { λ r. ⌜ Wrote 280 (now (buf .entry)) (now (buf .exit)) at r (refusal number line (now (text .entry))) ⌝ }
+    requires { ⌜ at + 292 ≤ length (now buf) ⌝ }
+    ensures { λ r. ⌜ Wrote 292 (now (buf .entry)) (now (buf .exit)) at r (refusal number line (now (text .entry))) ⌝ }
 {
     let a = put_text(buf, at, b"       refused:");
-    let b = put_number(buf, a, number as usize);
+    let b = put_number_word(buf, a, number);
     let c = put_text(buf, b, b" at line");
     let d = put_number(buf, c, line);
     let e = put_editor_line(buf, d, line);
@@ -230,8 +255,8 @@ fn put_refusal(buf: &mut [u8], at: usize, number: u16, line: usize, text: &[u8])
 
 // A script that is refused.
 pub fn put_script_refusal(buf: &mut [u8], at: usize, number: u16, line: usize, text: &[u8]) -> usize
-    requires { ⌜ at + 390 ≤ length (now buf) ⌝ }
-    ensures { λ r. ⌜ Wrote 390 (now (buf .entry)) (now (buf .exit)) at r (scriptRefusal number line (now (text .entry))) ⌝ }
+    requires { ⌜ at + 402 ≤ length (now buf) ⌝ }
+    ensures { λ r. ⌜ Wrote 402 (now (buf .entry)) (now (buf .exit)) at r (scriptRefusal number line (now (text .entry))) ⌝ }
 {
     let a = put_refusal(buf, at, number, line, text);
     put_hint(
@@ -245,8 +270,8 @@ pub fn put_script_refusal(buf: &mut [u8], at: usize, number: u16, line: usize, t
 
 // A last line that is refused, as a line of the whole input.
 pub fn put_turns_refusal(buf: &mut [u8], at: usize, number: u16, line: usize, input: &[u8]) -> usize
-    requires { ⌜ at + 390 ≤ length (now buf) ⌝ }
-    ensures { λ r. ⌜ Wrote 390 (now (buf .entry)) (now (buf .exit)) at r (turnsRefusal number line (now (input .entry))) ⌝ }
+    requires { ⌜ at + 402 ≤ length (now buf) ⌝ }
+    ensures { λ r. ⌜ Wrote 402 (now (buf .entry)) (now (buf .exit)) at r (turnsRefusal number line (now (input .entry))) ⌝ }
 {
     let a = put_refusal(buf, at, number, line, input);
     put_turns_hint(buf, a, ends_in_cr(input, line), is_unended(input, line))

@@ -32,8 +32,8 @@ pub struct Told {
 
 // 1, of a script that is refused.
 fn put_refused(buf: &mut [u8], at: usize, number: u16, line: usize, text: &[u8]) -> usize
-    requires { ⌜ at + 434 ≤ length (now buf) ⌝ }
-    ensures { λ r. ⌜ Wrote 434 (now (buf .entry)) (now (buf .exit)) at r (partOne (turnedAway number line) (now (text .entry))) ⌝ }
+    requires { ⌜ at + 446 ≤ length (now buf) ⌝ }
+    ensures { λ r. ⌜ Wrote 446 (now (buf .entry)) (now (buf .exit)) at r (partOne (turnedAway number line) (now (text .entry))) ⌝ }
 {
     let a = put_tick(buf, at, false, b"1. The script reads clean\n");
     put_script_refusal(buf, a, number, line, text)
@@ -62,8 +62,8 @@ pub fn put_away(buf: &mut [u8], number: u16, none: &[u8]) -> usize
 
 // What follows where the last line has a fault.
 fn put_faulty_end(buf: &mut [u8], at: usize, number: u16, line: usize, input: &[u8]) -> usize
-    requires { ⌜ at + 538 ≤ length (now buf) ⌝ }
-    ensures { λ r. ⌜ Wrote 538 (now (buf .entry)) (now (buf .exit)) at r (faultyEnd number line (now (input .entry))) ⌝ }
+    requires { ⌜ at + 550 ≤ length (now buf) ⌝ }
+    ensures { λ r. ⌜ Wrote 550 (now (buf .entry)) (now (buf .exit)) at r (faultyEnd number line (now (input .entry))) ⌝ }
 {
     let a = put_tick(buf, at, false, b"3. The list of turns is filed\n");
     let b = put_turns_refusal(buf, a, number, line, input);

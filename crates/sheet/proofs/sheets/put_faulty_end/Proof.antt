@@ -34,7 +34,7 @@ returns c =
     let at-put-unexamined = c .before .before .before .before .before .before in
     let at-put-turns-refusal = at-put-unexamined .before .before .before .before .before in
     let at-put-tick = at-put-turns-refusal .before .before .before .before in
-    same-text 538 refl (omega arith) (at-put-tick .put-tick .ensures ▹ at-put-turns-refusal .put-turns-refusal .ensures ▹ at-put-unexamined .put-unexamined .ensures ▹ c .before .before .put-verdict .ensures)
+    same-text 550 refl (omega arith) (at-put-tick .put-tick .ensures ▹ at-put-turns-refusal .put-turns-refusal .ensures ▹ at-put-unexamined .put-unexamined .ensures ▹ c .before .before .put-verdict .ensures)
 
 pub put-faulty-end-spec : {M : Type 1} → statement M
 put-faulty-end-spec =

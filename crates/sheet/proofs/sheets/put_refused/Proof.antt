@@ -23,7 +23,7 @@ returns : tie.Need-returns
 unfolding partOne
 returns c =
     let at-put-tick = c .before .before .before .before .before .before in
-    same-text 434 refl (omega arith) (at-put-tick .put-tick .ensures ▹ c .before .before .put-script-refusal .ensures)
+    same-text 446 refl (omega arith) (at-put-tick .put-tick .ensures ▹ c .before .before .put-script-refusal .ensures)
 
 pub put-refused-spec : {M : Type 1} → statement M
 put-refused-spec =
