@@ -93,10 +93,10 @@ pages =
     "What to do: threads are numbered from 0 as they are spawned, whatever their" ∷
     "blocks are. Ask for one that the printed run lists, or add turns to start it." ∷
     "18 no script" ∷
-    "Not written: no script reads to the program table that a host lent, so there is" ∷
-    "none to write back. The programs write what they have read, and never say this." ∷
-    "What to do, for whoever wrote the host: lend the table as box_read or box_run" ∷
-    "left it, every byte of it." ∷
+    "Not written: no script reads to the table that was to be written back. Of box" ∷
+    "strip it says that the script is too long once every capability is unsafe." ∷
+    "What to do: shorten the script. For whoever wrote a host: lend the table as" ∷
+    "box_read or box_run left it, every byte of it." ∷
     "19 alias" ∷
     "Stopped: an iso object would be held twice. It is read, or it stands in a field" ∷
     "that is read." ∷

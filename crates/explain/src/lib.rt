@@ -10,7 +10,7 @@ ghost use Rattle.listing.specs.Outputs.{printedOf, outputAfter};
 ghost use Rattle.explain.specs.Pages.{page};
 
 // A page of five lines for each number: its word, what it means, what to do.
-const PAGES: [u8; 5736] = *b"\
+const PAGES: [u8; 5747] = *b"\
 1 overlong\n\
 Refused: too long. A script has at most 16,384 bytes and a list at most 32,768\n\
 turns; an input, which is both together, has at most 65,536 bytes.\n\
@@ -97,10 +97,10 @@ made.\n\
 What to do: threads are numbered from 0 as they are spawned, whatever their\n\
 blocks are. Ask for one that the printed run lists, or add turns to start it.\n\
 18 no script\n\
-Not written: no script reads to the program table that a host lent, so there is\n\
-none to write back. The programs write what they have read, and never say this.\n\
-What to do, for whoever wrote the host: lend the table as box_read or box_run\n\
-left it, every byte of it.\n\
+Not written: no script reads to the table that was to be written back. Of box\n\
+strip it says that the script is too long once every capability is unsafe.\n\
+What to do: shorten the script. For whoever wrote a host: lend the table as\n\
+box_read or box_run left it, every byte of it.\n\
 19 alias\n\
 Stopped: an iso object would be held twice. It is read, or it stands in a field\n\
 that is read.\n\

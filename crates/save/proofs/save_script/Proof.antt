@@ -50,7 +50,7 @@ put-rest-requires c κs =
     let is = sym (c .before .before .before .before .before .before .before .before .before .enum-told .given .1) ∙ read .ensures .0 in
     let written = script-written (take at input) _ (search needs) (drop at input) is (read .ensures .1) (start .pre .2) (write .ensures) in
     let count = count-written (take at input) (drop at input) output written (c .before .before .written2 .given .1) in
-    (start .pre .0, omega (arith, count, length-take-le at input (start .pre .0), length-drop at input, start .pre .1, start .pre .2))
+    (omega arith, omega (arith, count, length-take-le at input (start .pre .0), length-drop at input, start .pre .1, start .pre .2))
 
 same-length : tie.Need-same-length
 same-length c = search needs
