@@ -3,8 +3,8 @@
 
 In docs/SCRIPTS.md a fenced block `box` is an input of boxrun, and the block `output` after it is, byte for byte, what target/bin/boxrun prints of
 it. A block `output unsafe` after that is what it prints of the same input with every capability changed to unsafe. There is no other fenced
-block, so that nothing looks like an input and is not run; commands for a shell are indented. In README.md an indented `$ boxrun < FILE` has its
-output below it. The page's table of who may hold whom is tried pair by pair.
+block, so that nothing looks like an input and is not run; commands for a shell are indented. In README.md an indented `$ boxrun < FILE` or
+`$ box check FILE` has its output below it. The page's table of who may hold whom is tried pair by pair.
 
 Besides: the numbers of that page, and of the index of docs/DECISIONS.md, are those of README.md with the same words; the index names every point,
 and no other; the pictures are what docs/pictures/draw.py draws, and the page shows each; every relative link of README.md and docs/*.md leads to a
@@ -23,7 +23,7 @@ ROOT = os.path.dirname(os.path.dirname(os.path.abspath(__file__)))
 sys.path.insert(0, os.path.join(ROOT, 'docs', 'pictures'))
 import draw  # noqa: E402: the module stands beside its pictures
 
-BOXRUN = os.path.join(ROOT, 'target', 'bin', 'boxrun')
+BOXRUN, BOX = os.path.join(ROOT, 'target', 'bin', 'boxrun'), os.path.join(ROOT, 'scripts', 'box')
 SCRIPTS, DECISIONS, README = 'docs/SCRIPTS.md', 'docs/DECISIONS.md', 'README.md'
 CAPABILITY = re.compile(r'\((new|cast|copy) (?:imm|iso|local|unsafe)\b')
 
@@ -50,6 +50,10 @@ def printed(text):
     return subprocess.run([BOXRUN], input=text.encode(), stdout=subprocess.PIPE, check=True, timeout=60).stdout.decode()
 
 
+def sheet(path):
+    return subprocess.run([BOX, 'check', os.path.join(ROOT, path)], stdout=subprocess.PIPE, timeout=60).stdout.decode()
+
+
 def runs(page):
     given, left = None, False
     for line, info, text in fenced(page):
@@ -68,12 +72,12 @@ def runs(page):
 
 
 def commands(page):
-    found = list(re.finditer(r'^    \$ boxrun < (\S+)\n((?:    (?!\$).*\n)+)', page, re.M))
+    found = list(re.finditer(r'^    \$ (boxrun <|box check) (\S+)\n((?:(?:    (?!\$).*)?\n)+)', page, re.M))
     for command in found:
-        got = printed(read(command[1]))
-        shown = re.sub('^    ', '', command[2], flags=re.M)
-        yield '%s: boxrun < %s' % (README, command[1]), None if got == shown else 'boxrun prints\n' + got
-    yield README, None if found else 'no command is shown'
+        got = printed(read(command[2])) if command[1] == 'boxrun <' else sheet(command[2])
+        shown = re.sub('^    ', '', command[3], flags=re.M).rstrip('\n') + '\n'
+        yield '%s: %s %s' % (README, command[1], command[2]), None if got == shown else 'it prints\n' + got
+    yield README, None if len({command[1] for command in found}) == 2 else 'boxrun and box check are not both shown'
 
 
 HOLDING = """(kind (fields 0) (does))
