@@ -535,6 +535,21 @@ fn long_inputs() -> Vec<Fixed> {
     all
 }
 
+/// Inputs at their most or one past it once they are stripped, by their turns.
+fn grown() -> Vec<Fixed> {
+    let script = lets(&["(new imm 0)"], "(take 1)");
+    let grows = "unsafe".len() - "imm".len();
+    let of_length = |length: usize| {
+        let room = length - script.len() - "(turns)\n".len();
+        let turns = format!("{}{}", " 0".repeat(room / 2 - 1), &" 10"[..2 + room % 2]);
+        fixed("save: grows", &script, &turns, "")
+    };
+    vec![
+        of_length(MOST_INPUT - grows),
+        of_length(MOST_INPUT + 1 - grows),
+    ]
+}
+
 /// Texts to be saved, with a line of turns after them, and the refusal that is settled for each; with none, the input comes back.
 pub fn saves() -> Vec<Fixed> {
     let text = |name: &str, text: String, first_line: &str| Fixed {
@@ -550,8 +565,11 @@ pub fn saves() -> Vec<Fixed> {
                  (let (call 1 255 (read 4)))\n(let (new local 0 (read 1) (take 2) (read 3) (take 4)))\n(let (cast unsafe (take 5)))\n\
                  (let (spawn 1))\n(let (send 8 (take 6)))\n(let (recv 8))\n(give (take 10))\n(thread)\n(give (read 0))\n(method)\n(give (take 1))\n";
     let grows = longest.replacen("(swap 0 255 (read 0))", "(cast imm (read 0))", 1);
-    vec![
+    let to_the_most = grows.replacen("(swap 0 255 (read 0))", "(swap 0 25 (read 0))", 1);
+    let mut all = grown();
+    all.extend([
         text("grows when stripped", grows, ""),
+        text("grows to the most when stripped", to_the_most, ""),
         text("the shortest", SMALL.to_string(), ""),
         text("case A", A.to_string(), ""),
         text("every form", every.to_string(), ""),
@@ -589,7 +607,8 @@ pub fn saves() -> Vec<Fixed> {
             "(refused 2 2)",
         ),
         text("cut", A.replace("(give (take 1))\n", ""), "(refused 7 8)"),
-    ]
+    ]);
+    all
 }
 
 pub fn all() -> Vec<Fixed> {

@@ -18,6 +18,8 @@ const STRAY: &str = "hint: only a to z, 0 to 9, brackets, space and LF may stand
 const FORM: &str = "hint: no form of a script, or not in its place";
 const OVER: &str =
     "hint: a number over 255, or more kinds, blocks, slots or lets than there is room for";
+const SLOT: &str = "hint: a slot is used that no line has filled yet";
+const TAKEN: &str = "hint: a method may read its own object, slot 0, and not take it";
 const UNFINISHED: &str =
     "hint: the last block has no give, or there is no block; was the file cut off?";
 const DANGLING: &str =
@@ -80,19 +82,63 @@ Verdict: all four conditions hold
     assert!(Sheet::of(&example("case-a")).all_hold());
 }
 
-/// The document's own sheet is the one of case A.
-#[test]
-fn the_document_shows_the_sheet_of_case_a() {
+fn page() -> String {
     let path = concat!(env!("CARGO_MANIFEST_DIR"), "/../../docs/SHEET.md");
-    let page = std::fs::read_to_string(path).unwrap();
-    let sheet: String = printed_sheet(&example("case-a"))
-        .lines()
+    std::fs::read_to_string(path).unwrap()
+}
+
+/// Lines as a page shows them.
+fn shown<'a>(lines: impl Iterator<Item = &'a str>) -> String {
+    lines
         .map(|line| match line {
             "" => "\n".to_string(),
             _ => format!("    {}\n", line),
         })
-        .collect();
-    assert!(page.contains(&sheet));
+        .collect()
+}
+
+#[test]
+fn the_page_shows_the_sheet_of_case_a() {
+    let sheet = printed_sheet(&example("case-a"));
+    assert!(page().contains(&shown(sheet.lines())));
+}
+
+/// What the page shows under a tick is what such an input has there.
+#[test]
+fn the_page_shows_lines_under_each_tick() {
+    let malformed = text(&["(thread)", "(let (read 0))", "(let (send 1 (take 2))"]);
+    let four = "(let (new unsafe 0))\n".repeat(4);
+    let makes = [
+        PLAIN_KIND,
+        PLAIN_KIND,
+        "(thread)\n",
+        &four,
+        "(give (read 1))\n",
+    ]
+    .concat();
+    let none = under(input(SMALL, "16 255").as_bytes(), 3);
+    for lines in [
+        script_under(&malformed, 1),
+        script_under(&makes, 2),
+        none[1..].to_vec(),
+        under(&example("stale-write-back"), 4),
+    ] {
+        let under = lines.iter().map(|line| format!("       {}", line));
+        let under: Vec<String> = under.collect();
+        let wanted = shown(under.iter().map(String::as_str));
+        assert!(page().contains(&wanted), "{}", wanted);
+    }
+}
+
+#[test]
+fn the_page_has_every_hint() {
+    let hints = [
+        LONG, STRAY, CR, FORM, NO_LF, OVER, SLOT, TAKEN, UNFINISHED, DANGLING, TURNS,
+    ];
+    for hint in hints {
+        let words = format!("`{}`", &hint["hint: ".len()..]);
+        assert!(page().contains(&words), "{}", words);
+    }
 }
 
 #[test]
@@ -280,7 +326,7 @@ fn number_4_to_6_and_8() {
                 "refused: 5 at line 1, in an editor line 2",
                 "(give (read 1))",
                 "^^^^^^^^^^^^^^^",
-                "hint: a slot is used that no line has filled yet",
+                SLOT,
             ],
         ),
         (
@@ -289,7 +335,7 @@ fn number_4_to_6_and_8() {
                 "refused: 6 at line 4, in an editor line 5",
                 "(let (take 0))",
                 "^^^^^^^^^^^^^^",
-                "hint: a method may read its own object, slot 0, and not take it",
+                TAKEN,
             ],
         ),
         (
