@@ -535,6 +535,75 @@ fn long_inputs() -> Vec<Fixed> {
     all
 }
 
+/// Files as people bring them: saved with CR LF, cut, without their line of turns, with lines too long to be shown and bytes of every sort.
+fn worn() -> Vec<Fixed> {
+    let worn = |name: &str, input: Vec<u8>, first_line: &str| Fixed {
+        name: format!("worn: {}", name),
+        input,
+        first_line: first_line.to_string(),
+    };
+    let small = |last: &str| [SMALL, last].concat().into_bytes();
+    let line = |bytes: &[u8]| [b"(thread)\n", bytes, b"\n(give (read 0))\n(turns 0)\n"].concat();
+    let all_bytes: Vec<u8> = (0..=255).filter(|byte| *byte != b'\n').collect();
+    let mut all = vec![
+        worn(
+            "all CR LF",
+            [SMALL, "(turns)\n"]
+                .concat()
+                .replace('\n', "\r\n")
+                .into_bytes(),
+            "(refused 3 2)",
+        ),
+        worn(
+            "the script CR LF",
+            [&SMALL.replace('\n', "\r\n"), "(turns)\n"]
+                .concat()
+                .into_bytes(),
+            "(refused 2 0)",
+        ),
+        worn("the turns CR LF", small("(turns 0)\r\n"), "(refused 3 2)"),
+        worn("the turns CR", small("(turns 0)\r"), "(refused 3 2)"),
+        worn("CR alone", b"\r".to_vec(), "(refused 3 0)"),
+        worn("CR LF alone", b"\r\n".to_vec(), "(refused 3 0)"),
+        worn("a line of CR", line(b"\r"), "(refused 2 1)"),
+        worn("an empty line", line(b""), "(refused 3 1)"),
+        worn("CR inside", line(b"(let\r(read 0))"), "(refused 2 1)"),
+        worn("a script alone", A.as_bytes().to_vec(), "(refused 3 8)"),
+        worn(
+            "a script cut",
+            small("(turns)\n")[..SMALL.len() - 1].to_vec(),
+            "(refused 3 1)",
+        ),
+        worn("bytes of every sort", line(&all_bytes), "(refused 2 1)"),
+        worn(
+            "turns of every sort",
+            small(&String::from_utf8_lossy(&all_bytes)),
+            "(refused 3 2)",
+        ),
+    ];
+    for length in [99, 100, 101, 102] {
+        let long = vec![b'x'; length];
+        let stray = [&long[..], b"\xff"].concat();
+        let turns = [small("(turns "), long.clone(), b")\n".to_vec()].concat();
+        all.push(worn(
+            &format!("a line of {}", length),
+            line(&long),
+            "(refused 3 1)",
+        ));
+        all.push(worn(
+            &format!("a stray byte at {}", length),
+            line(&stray),
+            "(refused 2 1)",
+        ));
+        all.push(worn(
+            &format!("turns of {}", length),
+            turns,
+            "(refused 3 2)",
+        ));
+    }
+    all
+}
+
 /// Inputs at their most or one past it once they are stripped, by their turns.
 fn grown() -> Vec<Fixed> {
     let script = lets(&["(new imm 0)"], "(take 1)");
@@ -620,5 +689,6 @@ pub fn all() -> Vec<Fixed> {
     all.extend(copies());
     all.extend(turns_lines());
     all.extend(long_inputs());
+    all.extend(worn());
     all
 }

@@ -247,7 +247,7 @@ fn faulty(last: &[u8], refusal: Refusal) -> Condition {
     let line = lines::line(last, 0);
     let hint = if line.ends_with(b"\r") {
         CR_HINT
-    } else if line.len() == last.len() {
+    } else if !line.is_empty() && line.len() == last.len() {
         NO_LF_HINT
     } else {
         TURNS_HINT

@@ -392,7 +392,7 @@ Check sheet of the freezer box
        not examined
 [ ] 3. The list of turns is filed
        refused: 3 at line 0, in an editor line 1
-       hint: the last line has no LF at its end; was the file cut off?
+       hint: the last line is to be (turns T ..), each T a number up to 255
 [ ] 4. Guards change no result
        not examined
 
