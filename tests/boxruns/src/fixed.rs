@@ -535,6 +535,90 @@ fn long_inputs() -> Vec<Fixed> {
     all
 }
 
+/// Files as people bring them: saved with CR LF, cut, without their line of turns, with lines too long to be shown and bytes of every sort.
+fn worn() -> Vec<Fixed> {
+    let worn = |name: &str, input: Vec<u8>, first_line: &str| Fixed {
+        name: format!("worn: {}", name),
+        input,
+        first_line: first_line.to_string(),
+    };
+    let small = |last: &str| [SMALL, last].concat().into_bytes();
+    let line = |bytes: &[u8]| [b"(thread)\n", bytes, b"\n(give (read 0))\n(turns 0)\n"].concat();
+    let all_bytes: Vec<u8> = (0..=255).filter(|byte| *byte != b'\n').collect();
+    let mut all = vec![
+        worn(
+            "all CR LF",
+            [SMALL, "(turns)\n"]
+                .concat()
+                .replace('\n', "\r\n")
+                .into_bytes(),
+            "(refused 3 2)",
+        ),
+        worn(
+            "the script CR LF",
+            [&SMALL.replace('\n', "\r\n"), "(turns)\n"]
+                .concat()
+                .into_bytes(),
+            "(refused 2 0)",
+        ),
+        worn("the turns CR LF", small("(turns 0)\r\n"), "(refused 3 2)"),
+        worn("the turns CR", small("(turns 0)\r"), "(refused 3 2)"),
+        worn("CR alone", b"\r".to_vec(), "(refused 3 0)"),
+        worn("CR LF alone", b"\r\n".to_vec(), "(refused 3 0)"),
+        worn("a line of CR", line(b"\r"), "(refused 2 1)"),
+        worn("an empty line", line(b""), "(refused 3 1)"),
+        worn("CR inside", line(b"(let\r(read 0))"), "(refused 2 1)"),
+        worn("a script alone", A.as_bytes().to_vec(), "(refused 3 8)"),
+        worn(
+            "a script cut",
+            small("(turns)\n")[..SMALL.len() - 1].to_vec(),
+            "(refused 3 1)",
+        ),
+        worn("bytes of every sort", line(&all_bytes), "(refused 2 1)"),
+        worn(
+            "turns of every sort",
+            small(&String::from_utf8_lossy(&all_bytes)),
+            "(refused 3 2)",
+        ),
+    ];
+    for length in [99, 100, 101, 102] {
+        let long = vec![b'x'; length];
+        let stray = [&long[..], b"\xff"].concat();
+        let turns = [small("(turns "), long.clone(), b")\n".to_vec()].concat();
+        all.push(worn(
+            &format!("a line of {}", length),
+            line(&long),
+            "(refused 3 1)",
+        ));
+        all.push(worn(
+            &format!("a stray byte at {}", length),
+            line(&stray),
+            "(refused 2 1)",
+        ));
+        all.push(worn(
+            &format!("turns of {}", length),
+            turns,
+            "(refused 3 2)",
+        ));
+    }
+    all
+}
+
+/// Inputs at their most or one past it once they are stripped, by their turns.
+fn grown() -> Vec<Fixed> {
+    let script = lets(&["(new imm 0)"], "(take 1)");
+    let grows = "unsafe".len() - "imm".len();
+    let of_length = |length: usize| {
+        let room = length - script.len() - "(turns)\n".len();
+        let turns = format!("{}{}", " 0".repeat(room / 2 - 1), &" 10"[..2 + room % 2]);
+        fixed("save: grows", &script, &turns, "")
+    };
+    vec![
+        of_length(MOST_INPUT - grows),
+        of_length(MOST_INPUT + 1 - grows),
+    ]
+}
+
 /// Texts to be saved, with a line of turns after them, and the refusal that is settled for each; with none, the input comes back.
 pub fn saves() -> Vec<Fixed> {
     let text = |name: &str, text: String, first_line: &str| Fixed {
@@ -550,8 +634,11 @@ pub fn saves() -> Vec<Fixed> {
                  (let (call 1 255 (read 4)))\n(let (new local 0 (read 1) (take 2) (read 3) (take 4)))\n(let (cast unsafe (take 5)))\n\
                  (let (spawn 1))\n(let (send 8 (take 6)))\n(let (recv 8))\n(give (take 10))\n(thread)\n(give (read 0))\n(method)\n(give (take 1))\n";
     let grows = longest.replacen("(swap 0 255 (read 0))", "(cast imm (read 0))", 1);
-    vec![
+    let to_the_most = grows.replacen("(swap 0 255 (read 0))", "(swap 0 25 (read 0))", 1);
+    let mut all = grown();
+    all.extend([
         text("grows when stripped", grows, ""),
+        text("grows to the most when stripped", to_the_most, ""),
         text("the shortest", SMALL.to_string(), ""),
         text("case A", A.to_string(), ""),
         text("every form", every.to_string(), ""),
@@ -589,7 +676,8 @@ pub fn saves() -> Vec<Fixed> {
             "(refused 2 2)",
         ),
         text("cut", A.replace("(give (take 1))\n", ""), "(refused 7 8)"),
-    ]
+    ]);
+    all
 }
 
 pub fn all() -> Vec<Fixed> {
@@ -601,5 +689,6 @@ pub fn all() -> Vec<Fixed> {
     all.extend(copies());
     all.extend(turns_lines());
     all.extend(long_inputs());
+    all.extend(worn());
     all
 }

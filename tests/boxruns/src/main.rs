@@ -1,6 +1,6 @@
 //! The program `boxruns`: `boxruns PATH SEED COUNT` starts the boxrun at PATH on the examples, on inputs that are written out and on COUNT
 //! random ones, and holds what it prints to the second interpreter's, byte for byte, and to demand 3. `boxruns save PATH SEED COUNT` holds what
-//! the box_tool at PATH prints for `save` on such inputs to what the second interpreter has; `strip` and `reach` likewise.
+//! the box_tool at PATH prints for `save` on such inputs to what the second interpreter has; `strip`, `reach` and `check` likewise.
 
 #![forbid(unsafe_code)]
 
@@ -50,7 +50,7 @@ fn main() {
 }
 
 fn usage() -> i32 {
-    complain("boxruns PATH SEED COUNT | boxruns save|strip|reach PATH SEED COUNT\n");
+    complain("boxruns PATH SEED COUNT | boxruns save|strip|reach|check PATH SEED COUNT\n");
     2
 }
 

@@ -104,7 +104,7 @@ pub fn parts(input: &[u8]) -> Result<Parts<'_>, Refusal> {
 
 /// Where the last line begins: "what follows the last LF that is not the input's final byte, or all
 /// of the input if there is none".
-fn last_line(input: &[u8]) -> usize {
+pub fn last_line(input: &[u8]) -> usize {
     let before_final = &input[..input.len().saturating_sub(1)];
     match before_final.iter().rposition(|byte| *byte == b'\n') {
         Some(place) => place + 1,

@@ -26,6 +26,7 @@ pub mod console;
 pub mod input;
 
 pub mod demand3;
+pub mod sheet;
 pub mod stripped;
 
 pub mod copy_shapes;

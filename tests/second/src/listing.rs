@@ -23,7 +23,8 @@ pub fn listing(run: &Run) -> String {
     out
 }
 
-fn answer(end: End, moves: u32) -> String {
+/// The first line, which says what the run came to.
+pub fn answer(end: End, moves: u32) -> String {
     match end {
         End::Finished => format!("(end finished {})\n", moves),
         End::Stuck => format!("(end stuck {})\n", moves),

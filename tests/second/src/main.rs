@@ -1,4 +1,4 @@
-//! The program `second`: boxrun's double on standard input, and the random inputs by their seed.
+//! The program `second`: the double of boxrun and box on standard input, and the random inputs by their seed.
 
 use std::env;
 use std::io::{self, Read};
@@ -8,11 +8,12 @@ use second::console::{complain, out};
 use second::demand3::check_many;
 use second::generate;
 use second::histogram::Histogram;
-use second::input::{boxrun, boxrun_stripped};
+use second::input::{boxrun, boxrun_stripped, reached, saved, stripped};
 use second::numbers::MOST_INPUT;
+use second::sheet::checked;
 
-const USAGE: &str =
-    "second [--strip] < INPUT | generate SEED COUNT | one SEED N | demand3 SEED COUNT\n";
+const USAGE: &str = "second [--strip | check | save | strip | reach THREAD] < INPUT \
+                     | generate SEED COUNT | one SEED N | demand3 SEED COUNT\n";
 
 fn main() {
     let arguments: Vec<String> = env::args().skip(1).collect();
@@ -20,6 +21,13 @@ fn main() {
     let status = match words.as_slice() {
         [] => printed(boxrun),
         ["--strip"] => printed(boxrun_stripped),
+        ["check"] => printed(checked),
+        ["save"] => printed(saved),
+        ["strip"] => printed(stripped),
+        ["reach", thread] => match thread.parse() {
+            Ok(thread) => printed(|input| reached(input, thread)),
+            Err(_) => usage(),
+        },
         [command, seed, count] => match (seed.parse(), count.parse()) {
             (Ok(seed), Ok(count)) => numbered(command, seed, count),
             _ => usage(),
@@ -44,7 +52,7 @@ fn usage() -> i32 {
 }
 
 /// Reads one byte more than the most, so that long input shows.
-fn printed(print: fn(&[u8]) -> Vec<u8>) -> i32 {
+fn printed(print: impl Fn(&[u8]) -> Vec<u8>) -> i32 {
     let mut input = Vec::new();
     let most = MOST_INPUT as u64 + 1;
     match io::stdin().lock().take(most).read_to_end(&mut input) {

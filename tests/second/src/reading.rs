@@ -73,7 +73,7 @@ pub fn read_lines(text: &[u8]) -> Result<Program, Refusal> {
 }
 
 /// "Bytes are a to z, 0 to 9, brackets, space and LF."
-fn in_the_list(byte: u8) -> bool {
+pub fn in_the_list(byte: u8) -> bool {
     matches!(byte, b'a'..=b'z' | b'0'..=b'9' | b'(' | b')' | b' ' | b'\n')
 }
 

@@ -312,12 +312,19 @@ fn frames_used_up(random: &mut Random) -> Shape {
     )
 }
 
-/// A script at or just past its most, by further blocks of long lines.
+/// A script at or just past its most, by further blocks of long lines, some of which grow when they are stripped.
 pub fn long_script(random: &mut Random) -> Shape {
     let mut text = String::from("(kind (fields 4) (does))\n(thread)\n(give (read 0))\n");
-    let long = "(let (new unsafe 0 (read 0) (read 0) (read 0) (read 0)))\n";
+    let long = |cap: &str| {
+        format!(
+            "(let (new {} 0 (read 0) (read 0) (read 0) (read 0)))\n",
+            cap
+        )
+    };
     while text.len() < MOST_TEXT - 700 {
-        text.push_str(&format!("(thread)\n{}(give (read 0))\n", long.repeat(9)));
+        let cap = ["unsafe", "unsafe", "unsafe", "imm", "local"][random.below(5)];
+        let lets = [long(cap), long("unsafe").repeat(8)].concat();
+        text.push_str(&format!("(thread)\n{}(give (read 0))\n", lets));
     }
     while text.len() + THREAD.len() <= MOST_TEXT + random.below(40) {
         text.push_str(THREAD);

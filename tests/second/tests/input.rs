@@ -189,12 +189,23 @@ fn an_input_is_stripped() {
     let grows = longest.replacen("(swap 0 255 (read 0))", "(cast imm (read 0))", 1);
     assert_eq!(grows.len(), 16_382);
     assert_eq!(printed(&input(&grows, "0")), "(refused 18 0)\n");
+    let most = grows.replacen("(swap 0 255 (read 0))", "(swap 0 25 (read 0))", 1);
+    let bare = most.replace("cast imm", "cast unsafe");
+    assert_eq!(bare.len(), 16_384);
+    assert_eq!(printed(&input(&most, "0")), input(&bare, "0"));
     let mut turns = "1".to_string();
     while input(&case_a(), &turns).len() < 65_535 {
         turns.push_str(" 1");
     }
     assert_eq!(input(&case_a(), &turns).len(), 65_536);
     assert_eq!(printed(&input(&case_a(), &turns)), "(refused 1 0)\n");
+    turns.truncate(turns.len() - 4);
+    let longer = turns.replacen('1', "10", 1);
+    let bare = case_a().replace("iso", "unsafe");
+    assert_eq!(input(&bare, &longer).len(), 65_536);
+    assert_eq!(printed(&input(&case_a(), &longer)), input(&bare, &longer));
+    let longer = longer.replacen("10", "100", 1);
+    assert_eq!(printed(&input(&case_a(), &longer)), "(refused 1 0)\n");
 }
 
 #[test]

@@ -8,6 +8,7 @@ use std::process::{Command, Output, Stdio};
 use common::*;
 use second::generate;
 use second::input::boxrun;
+use second::sheet::checked;
 
 fn second(arguments: &[&str], input: &[u8]) -> Output {
     let mut child = Command::new(env!("CARGO_BIN_EXE_second"))
@@ -33,6 +34,20 @@ fn standard_input_is_run() {
     assert_eq!(guarded.stdout, printed(D, "0 0").into_bytes());
     let stripped = second(&["--strip"], input.as_bytes());
     assert!(stripped.stdout.starts_with(b"(end finished 2)\n"));
+}
+
+#[test]
+fn standard_input_is_checked_saved_stripped_and_reported_on() {
+    let input = input(D, "0 0");
+    let printed = |arguments: &[&str]| second(arguments, input.as_bytes()).stdout;
+    assert_eq!(printed(&["check"]), checked(input.as_bytes()));
+    assert_eq!(printed(&["save"]), input.as_bytes());
+    assert_eq!(
+        printed(&["strip"]),
+        input.replace("iso", "unsafe").into_bytes()
+    );
+    assert_eq!(printed(&["reach", "0"]), b"(reached 0)\n");
+    assert_eq!(printed(&["reach", "1"]), b"(refused 17 0)\n");
 }
 
 #[test]
@@ -78,6 +93,8 @@ fn demand_3_is_counted() {
 fn other_arguments_are_refused() {
     for arguments in [
         vec!["stripped"],
+        vec!["reach"],
+        vec!["reach", "x"],
         vec!["generate", "5"],
         vec!["one", "x", "1"],
         vec!["two", "1", "1"],
