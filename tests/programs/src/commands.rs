@@ -6,7 +6,7 @@ use std::path::Path;
 
 use crate::started::{ended, Ended, Start};
 use crate::tally::Tally;
-use crate::{file, printed, INPUT, REFUSED};
+use crate::{file, printed, prints, INPUT, REFUSED};
 
 const NUMBERS: &str = "box: explain: there are the numbers 1 to 20\n";
 
@@ -21,12 +21,8 @@ fn inputs(tally: &mut Tally, room: &Path, wrapper: &str) {
     let (good, bad) = (file(room, "good", INPUT), file(room, "bad", REFUSED));
     let missing = room.join("missing").display().to_string();
     let folder = room.display().to_string();
-    let refused = printed(REFUSED);
-    for (command, out) in [
-        ("run", printed(INPUT)),
-        ("save", INPUT.to_string()),
-        ("strip", INPUT.to_string()),
-    ] {
+    for command in ["run", "save", "strip", "check"] {
+        let (out, refused) = (prints(command, INPUT), prints(command, REFUSED));
         let told = |path: &str, why: &str| ended(2, "", &format!("box: {}: {}\n", path, why));
         let cases = [
             (vec![command], INPUT, ended(0, &out, "")),
@@ -34,7 +30,7 @@ fn inputs(tally: &mut Tally, room: &Path, wrapper: &str) {
             (vec![command, &good], REFUSED, ended(0, &out, "")),
             (vec![command], REFUSED, ended(1, &refused, "")),
             (vec![command, &bad], INPUT, ended(1, &refused, "")),
-            (vec![command], "", ended(1, "(refused 3 0)\n", "")),
+            (vec![command], "", ended(1, &prints(command, ""), "")),
             (
                 vec![command, &missing],
                 INPUT,
@@ -95,6 +91,26 @@ fn asked(tally: &mut Tally, room: &Path, wrapper: &str) {
     tally.same("box reach, refused", &got, &ended(1, &printed(REFUSED), ""));
 }
 
+/// The status of a check goes by the verdict: 1 where the turns alone are not filed, 0 after a guard's stop.
+fn checks(tally: &mut Tally, wrapper: &str) {
+    let script = "(kind (fields 0) (does))\n(thread)\n(let (new iso 0))\n(give (read 1))\n";
+    for (last, status, word) in [
+        ("(turns 0 0)\n", 0, "(stopped 19 "),
+        ("(turns 0 256)\n", 1, "refused: 4 "),
+        ("(turns 0 0)", 1, "no LF"),
+        ("(turns 0 0)\r\n", 1, "CR LF"),
+    ] {
+        let input = [script, last].concat();
+        let out = prints("check", &input);
+        tally.holds(out.contains(word), || out.clone());
+        tally.same(
+            &format!("box check, {:?}", last),
+            &boxed(wrapper, &["check"], &input),
+            &ended(status, &out, ""),
+        );
+    }
+}
+
 /// A run that stopped is well: it answers what came of the turns.
 fn stopped(tally: &mut Tally, wrapper: &str) {
     let input = "(thread)\n(give (read 0))\n(turns 0)\n";
@@ -110,6 +126,7 @@ fn stopped(tally: &mut Tally, wrapper: &str) {
 fn others(tally: &mut Tally, wrapper: &str) {
     let usage = boxed(wrapper, &["--help"], "").out;
     for line in [
+        "box check [FILE]",
         "box run [FILE]",
         "box save [FILE]",
         "box strip [FILE]",
@@ -215,6 +232,7 @@ fn installed(tally: &mut Tally, room: &Path, folder: &str, wrapper: &str) {
 pub fn all(tally: &mut Tally, room: &Path, folder: &str, wrapper: &str) {
     inputs(tally, room, wrapper);
     asked(tally, room, wrapper);
+    checks(tally, wrapper);
     stopped(tally, wrapper);
     others(tally, wrapper);
     descriptor_3(tally, room, folder);

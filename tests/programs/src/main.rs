@@ -15,7 +15,8 @@ use std::fs;
 use std::path::{Path, PathBuf};
 use std::process;
 
-use second::input::boxrun;
+use second::input::{boxrun, saved, stripped};
+use second::sheet::checked;
 
 use faults::{Faults, Subject};
 use tally::Tally;
@@ -66,8 +67,20 @@ fn tried(folder: &str, wrapper: &str) -> i32 {
     i32::from(tally.failed > 0 || tally.passed == 0)
 }
 
+/// What boxrun prints.
 fn printed(input: &str) -> String {
-    String::from_utf8_lossy(&boxrun(input.as_bytes())).into_owned()
+    prints("run", input)
+}
+
+/// What a command of box prints.
+fn prints(command: &str, input: &str) -> String {
+    let print = match command {
+        "save" => saved,
+        "strip" => stripped,
+        "check" => checked,
+        _ => boxrun,
+    };
+    String::from_utf8_lossy(&print(input.as_bytes())).into_owned()
 }
 
 /// The ways to start a program on an input, which stands in a file too.
@@ -89,6 +102,7 @@ fn subjects(folder: &str, wrapper: &str, path: &str, input: &str) -> Vec<Subject
         ("run", Some(path)),
         ("save", Some("-")),
         ("strip", None),
+        ("check", None),
     ] {
         let mut words = vec![wrapper.to_string(), command.to_string()];
         words.extend(file.map(str::to_string));
@@ -97,10 +111,7 @@ fn subjects(folder: &str, wrapper: &str, path: &str, input: &str) -> Vec<Subject
             name: format!("box {}", words[1..].join(" ")),
             words,
             program: "box_tool".to_string(),
-            prints: match command {
-                "save" | "strip" if !refused => input.to_string(), // it names no capability
-                _ => printed(input),
-            },
+            prints: prints(command, input),
             reads: match file {
                 Some(file) if from_file => format!("box: {}", file),
                 _ => "box: standard input".to_string(),
