@@ -67,7 +67,7 @@ pub fn of(word: &str) -> Option<Asked> {
 
 /// What some of the sheets show: every refusal, hint and stop, both runs where they differ, and turns of every outcome.
 fn sheet_shows() -> Vec<String> {
-    let refused = (OVERLONG..=DANGLING).map(|number| format!("refused: {} at line ", number));
+    let refused = (OVERLONG..=DANGLING).map(|number| format!("refused: {} ", number));
     let stops = STOPS
         .iter()
         .map(|number| format!("with guards: (stopped {} ", number));

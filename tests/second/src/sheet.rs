@@ -98,12 +98,13 @@ fn not_examined() -> Condition {
     }
 }
 
-/// The refusal's number and line, the line as text with marks under it, and a hint.
+/// The refusal's number, word and line, the line as text with marks under it, and a hint.
 fn refused(refusal: Refusal, line: &[u8], marked: fn(u8) -> bool, hint: &str) -> Condition {
     let shown = &line[..line.len().min(SHOWN)];
     let mut under = vec![format!(
-        "refused: {} at line {}, in an editor line {}",
+        "refused: {} {} at line {}, in an editor line {}",
         refusal.number,
+        word(refusal.number),
         refusal.line,
         refusal.line + 1
     )];
@@ -123,6 +124,20 @@ fn visible(byte: u8) -> char {
     match byte {
         32..=126 => char::from(byte),
         _ => '?',
+    }
+}
+
+/// The word of a refusal of a script (document 01, "Turning away").
+fn word(number: u8) -> &'static str {
+    match number {
+        OVERLONG => "overlong",
+        STRAY_BYTE => "stray byte",
+        MALFORMED => "malformed",
+        OVER_COUNT => "over count",
+        UNBOUND => "unbound",
+        SELF_TAKEN => "self taken",
+        UNFINISHED => "unfinished",
+        _ => "dangling",
     }
 }
 

@@ -107,19 +107,10 @@ fn the_page_shows_the_sheet_of_case_a() {
 #[test]
 fn the_page_shows_lines_under_each_tick() {
     let malformed = text(&["(thread)", "(let (read 0))", "(let (send 1 (take 2))"]);
-    let four = "(let (new unsafe 0))\n".repeat(4);
-    let makes = [
-        PLAIN_KIND,
-        PLAIN_KIND,
-        "(thread)\n",
-        &four,
-        "(give (read 1))\n",
-    ]
-    .concat();
     let none = under(input(SMALL, "16 255").as_bytes(), 3);
     for lines in [
         script_under(&malformed, 1),
-        script_under(&makes, 2),
+        under(&example("stale-write-back-unguarded"), 2),
         none[1..].to_vec(),
         under(&example("stale-write-back"), 4),
     ] {
@@ -172,7 +163,7 @@ fn a_refused_script() {
 Check sheet of the freezer box
 
 [ ] 1. The script reads clean
-       refused: 3 at line 4, in an editor line 5
+       refused: 3 malformed at line 4, in an editor line 5
        (let (send 1 (take 2))
        ^^^^^^^^^^^^^^^^^^^^^^
        hint: no form of a script, or not in its place
@@ -193,7 +184,7 @@ Verdict: not all four conditions hold
 #[test]
 fn number_1_shows_no_line() {
     let script = format!("{}\n", longest_script(Edition::One));
-    let refused = ["refused: 1 at line 0, in an editor line 1", LONG];
+    let refused = ["refused: 1 overlong at line 0, in an editor line 1", LONG];
     assert_eq!(script_under(&script, 1), refused);
     let whole = input(&script, "0 0");
     assert_eq!(ticks(whole.as_bytes()), "  x ");
@@ -210,7 +201,7 @@ fn of_a_long_input_nothing_else_is_examined() {
 Check sheet of the freezer box
 
 [ ] 1. The script reads clean
-       refused: 1 at line 0, in an editor line 1
+       refused: 1 overlong at line 0, in an editor line 1
        hint: a script has at most 16384 bytes, an input 65536
 [ ] 2. Every record carries a capability
        not examined
@@ -233,7 +224,7 @@ Verdict: not all four conditions hold
 #[test]
 fn number_2_marks_the_stray_bytes() {
     let lines = script_under("(thread)\n(Let (read\t0));\n(give (read 0))\n", 1);
-    let refused = "refused: 2 at line 1, in an editor line 2";
+    let refused = "refused: 2 stray byte at line 1, in an editor line 2";
     assert_eq!(
         lines,
         [refused, "(Let (read?0));", " ^        ^   ^", STRAY]
@@ -257,7 +248,7 @@ fn number_2_marks_the_stray_bytes() {
 fn a_cr_at_a_lines_end_is_named() {
     let script = SMALL.replace('\n', "\r\n");
     let first = [
-        "refused: 2 at line 0, in an editor line 1",
+        "refused: 2 stray byte at line 0, in an editor line 1",
         "(thread)?",
         "        ^",
         CR,
@@ -268,7 +259,12 @@ fn a_cr_at_a_lines_end_is_named() {
     let alone = script_under("(thread)\n\r\n(give (read 0))\n", 1);
     assert_eq!(
         alone,
-        ["refused: 2 at line 1, in an editor line 2", "?", "^", CR]
+        [
+            "refused: 2 stray byte at line 1, in an editor line 2",
+            "?",
+            "^",
+            CR
+        ]
     );
     let both = script_under("(Thread)\r\n(give (read 0))\n", 1);
     assert_eq!(both[1..], ["(Thread)?", " ^      ^", CR]);
@@ -277,14 +273,17 @@ fn a_cr_at_a_lines_end_is_named() {
 #[test]
 fn number_3_marks_the_whole_line() {
     let lines = script_under("(thread)\n(let (read 0)))\n(give (read 0))\n", 1);
-    let refused = "refused: 3 at line 1, in an editor line 2";
+    let refused = "refused: 3 malformed at line 1, in an editor line 2";
     assert_eq!(lines, [refused, "(let (read 0)))", "^^^^^^^^^^^^^^^", FORM]);
 }
 
 #[test]
 fn an_empty_line_is_not_shown() {
     let lines = script_under("(thread)\n\n(give (read 0))\n", 1);
-    assert_eq!(lines, ["refused: 3 at line 1, in an editor line 2", FORM]);
+    assert_eq!(
+        lines,
+        ["refused: 3 malformed at line 1, in an editor line 2", FORM]
+    );
 }
 
 #[test]
@@ -314,7 +313,7 @@ fn number_4_to_6_and_8() {
         (
             "(thread)\n(let (read 256))\n(give (read 0))\n".to_string(),
             [
-                "refused: 4 at line 1, in an editor line 2",
+                "refused: 4 over count at line 1, in an editor line 2",
                 "(let (read 256))",
                 "^^^^^^^^^^^^^^^^",
                 OVER,
@@ -323,7 +322,7 @@ fn number_4_to_6_and_8() {
         (
             "(thread)\n(give (read 1))\n".to_string(),
             [
-                "refused: 5 at line 1, in an editor line 2",
+                "refused: 5 unbound at line 1, in an editor line 2",
                 "(give (read 1))",
                 "^^^^^^^^^^^^^^^",
                 SLOT,
@@ -332,7 +331,7 @@ fn number_4_to_6_and_8() {
         (
             self_taken,
             [
-                "refused: 6 at line 4, in an editor line 5",
+                "refused: 6 self taken at line 4, in an editor line 5",
                 "(let (take 0))",
                 "^^^^^^^^^^^^^^",
                 TAKEN,
@@ -341,7 +340,7 @@ fn number_4_to_6_and_8() {
         (
             "(thread)\n(let (spawn 7))\n(give (read 0))\n".to_string(),
             [
-                "refused: 8 at line 1, in an editor line 2",
+                "refused: 8 dangling at line 1, in an editor line 2",
                 "(let (spawn 7))",
                 "^^^^^^^^^^^^^^^",
                 DANGLING,
@@ -356,11 +355,14 @@ fn number_4_to_6_and_8() {
 #[test]
 fn number_7_has_no_line_to_show() {
     let cut = "(thread)\n(let (read 0))\n";
-    let refused = ["refused: 7 at line 2, in an editor line 3", UNFINISHED];
+    let refused = [
+        "refused: 7 unfinished at line 2, in an editor line 3",
+        UNFINISHED,
+    ];
     assert_eq!(script_under(cut, 1), refused);
     assert_eq!(
         script_under("", 1)[0],
-        "refused: 7 at line 0, in an editor line 1"
+        "refused: 7 unfinished at line 0, in an editor line 1"
     );
 }
 
@@ -369,10 +371,13 @@ fn number_7_has_no_line_to_show() {
 fn a_script_alone() {
     let input = case_a().into_bytes();
     assert_eq!(ticks(&input), "    ");
-    let unfinished = ["refused: 7 at line 8, in an editor line 9", UNFINISHED];
+    let unfinished = [
+        "refused: 7 unfinished at line 8, in an editor line 9",
+        UNFINISHED,
+    ];
     assert_eq!(under(&input, 1), unfinished);
     let fault = [
-        "refused: 3 at line 8, in an editor line 9",
+        "refused: 3 malformed at line 8, in an editor line 9",
         "(give (take 1))",
         "^^^^^^^^^^^^^^^",
         TURNS,
@@ -386,12 +391,12 @@ fn an_empty_input() {
 Check sheet of the freezer box
 
 [ ] 1. The script reads clean
-       refused: 7 at line 0, in an editor line 1
+       refused: 7 unfinished at line 0, in an editor line 1
        hint: the last block has no give, or there is no block; was the file cut off?
 [ ] 2. Every record carries a capability
        not examined
 [ ] 3. The list of turns is filed
-       refused: 3 at line 0, in an editor line 1
+       refused: 3 malformed at line 0, in an editor line 1
        hint: the last line is to be (turns T ..), each T a number up to 255
 [ ] 4. Guards change no result
        not examined
@@ -401,7 +406,7 @@ Verdict: not all four conditions hold
     assert_eq!(printed_sheet(b""), sheet);
     assert_eq!(
         under(b"\n", 3),
-        ["refused: 3 at line 0, in an editor line 1", TURNS]
+        ["refused: 3 malformed at line 0, in an editor line 1", TURNS]
     );
 }
 
@@ -409,18 +414,18 @@ Verdict: not all four conditions hold
 #[test]
 fn a_faulty_line_of_turns() {
     let line = |last: &str| format!("{}{}", SMALL, last);
-    for (last, number, hint) in [
-        ("(turns 0 007)\n", 3, TURNS),
-        ("(turns 0 256)\n", 4, TURNS),
-        ("(turns 0 255) \n", 3, TURNS),
-        ("(turns 0)", 3, NO_LF),
-        ("(turns 256)", 3, NO_LF),
-        ("(turns 0)\r\n", 3, CR),
-        ("(turns 0)\r", 3, CR),
+    for (last, refusal, hint) in [
+        ("(turns 0 007)\n", "3 malformed", TURNS),
+        ("(turns 0 256)\n", "4 over count", TURNS),
+        ("(turns 0 255) \n", "3 malformed", TURNS),
+        ("(turns 0)", "3 malformed", NO_LF),
+        ("(turns 256)", "3 malformed", NO_LF),
+        ("(turns 0)\r\n", "3 malformed", CR),
+        ("(turns 0)\r", "3 malformed", CR),
     ] {
         let text = last.trim_end_matches('\n').replace('\r', "?");
         let marks = "^".repeat(text.len());
-        let refused = format!("refused: {} at line 2, in an editor line 3", number);
+        let refused = format!("refused: {} at line 2, in an editor line 3", refusal);
         let input = line(last);
         assert_eq!(
             under(input.as_bytes(), 3),
@@ -440,11 +445,11 @@ fn both_are_refused() {
     let input = b"(thread)\n(give (Read 0))\n(turns 300)\n";
     assert_eq!(
         under(input, 1)[0],
-        "refused: 2 at line 1, in an editor line 2"
+        "refused: 2 stray byte at line 1, in an editor line 2"
     );
     assert_eq!(
         under(input, 3)[0],
-        "refused: 4 at line 2, in an editor line 3"
+        "refused: 4 over count at line 2, in an editor line 3"
     );
     assert_eq!(ticks(input), "    ");
 }
@@ -530,10 +535,10 @@ fn unsafe_by_new_copy_and_cast() {
     let dangling = edition_2("(thread)\n(let (spawn 7))\n(give (read 0))\n");
     assert_eq!(
         script_under(&dangling, 1)[0],
-        "refused: 8 at line 2, in an editor line 3"
+        "refused: 8 dangling at line 2, in an editor line 3"
     );
     let first = [
-        "refused: 3 at line 1, in an editor line 2",
+        "refused: 3 malformed at line 1, in an editor line 2",
         "(script 2)",
         "^^^^^^^^^^",
         FORM,
