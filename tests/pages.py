@@ -4,7 +4,7 @@
 In docs/SCRIPTS.md a fenced block `box` is an input of boxrun, and the block `output` after it is, byte for byte, what target/bin/boxrun prints of
 it. A block `output unsafe` after that is what it prints of the same input with every capability changed to unsafe. There is no other fenced
 block, so that nothing looks like an input and is not run; commands for a shell are indented. In README.md an indented `$ boxrun < FILE` or
-`$ box check FILE` has its output below it. The page's table of who may hold whom is tried pair by pair.
+`$ box check FILE` has its output below it, and each `scripts/box ..` is well. The page's table of who may hold whom is tried pair by pair.
 
 Besides: the numbers of that page, and of the index of docs/DECISIONS.md, are those of README.md with the same words; the index names every point,
 and no other; the pictures are what docs/pictures/draw.py draws, and the page shows each; every relative link of README.md and docs/*.md leads to a
@@ -78,6 +78,15 @@ def commands(page):
         shown = re.sub('^    ', '', command[3], flags=re.M).rstrip('\n') + '\n'
         yield '%s: %s %s' % (README, command[1], command[2]), None if got == shown else 'it prints\n' + got
     yield README, None if len({command[1] for command in found}) == 2 else 'boxrun and box check are not both shown'
+
+
+def asked(page):
+    """The commands of README.md that ask box of an example: each is well, and prints something."""
+    found = re.findall(r'^    (scripts/box [^#\n]*\S) +#', page, re.M)
+    for command in found:
+        ended = subprocess.run(command.split(), cwd=ROOT, stdout=subprocess.PIPE, timeout=60)
+        yield '%s: %s' % (README, command), None if ended.returncode == 0 and ended.stdout else 'exits with %d' % ended.returncode
+    yield README, None if len(found) == 6 else 'not every command of box is shown'
 
 
 HOLDING = """(kind (fields 0) (does))
@@ -173,6 +182,7 @@ def tried():
     yield finds('an input without its output', runs(page.replace('```output\n(end open 0)\n(thread 0 ready 0 0 absent)\n```\n', '', 1)))
     yield finds('a block of another sort', runs(page + '```sh\nboxrun\n```\n'))
     yield finds('a wrong byte below a command', commands(read(README).replace('(stopped 20 1 1 3 14)', '(stopped 20 1 1 3 15)')))
+    yield finds('a command that is refused', asked(read(README).replace('box reach examples/case-a.box 1', 'box reach examples/case-a.box 2')))
     yield finds('a wrong holder', holders(page.replace('| `iso` | yes | yes | no | no |', '| `iso` | yes | no | no | no |')))
     yield finds('a number left out', numbers(page.replace('| 12 | no method |', '| no method |'), SCRIPTS, 'The numbers'))
     yield finds('another word', numbers(page.replace('| 19 | alias |', '| 19 | second |'), SCRIPTS, 'The numbers'))
@@ -187,6 +197,7 @@ def checks():
     page, decisions = read(SCRIPTS), read(DECISIONS)
     yield from runs(page)
     yield from commands(read(README))
+    yield from asked(read(README))
     yield from holders(page)
     yield from numbers(page, SCRIPTS, 'The numbers')
     yield from numbers(decisions, DECISIONS, 'Index')
