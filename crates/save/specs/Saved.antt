@@ -5,6 +5,7 @@ use mathlib.Core.Bool.{false, cond}
 use mathlib.Core.List.{List, _++_}
 use lib.Dec.{ltb}
 use lib.ListN.{length, drop}
+use Rattle.rules.specs.Mosts as Most
 use Rattle.rules.specs.Mosts.{mosts}
 use Rattle.rules.specs.Numbers as No
 use Rattle.rules.specs.Reading.{Reading, turnedAway, accepted, reading}
@@ -32,7 +33,7 @@ scriptSaved text rest = scriptSavedAs text rest (reading mosts (longText text) f
 
 -- how many bytes a lent output needs: every input fits
 abbrev pub savedBytes : ℕ
-savedBytes = 65536
+savedBytes = Most.input
 
 -- as a printed run stands in a lent output, which is longer here
 unfoldable pub savedIn : (text output : List ℕ) → Printed

@@ -2,13 +2,13 @@
 use Prim.Native.Nat.{ℕ, zero, suc, _+_, _*_}
 use Prim.Native.Char.{code}
 use Prim.Native.String as S
-use mathlib.Core.Bool.{Bool, true, false, _&&_, cond}
+use mathlib.Core.Bool.{Bool, true, false, cond}
 use mathlib.Core.List.{List, [], _∷_, _++_, map}
 use lib.Dec.{eqb, ltb}
 use lib.ListN.{length, getD, take}
 use Rattle.rules.specs.Mosts.{mosts}
 use Rattle.rules.specs.Numbers as No
-use Rattle.rules.specs.Text.{bytes, space, lf, allowed, lines, findLine, startOf}
+use Rattle.rules.specs.Text.{bytes, space, allowed, lines, findLine, startOf}
 use Rattle.rules.specs.Templates.{decimal, printMany}
 use Rattle.rules.specs.Script.{Program, linesOf}
 use Rattle.rules.specs.Reading.{Reading, turnedAway, accepted, linesBefore}

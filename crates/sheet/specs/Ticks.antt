@@ -1,11 +1,11 @@
 -- The four conditions for one script and one list of turns: when each tick stands, and what is told of it.
 use Prim.Native.Nat.{ℕ, suc, _+_}
-use mathlib.Core.Bool.{Bool, true, false, cond}
+use mathlib.Core.Bool.{false, cond}
 use mathlib.Core.List.{List, [], _∷_}
 use lib.Dec.{eqb}
 use Rattle.rules.specs.Mosts.{mosts}
-use Rattle.rules.specs.Script.{value, field, swap, call, new, cast, spawn, send, recv, copy, bind, give, Form, kind, opens, line, Program, linesOf, rank}
-use Rattle.rules.specs.Reading.{Reading, turnedAway, accepted, reading}
+use Rattle.rules.specs.Script.{value, field, swap, call, new, cast, spawn, send, recv, copy, bind, give, Form, kind, opens, line, Program, rank}
+use Rattle.rules.specs.Reading.{Reading, reading}
 use Rattle.rules.specs.Run.{Answer, run, answer}
 use Rattle.rules.specs.Stripped.{strip}
 use Rattle.rules.specs.Calls.{longText}
@@ -14,10 +14,6 @@ use Rattle.rules.specs.Calls.{longText}
 
 unfoldable pub readingOf : List ℕ → Reading
 readingOf text = reading mosts (longText text) false text
-
-abbrev pub isClean : Reading → Bool
-isClean (turnedAway k n) = false
-isClean (accepted P) = true
 
 -- ---- 2: "Every record carries a capability of the Dala model": each line that makes records names one
 
