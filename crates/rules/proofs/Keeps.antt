@@ -71,7 +71,7 @@ module _ (m : Mosts) (P : Program) (valid : Valid m P) where
       let last = line-give (blockAt P b .lets) (blockAt P b .result) l w at-line line in
       rw (last .0, ← (last .1)) (block-ok b there .result)
 
-  method-ok : (k i : ℕ) → k < length (P .kinds) → i < length (kindAt P k .methods) → IsBlock P method (getD (kindAt P k .methods) i 0)
+  pub method-ok : (k i : ℕ) → k < length (P .kinds) → i < length (kindAt P k .methods) → IsBlock P method (getD (kindAt P k .methods) i 0)
   method-ok k i there has-method = every-at (IsBlock P method) (kindAt P k .methods) i 0 has-method (kind-ok k there .methods)
 
 -- ---- More objects, threads and moves
@@ -218,11 +218,11 @@ module _ (o c : ℕ) where
   left-range (reads s) gave slots = rw (gave .slots) slots
   left-range {vs = vs} (takes s) gave slots = rw (gave .slots) (every-set (InRange o c) vs s Absent tt slots)
 
-  all-values-range : {os : List Object} {vs us left : List Value} {ws : List Operand} → GaveAll os vs ws us left → Every (InRange o c) vs → Every (InRange o c) us
+  pub all-values-range : {os : List Object} {vs us left : List Value} {ws : List Operand} → GaveAll os vs ws us left → Every (InRange o c) vs → Every (InRange o c) us
   all-values-range no-more slots = tt
   all-values-range (one-more {w = w} gave rest) slots = (value-range gave slots, all-values-range rest (left-range w gave slots))
 
-  all-left-range : {os : List Object} {vs us left : List Value} {ws : List Operand} → GaveAll os vs ws us left → Every (InRange o c) vs → Every (InRange o c) left
+  pub all-left-range : {os : List Object} {vs us left : List Value} {ws : List Operand} → GaveAll os vs ws us left → Every (InRange o c) vs → Every (InRange o c) left
   all-left-range no-more slots = slots
   all-left-range (one-more {w = w} gave rest) slots = all-left-range rest (left-range w gave slots)
 
@@ -482,7 +482,7 @@ module _ (m : Mosts) (P : Program) (n : ℕ) (H : Here) (here : HereFits m P n H
     finish-fits = put-thread-fits m P (suc n) (H .state) counted (H .self) [] ready (omega arith) tt tt
 
     -- whichever way it was
-    step-fits : (x : Line) (S′ : State) → lineAt P (H .frame .block) (H .frame .line) ≡ x → Step m P H x S′ → Fits m P (suc n) S′
+    pub step-fits : (x : Line) (S′ : State) → lineAt P (H .frame .block) (H .frame .line) ≡ x → Step m P H x S′ → Fits m P (suc n) S′
     step-fits x S′ at-line (by-value w v vs gave) = operand-fits (let-line at-line) w v vs gave
     step-fits x S′ at-line (by-field s f i read) = field-fits (let-line at-line) s f i read
     step-fits x S′ at-line (by-swap s f w i u vs swapped) = swap-fits (let-line at-line) s f w i u vs swapped

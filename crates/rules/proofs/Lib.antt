@@ -12,6 +12,8 @@ pub mod Walks
 pub mod Moves
 pub mod OtherThreads
 pub mod Keeps
+-- who holds an object: how each way to move changes it, and how many there can be
+pub mod HolderLaws
 -- a run, turn by turn
 pub mod Runs
 -- one turn of the stripped script follows the guarded one; demand 3; the stripped script is valid

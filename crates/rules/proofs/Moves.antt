@@ -1,5 +1,5 @@
 -- What a turn that moves has shown: one case for each way to move, with its checks as facts and the state that it leaves. Each line form is followed check by check.
-use Prim.Native.Nat.{ℕ, suc, _+_, _≤_, _<_}
+use Prim.Native.Nat.{ℕ, zero, suc, _+_, _≤_, _<_}
 use mathlib.Core.Path.{_≡_, refl, ap, _∙_, subst}
 use mathlib.Core.Bool.{Bool, true, false, not, _||_}
 use mathlib.Core.List.{List, [], _∷_, _++_, map}
@@ -33,6 +33,16 @@ pub record Gave (os : List Object) (vs : List Value) (w : Operand) (v : Value) (
   pub no-iso : NoIsoRead os w v
   pub slots : left ≡ leftBy vs w
   pub count : length left ≡ length vs
+
+-- what a slot holds after an operand, it held before
+pub left-was-there : {v : Value} (vs : List Value) (w : Operand) (i : ℕ) → isAbsent v ≡ false → slotAt (leftBy vs w) i ≡ v → slotAt vs i ≡ v
+unfolding slotAt isAbsent
+left-was-there vs (reads k) i there is = is
+left-was-there [] (takes k) i there is = is
+left-was-there (u ∷ us) (takes zero) zero there is = impossible cc
+left-was-there (u ∷ us) (takes zero) (suc i) there is = is
+left-was-there (u ∷ us) (takes (suc k)) zero there is = is
+left-was-there (u ∷ us) (takes (suc k)) (suc i) there is = left-was-there us (takes k) i there is
 
 -- from the slots vs the operands ws give the values us, each seeing what the earlier ones left
 pub data GaveAll (os : List Object) : (vs : List Value) (ws : List Operand) (us left : List Value) → Type 0 where

@@ -8,11 +8,12 @@ use lib.ListN.{length, length-append, length-map, length-reverse}
 use Rattle.rules.specs.declared.Cap.{Cap}
 use Rattle.rules.specs.declared.Cap.the-variants.{Imm, Iso, Local, Unsafe}
 use Rattle.rules.specs.Mosts as Most
-use Rattle.rules.specs.Lists.{Every}
+use Rattle.rules.specs.Lists.{pad, Every}
 use Rattle.rules.specs.Script.{Operand, reads, takes, Program, rank}
 use Rattle.rules.specs.Reading.{slotOf}
 use Rattle.rules.specs.State.{Object, Frame, Sender, ready, waiting, Thread, Channel, State}
-use Rattle.rules.specs.Tables.{operandWord, operandOf, capOf, usedProgramWords, programWords, noFrame, objectWords, frameWords, senderWord, outermostFirst, threadWords, channelWords, usedStateWords, stateWords}
+use Rattle.rules.specs.Tables.{operandWord, operandOf, capOf, usedProgramWords, programWords, noFrame, objectWords, objectCells, frameWords, senderWord, outermostFirst, threadWords, channelWords, usedStateWords, countedWords, stateWords}
+use Rattle.rules.specs.Holders.{holders}
 use Rattle.rules.proofs.ListLaws.{by-bool, every-snoc, length-pad, length-records}
 
 -- ---- the length
@@ -21,9 +22,18 @@ pub program-words-length : (P : Program) → length (programWords P) ≡ Most.wo
 unfolding programWords
 program-words-length P = length-pad Most.words 0 (usedProgramWords P)
 
-pub object-words-length : (o : Object) → length (objectWords o) ≡ 8
+pub object-words-length : (held : ℕ) (o : Object) → length (objectWords held o) ≡ 8
 unfolding objectWords
-object-words-length o = simp (length-map, length-pad)
+object-words-length held o = simp (length-map, length-pad)
+
+object-cells-length : (c : ℕ → ℕ) (n : ℕ) (os : List Object) → length (objectCells c n os) ≡ length os * 8
+unfolding objectCells
+object-cells-length c n [] = refl
+object-cells-length c n (o ∷ os) =
+    length-append (objectWords (c n) o) (objectCells c (suc n) os) ∙ omega (arith, object-words-length (c n) o, object-cells-length c (suc n) os)
+
+pub objects-length : (c : ℕ → ℕ) (n k : ℕ) (o : Object) (os : List Object) → length (objectCells c n (pad k o os)) ≡ k * 8
+objects-length c n k o os = object-cells-length c n (pad k o os) ∙ ap (λ i. i * 8) (length-pad k o os)
 
 pub frame-words-length : (f : Frame) → length (frameWords f) ≡ 19
 unfolding frameWords
@@ -37,18 +47,21 @@ pub channel-words-length : (c : Channel) → length (channelWords c) ≡ 2
 unfolding channelWords
 channel-words-length c = refl
 
+pub counted-words-length : (c : ℕ → ℕ) (S : State) → length (countedWords c S) ≡ Most.words
+unfolding countedWords
+counted-words-length c S = length-pad Most.words 0 (usedStateWords c S)
+
 pub state-words-length : (S : State) → length (stateWords S) ≡ Most.words
-unfolding stateWords
-state-words-length S = length-pad Most.words 0 (usedStateWords S)
+state-words-length S = counted-words-length (holders S) S
 
 -- nothing of a state is cut off
-pub used-state-words-length : (S : State) → length (usedStateWords S) ≡ 6984
+pub used-state-words-length : (c : ℕ → ℕ) (S : State) → length (usedStateWords c S) ≡ 6984
 unfolding usedStateWords
-used-state-words-length S =
+used-state-words-length c S =
     simp (
       length-append,
       length-pad,
-      length-records objectWords _ object-words-length,
+      objects-length,
       length-records threadWords _ thread-words-length,
       length-records channelWords _ channel-words-length,
     )

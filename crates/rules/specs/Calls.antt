@@ -13,6 +13,7 @@ use Rattle.rules.specs.Script.{Program}
 use Rattle.rules.specs.State.{State}
 use Rattle.rules.specs.Run.{run, Answer, refused, answer}
 use Rattle.rules.specs.Reach.{roots, reachList}
+use Rattle.rules.specs.Holders.{holders}
 use Rattle.rules.specs.Tables.{programWords, stateWords}
 
 -- "1 overlong: text or turns too long", "9 short table: a lent table or list under its length"
@@ -82,3 +83,18 @@ listWords objects = pad Most.reachList 0 objects
 abbrev pub listAfter : Report → List ℕ → List ℕ
 listAfter (unreported k n) list = list
 listAfter (reached objects) list = listWords objects ++ drop Most.reachList list
+
+-- ---- document 02, L7: "takes a run's inputs and an object number and gives the stored count"; its inputs are those of runCall
+
+pub data Count : Type 0 where
+  uncounted : (number line : ℕ) → Count
+  counted : (places : ℕ) → Count
+
+-- in the state S of a run: "21 no object, when the number was never made, checked after the run's own refusals 1 to 9"
+abbrev pub countOn : State → ℕ → (made : Bool) → Count
+countOn S n true = counted (holders S n)
+countOn S n false = uncounted No.noObject 0
+
+abbrev pub holderCount : Mosts → (turns : List ℕ) → (object : ℕ) → Reading → Count
+holderCount m turns n (turnedAway k l) = uncounted k l
+holderCount m turns n (accepted P) = let S = run m P turns .state in countOn S n (ltb n (length (S .objects)))

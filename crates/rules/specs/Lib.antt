@@ -16,8 +16,10 @@ pub mod Walk
 pub mod Turn
 pub mod Run
 pub mod Fits
--- the forms by name and number; both tables to the word
+-- the forms by name and number; who holds an object, and how a turn changes that; both tables to the word
 pub mod Forms
+pub mod Holders
+pub mod HolderChanges
 pub mod Tables
 -- "Guarded and stripped": demand 3
 pub mod Stripped

@@ -79,6 +79,10 @@ noThread = 17
 abbrev pub noScript : ℕ
 noScript = 18
 
+-- document 02, L7: "21 no object, when the number was never made"
+abbrev pub noObject : ℕ
+noObject = 21
+
 -- document 02, L5: "The stripped-script rule now counts 14, 15, 19 and 20 as permission or cast."
 abbrev pub isGuard : ℕ → Bool
 isGuard n = eqb n (permission Foreign) || eqb n (permission Alias) || eqb n (permission Other) || eqb n cast

@@ -15,6 +15,7 @@ use Rattle.rules.specs.Script.{Operand, reads, takes, value, field, swap
 use Rattle.rules.specs.declared.forms.Form.the-variants as N
 use Rattle.rules.specs.Forms.{formNumber}
 use Rattle.rules.specs.State.{Object, Frame, Sender, ready, waiting, Thread, noThread, Channel, emptyChannel, State}
+use Rattle.rules.specs.Holders.{holders}
 
 -- ---- The program table
 
@@ -93,9 +94,14 @@ unmade = record { cap = Imm; kind = 0; creator = 0; fields = [] }
 abbrev pub noFrame : Frame
 noFrame = record { block = 0; line = 0; slots = [] }
 
--- capability, kind, creator, a spare word, the fields
-unfoldable pub objectWords : Object → List ℕ
-objectWords o = rank (o .cap) ∷ o .kind ∷ o .creator ∷ 0 ∷ map word (pad Most.fields Absent (o .fields))
+-- capability, kind, creator, how many places hold the object, the fields
+unfoldable pub objectWords : ℕ → Object → List ℕ
+objectWords held o = rank (o .cap) ∷ o .kind ∷ o .creator ∷ held ∷ map word (pad Most.fields Absent (o .fields))
+
+-- objects one after the other, from number n, each with its count
+unfoldable pub objectCells : (ℕ → ℕ) → ℕ → List Object → List ℕ
+objectCells c n [] = []
+objectCells c n (o ∷ os) = objectWords (c n) o ++ objectCells c (suc n) os
 
 -- block, line, the number of filled slots, the slots
 unfoldable pub frameWords : Frame → List ℕ
@@ -118,12 +124,16 @@ threadWords t = length (t .frames) ∷ senderWord (t .sender) ∷ cells frameWor
 unfoldable pub channelWords : Channel → List ℕ
 channelWords c = word (c .message) ∷ c .number ∷ []
 
--- words 0 and 1 count objects and threads; objects of 8 words from 8; threads of 306 from 2,056; channels of 2 from 6,952
-unfoldable pub usedStateWords : State → List ℕ
-usedStateWords S =
+-- words 0 and 1 count objects and threads; objects of 8 words from 8, with these counts of holders; threads of 306 from 2,056; channels of 2 from 6,952
+unfoldable pub usedStateWords : (ℕ → ℕ) → State → List ℕ
+usedStateWords c S =
     pad 8 0 (length (S .objects) ∷ length (S .threads) ∷ [])
-    ++ (cells objectWords (pad (mosts .objects) unmade (S .objects))
+    ++ (objectCells c 0 (pad (mosts .objects) unmade (S .objects))
     ++ (cells threadWords (pad (mosts .threads) noThread (S .threads)) ++ cells channelWords (pad (mosts .threads) emptyChannel (S .channels))))
 
-unfoldable pub stateWords : State → List ℕ
-stateWords S = pad Most.words 0 (usedStateWords S)
+unfoldable pub countedWords : (ℕ → ℕ) → State → List ℕ
+countedWords c S = pad Most.words 0 (usedStateWords c S)
+
+-- with the state's own counts: an object that is not made has no holder
+abbrev pub stateWords : State → List ℕ
+stateWords S = countedWords (holders S) S

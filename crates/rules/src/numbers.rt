@@ -40,3 +40,5 @@ pub const NO_SCRIPT: u16 = 18;
 pub const ALIAS: u16 = 19;
 // something local to another thread
 pub const FOREIGN: u16 = 20;
+// document 02, L7: holders of an object never made
+pub const NO_OBJECT: u16 = 21;
