@@ -13,5 +13,7 @@ pub mod StateReads
 mod StateMoves
 mod StateRecords
 pub mod StateFrames
+-- holder counts
+pub mod HolderCounts
 -- both tables stripped
 pub mod StrippedWords

@@ -4,22 +4,22 @@ use native.Mathlib.Omega.{arith}
 use native.Mathlib.Numerals.{add-one}
 use mathlib.Core.Path.{_≡_, refl, sym, ap, _∙_}
 use mathlib.Core.List.{List, append-assoc, append-nil}
-use lib.ListN.{length, getD, set, take, replicate, length-set, length-replicate, getD-replicate, List·getD-eq-default}
+use lib.ListN.{length, getD, set, take, replicate, length-replicate, getD-replicate, List·getD-eq-default}
 use lib.Seq.{paste, paste-suc}
 use Rattle.rules.specs.Lists.{pad, cells}
 use Rattle.rules.specs.declared.Value.{Value}
 use Rattle.rules.specs.Script.{Program, linesOf, blockAt}
-use Rattle.rules.specs.State.{Frame, Sender, ready, State, threadAt, slotAt, start}
+use Rattle.rules.specs.State.{Frame, Sender, ready, State, threadAt, start}
 use Rattle.rules.specs.Turn.{putThread}
-use Rattle.rules.specs.Tables.{word, noFrame, objectWords, frameWords, outermostFirst, threadWords, channelWords, usedStateWords, stateWords}
-use Rattle.rules.proofs.ListLaws.{get-before}
+use Rattle.rules.specs.Tables.{word, noFrame, objectWords, objectCells, frameWords, outermostFirst, threadWords, channelWords, usedStateWords, countedWords, stateWords}
+use Rattle.rules.specs.Holders.{total, inSlots, inFields, inMessage, holders}
+use Rattle.rules.specs.Reach.{count, slotsOf}
 use Rattle.rules.proofs.TableWords.{length-outermost}
-use Rattle.table.specs.StateTable.{Held, Starts, OnLine, frameAt, Innermost, callee, called, left}
+use Rattle.table.specs.StateTable.{Counted, Starts, OnLine, frameAt, Innermost, callee, called, left}
 use Rattle.table.specs.ProgramTable.{freshTable, Filled}
 use Rattle.table.specs.declared.state.Here.{Here}
 use Rattle.table.proofs.ProgramLines.{blocks-of-lines, line-there, line-part-is}
 use Rattle.table.proofs.StateTable.{splice, Part, part-set, frame-part, sender-put, frame-pushed, frame-dropped}
-use Rattle.table.proofs.StateReads.{slot-word}
 use Rattle.table.proofs.StateEdits.{thread-put, put-put, length-put}
 
 -- ---- Zeros
@@ -43,7 +43,7 @@ zero-more l at n i p e h k =
 
 -- the state at the start is zeros but for three words
 start-words : set (set (set freshTable 1 1) 2056 1) 2060 1 ≡ stateWords start
-unfolding freshTable stateWords usedStateWords start pad cells objectWords threadWords frameWords channelWords outermostFirst
+unfolding freshTable countedWords usedStateWords start pad cells objectCells objectWords threadWords frameWords channelWords outermostFirst holders total inSlots inFields inMessage count slotsOf
 start-words = refl
 
 pub all-zero-but-three : (l : List ℕ) → Starts l (set (set (set l 1 1) 2056 1) 2060 1)
@@ -54,8 +54,8 @@ all-zero-but-three l = record {
 -- ---- Frames
 
 -- after its frames are written, the thread is made ready
-made-ready : (S : State) (t : ℕ) (fs : List Frame) (d : Sender) {l rest : List ℕ} → t < length (S .threads) → t < 16
-    → Held l (putThread S t fs d) rest → Held (set l (2057 + t * 306) 0) (putThread S t fs ready) rest
+made-ready : (S : State) (t : ℕ) (fs : List Frame) (d : Sender) {l rest : List ℕ} {N : ℕ → ℕ} → t < length (S .threads) → t < 16
+    → Counted l N (putThread S t fs d) rest → Counted (set l (2057 + t * 306) 0) N (putThread S t fs ready) rest
 made-ready S t fs d there few held =
     rw (thread-put S t fs d there, put-put S t fs fs d ready) at (sender-put held t ready few (rw (length-put S t fs d) there))
 
@@ -67,7 +67,7 @@ zero-frame : (l : List ℕ) (at : ℕ) → paste l at (zeros 19) 19 ≡ splice l
 unfolding frameWords pad zeros splice
 zero-frame l at = append-assoc (take at l) _ _
 
-module _ {l rest : List ℕ} {S : State} (held : Held l S rest) (t k : ℕ) (few : t < 16) where
+module _ {l rest : List ℕ} {N : ℕ → ℕ} {S : State} (held : Counted l N S rest) (t k : ℕ) (few : t < 16) where
   -- past the innermost frame there is none
   none-inside : Innermost t k S → frameAt S t (suc k) ≡ noFrame
   unfolding frameAt
@@ -83,28 +83,16 @@ module _ {l rest : List ℕ} {S : State} (held : Held l S rest) (t k : ℕ) (few
       part-set (part-set head 3 (at + 22) (word x) (omega arith) (omega arith)) 4 (at + 23) (word y) (omega arith) (omega arith) .is
       ∙ ap (splice l next) (callee-words b x y)
 
-  -- a frame is pushed: slots i and j are read between the writes, which are past them
-  pub frame-called : (b i j at : ℕ) → k < 15 → i < 16 → j < 16 → Innermost t k S → at ≡ 2058 + t * 306 + k * 19
-      → (let l₁ = set (set l (at + 19) b) (at + 21) 2 in let l₂ = set l₁ (at + 22) (getD l₁ (at + 3 + i) 0) in
-      Held (set (set (set l₂ (at + 23) (getD l₂ (at + 3 + j) 0)) (2056 + t * 306) (k + 2)) (2057 + t * 306) 0) (called t (callee b (slotAt (frameAt S t k .slots) i) (slotAt (frameAt S t k .slots) j)) S) rest)
+  -- a frame is pushed
+  pub frame-called : (b at wx wy : ℕ) (x y : Value) → wx ≡ word x → wy ≡ word y → k < 15 → Innermost t k S → at ≡ 2058 + t * 306 + k * 19
+      → Counted (set (set (set (set (set (set l (at + 19) b) (at + 21) 2) (at + 22) wx) (at + 23) wy) (2056 + t * 306) (k + 2)) (2057 + t * 306) 0) N (called t (callee b x y) S) rest
   unfolding called
-  frame-called b i j at h hi hj inner e =
-      let x : Value = slotAt (frameAt S t k .slots) i in
-      let y : Value = slotAt (frameAt S t k .slots) j in
-      let f : Frame = callee b x y in
-      let l₀ : List ℕ = set l (at + 19) b in
-      let l₁ : List ℕ = set l₀ (at + 21) 2 in
-      let l₂ : List ℕ = set l₁ (at + 22) (word x) in
-      let first : getD l₁ (at + 3 + i) 0 ≡ word x =
-      get-before l₀ (at + 21) (at + 3 + i) 2 0 (omega arith) ∙ get-before l (at + 19) (at + 3 + i) b 0 (omega arith) ∙ slot-word held t k i (at + 3 + i) few (omega arith) hi (omega arith) in
-      let second : getD l₂ (at + 3 + j) 0 ≡ word y =
-      get-before l₁ (at + 22) (at + 3 + j) (word x) 0 (omega arith) ∙ get-before l₀ (at + 21) (at + 3 + j) 2 0 (omega arith) ∙ get-before l (at + 19) (at + 3 + j) b 0 (omega arith)
-      ∙ slot-word held t k j (at + 3 + j) few (omega arith) hj (omega arith) in
-      rw (first, second, callee-written b at x y h inner e) (made-ready S t _ _ (inner .thread) few (frame-pushed held t k f few h inner))
+  frame-called b at wx wy x y first second h inner e =
+      rw (first, second, callee-written b at x y h inner e) (made-ready S t _ _ (inner .thread) few (frame-pushed held t k (callee b x y) few h inner))
 
   -- the innermost frame's words are zero again
   pub frame-left : (at : ℕ) → k < 16 → Innermost t k S → at ≡ 2058 + t * 306 + k * 19
-      → Held (set (set (paste l at (zeros 19) 19) (2056 + t * 306) k) (2057 + t * 306) 0) (left t S) rest
+      → Counted (set (set (paste l at (zeros 19) 19) (2056 + t * 306) k) (2057 + t * 306) 0) N (left t S) rest
   unfolding left
   frame-left at h inner e = rw (zero-frame l at, e) (made-ready S t _ _ (inner .thread) few (frame-dropped held t k few h inner))
 

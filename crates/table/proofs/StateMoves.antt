@@ -13,7 +13,7 @@ use Rattle.rules.specs.State.{Frame, ready, State, threadAt}
 use Rattle.rules.specs.Turn.{withSlots, filled}
 use Rattle.rules.specs.Tables.{word, frameWords}
 use Rattle.rules.proofs.ListLaws.{map-set, length-snoc, pad-snoc, set-pad}
-use Rattle.table.specs.StateTable.{Held, frameAt, onFrame, editFrame, HasFrame, HasRoom, HasSlot, given, cleared}
+use Rattle.table.specs.StateTable.{Counted, frameAt, onFrame, editFrame, HasFrame, HasRoom, HasSlot, given, cleared}
 use Rattle.table.proofs.StateTable.{splice, Part, part-get, part-set, frame-part, frame-put, sender-put}
 use Rattle.table.proofs.StateEdits.{length-put, edit-at, edit-then-sender}
 
@@ -52,19 +52,19 @@ frame-filled {l} {at} f here v n x count room small same =
 
 -- ---- A frame whose words begin at `at`
 
-module _ {l rest : List ℕ} {S : State} (held : Held l S rest) (t k at : ℕ) (ht : t < 16) (hk : k < 16) (e : at ≡ 2058 + t * 306 + k * 19) where
+module _ {l rest : List ℕ} {N : ℕ → ℕ} {S : State} (held : Counted l N S rest) (t k at : ℕ) (ht : t < 16) (hk : k < 16) (e : at ≡ 2058 + t * 306 + k * 19) where
   frame-here : Part l at 19 (frameWords (frameAt S t k)) l
   frame-here = rw e (frame-part held t k ht hk)
 
   frame-becomes : HasFrame t k S → (g : Frame → Frame) (m : List ℕ) → m ≡ splice l at (frameWords (g (frameAt S t k)))
-      → Held m (editFrame S t k g (threadAt S t .sender)) rest
+      → Counted m N (editFrame S t k g (threadAt S t .sender)) rest
   frame-becomes has g m written =
       rw (written, e, ← edit-at has g (threadAt S t .sender)) (frame-put held t k (g (frameAt S t k)) ht hk has)
 
   pub word-pushed : (v : Value) (x : ℕ) → x ≡ word v → HasRoom t k S
       → (let n = getD l (at + 2) 0 % 16 in
       let l₁ = set l (at + 3 + n) x in
-      Held (set (set (set l₁ (at + 1) (getD l₁ (at + 1) 0 % 32768 + 1)) (at + 2) (n + 1)) (2057 + t * 306) 0) (given t k v S) rest)
+      Counted (set (set (set l₁ (at + 1) (getD l₁ (at + 1) 0 % 32768 + 1)) (at + 2) (n + 1)) (2057 + t * 306) 0) N (given t k v S) rest)
   unfolding frameWords given editFrame
   word-pushed v x same room =
       let f = frameAt S t k in
@@ -76,7 +76,7 @@ module _ {l rest : List ℕ} {S : State} (held : Held l S rest) (t k at : ℕ) (
       let there : t < length (editFrame S t k g d .threads) = rw (length-put S t (onFrame k g (threadAt S t .frames)) d) (room .has .thread) in
       rw (edit-then-sender (room .has) g d ready) at (sender-put framed t ready ht there)
 
-  pub slot-cleared : (i : ℕ) → i < 16 → HasSlot t k i S → Held (set l (at + 3 + i) 0) (cleared t k i S) rest
+  pub slot-cleared : (i : ℕ) → i < 16 → HasSlot t k i S → Counted (set l (at + 3 + i) 0) N (cleared t k i S) rest
   unfolding cleared
   slot-cleared i h has =
       let f = frameAt S t k in

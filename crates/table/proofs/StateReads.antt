@@ -16,7 +16,7 @@ use Rattle.rules.specs.State.{Object, State, noObject, objectAt, channelAt, slo
 use Rattle.rules.specs.Tables.{capOf, word, unmade, objectWords, frameWords, channelWords}
 use Rattle.rules.proofs.ListLaws.{get-pad, get-there}
 use Rattle.rules.proofs.TableWords.{cap-of-rank}
-use Rattle.table.specs.StateTable.{valueOf, InTable, Held, Sees, Placed, frameAt, FieldIn}
+use Rattle.table.specs.StateTable.{valueOf, InTable, Counted, Sees, Placed, frameAt, FieldIn}
 use Rattle.table.specs.declared.state.Here.{Here}
 use Rattle.table.proofs.StateTable.{part-get, object-part, frame-part, channel-part}
 
@@ -58,7 +58,7 @@ object-fields os o =
 
 -- ---- Words
 
-module _ {l rest : List ℕ} {S : State} (held : Held l S rest) where
+module _ {l rest : List ℕ} {N : ℕ → ℕ} {S : State} (held : Counted l N S rest) where
   -- word j of a frame, of a channel, and of an object that is there
   pub frame-word : (t k j i : ℕ) → t < 16 → k < 16 → j < 19 → i ≡ 2058 + t * 306 + k * 19 + j → getD l i 0 ≡ getD (frameWords (frameAt S t k)) j 0
   frame-word t k j i h m lt place = part-get (frame-part held t k h m) j i place lt
@@ -66,8 +66,13 @@ module _ {l rest : List ℕ} {S : State} (held : Held l S rest) where
   pub channel-word : (c j i : ℕ) → c < 16 → j < 2 → i ≡ 6952 + c * 2 + j → getD l i 0 ≡ getD (channelWords (channelAt S c)) j 0
   channel-word c j i h lt place = part-get (channel-part held c h) j i place lt
 
-  pub object-word : (o j i : ℕ) → o < 256 → j < 8 → i ≡ 8 + o * 8 + j → o < length (S .objects) → getD l i 0 ≡ getD (objectWords (objectAt (S .objects) o)) j 0
-  object-word o j i h lt place there = part-get (object-part held o h) j i place lt ∙ ap (λ x. getD (objectWords x) j 0) (object-there (S .objects) o there)
+  pub object-word : (o j i : ℕ) → o < 256 → j < 8 → i ≡ 8 + o * 8 + j → o < length (S .objects) → getD l i 0 ≡ getD (objectWords (N o) (objectAt (S .objects) o)) j 0
+  object-word o j i h lt place there = part-get (object-part held o h) j i place lt ∙ ap (λ x. getD (objectWords (N o) x) j 0) (object-there (S .objects) o there)
+
+  -- the count of an object, whether it is there or not
+  pub count-word : (o i : ℕ) → o < 256 → i ≡ 11 + o * 8 → getD l i 0 ≡ N o
+  unfolding objectWords
+  count-word o i h place = part-get (object-part held o h) 3 i (omega arith) (omega arith)
 
   -- the word of a slot, of a field whether the object is there or not, and of a message
   pub slot-word : (t k s i : ℕ) → t < 16 → k < 16 → s < 16 → i ≡ 2058 + t * 306 + k * 19 + 3 + s → getD l i 0 ≡ word (slotAt (frameAt S t k .slots) s)

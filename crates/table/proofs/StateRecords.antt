@@ -1,65 +1,52 @@
 -- Fields, messages, objects and threads written word by word: each write falls into its record's part of the table, and the words that are left are those
 -- of the new record.
-use Prim.Native.Nat.{ℕ, _+_, _-_, _*_, _/_, _%_, _<_}
+use Prim.Native.Nat.{ℕ, _+_, _-_, _*_, _%_, _<_}
 use native.Mathlib.Numerals.{add-one}
 use native.Mathlib.Omega.{arith}
 use mathlib.Core.Path.{_≡_, refl, sym, ap, _∙_}
-use mathlib.Core.Bool.{cond}
 use mathlib.Core.List.{List, [], _∷_, map}
-use lib.Dec.{eqb, eqb·suc-zero}
 use lib.ListN.{length, getD, set, List·getD-eq-default}
 use Rattle.rules.specs.declared.Cap.{Cap}
 use Rattle.rules.specs.declared.Value.{Value}
 use Rattle.rules.specs.declared.Value.the-variants.{Absent}
 use Rattle.rules.specs.Mosts as Most
-use Rattle.rules.specs.Lists.{pad, cells, Every}
-use Rattle.rules.specs.Script.{Operand, reads, takes, rank}
-use Rattle.rules.specs.Reading.{slotOf}
-use Rattle.rules.specs.State.{Object, waiting, noThread, State, objectAt, channelAt, slotAt}
+use Rattle.rules.specs.Lists.{pad, cells}
+use Rattle.rules.specs.Script.{rank}
+use Rattle.rules.specs.State.{Object, waiting, noThread, State, objectAt, channelAt}
 use Rattle.rules.specs.Turn.{putChannel, setField, started}
-use Rattle.rules.specs.Tables.{operandWord, operandItem, word, unmade, objectWords, frameWords, outermostFirst, threadWords, channelWords}
-use Rattle.rules.proofs.ListLaws.{map-set, map-pad, set-past, set-pad}
+use Rattle.rules.specs.Tables.{word, unmade, objectWords, frameWords, outermostFirst, threadWords, channelWords}
+use Rattle.rules.proofs.ListLaws.{map-set, set-past, set-pad}
 use Rattle.rules.proofs.TableWords.{thread-words-length}
-use Rattle.table.specs.StateTable.{Held, Placed, frameAt, HasField, stored, made, channelled, Puts, sending, Next}
-use Rattle.table.specs.declared.state.Here.{Here}
+use Rattle.table.specs.StateTable.{Counted, HasField, stored, made, channelled, Puts, sending, Next}
 use Rattle.table.proofs.StateTable.{Part, part-set, held-by, held-length, object-part, channel-part, object-put, object-made, sender-put, channel-put, thread-started, no-thread-at}
-use Rattle.table.proofs.StateReads.{object-there, channel-word, slot-here}
+use Rattle.table.proofs.StateReads.{object-there, channel-word}
 
 -- ---- Words of records
 
 -- field j written among the words of its object
-field-in-object-words : (o : Object) (j : ℕ) (v : Value) → j < length (o .fields) → j < 4 → set (objectWords o) (4 + j) (word v) ≡ objectWords (setField o j v)
+field-in-object-words : (n : ℕ) (o : Object) (j : ℕ) (v : Value) → j < length (o .fields) → j < 4 → set (objectWords n o) (4 + j) (word v) ≡ objectWords n (setField o j v)
 unfolding objectWords setField
-field-in-object-words o j v there few =
-    set-past (rank (o .cap) ∷ o .kind ∷ o .creator ∷ 0 ∷ []) _ 4 j (word v) refl
-    ∙ ap (λ ws. rank (o .cap) ∷ o .kind ∷ o .creator ∷ 0 ∷ ws)
+field-in-object-words n o j v there few =
+    set-past (rank (o .cap) ∷ o .kind ∷ o .creator ∷ n ∷ []) _ 4 j (word v) refl
+    ∙ ap (λ ws. rank (o .cap) ∷ o .kind ∷ o .creator ∷ n ∷ ws)
     (sym (map-set word (pad Most.fields Absent (o .fields)) j v) ∙ ap (map word) (set-pad Most.fields Absent (o .fields) j v there few))
-
--- the word of an item of a new, whose frame's words begin at `at`
-abbrev itemWord : List ℕ → ℕ → ℕ → ℕ
-itemWord l at e = cond (eqb e 0) 0 (getD l (at + 3 + (e - 1) / 2 % 16) 0)
-
--- half of what is one less than an item is its slot
-item-slot : (w : Operand) → slotOf w < 16 → (operandItem w - 1) / 2 % 16 ≡ slotOf w
-item-slot (reads s) h = omega arith
-item-slot (takes s) h = omega arith
 
 -- ---- Fields and channels
 
-module _ {l rest : List ℕ} {S : State} (held : Held l S rest) where
-  pub field-stored : (o j x : ℕ) (v : Value) → o < 256 → j < 4 → x ≡ word v → HasField o j S → Held (set l (12 + o * 8 + j) x) (stored o j v S) rest
+module _ {l rest : List ℕ} {N : ℕ → ℕ} {S : State} (held : Counted l N S rest) where
+  pub field-stored : (o j x : ℕ) (v : Value) → o < 256 → j < 4 → x ≡ word v → HasField o j S → Counted (set l (12 + o * 8 + j) x) N (stored o j v S) rest
   unfolding stored
   field-stored o j x v o< j< x≡ has =
       let old = objectAt (S .objects) o in
-      let part : Part l (8 + o * 8) 8 (objectWords old) l = rw (object-there (S .objects) o (has .object)) at (object-part held o o<) in
-      held-by (part-set part (4 + j) (12 + o * 8 + j) x (omega arith) (omega arith) .is ∙ rw (x≡, field-in-object-words old j v (has .field) j<)) (object-put held o (setField old j v) o< (has .object))
+      let part : Part l (8 + o * 8) 8 (objectWords (N o) old) l = rw (object-there (S .objects) o (has .object)) at (object-part held o o<) in
+      held-by (part-set part (4 + j) (12 + o * 8 + j) x (omega arith) (omega arith) .is ∙ rw (x≡, field-in-object-words (N o) old j v (has .field) j<)) (object-put held o (setField old j v) o< (has .object))
 
-  pub channel-emptied : (c : ℕ) → c < 16 → c < length (S .channels) → Held (set l (6952 + c * 2) 0) (channelled c Absent (channelAt S c .number) S) rest
+  pub channel-emptied : (c : ℕ) → c < 16 → c < length (S .channels) → Counted (set l (6952 + c * 2) 0) N (channelled c Absent (channelAt S c .number) S) rest
   unfolding channelled channelWords
   channel-emptied c c< there = held-by (part-set (channel-part held c c<) 0 (6952 + c * 2) 0 (omega arith) (omega arith) .is) (channel-put held c _ c< there)
 
   channel-written : (c x n : ℕ) (v : Value) → c < 16 → c < length (S .channels) → x ≡ word v
-      → Held (set (set l (6952 + c * 2) x) (6953 + c * 2) n) (channelled c v n S) rest
+      → Counted (set (set l (6952 + c * 2) x) (6953 + c * 2) n) N (channelled c v n S) rest
   unfolding channelled channelWords
   channel-written c x n v c< there x≡ =
       let message = part-set (channel-part held c c<) 0 (6952 + c * 2) x (omega arith) (omega arith) in
@@ -69,7 +56,7 @@ module _ {l rest : List ℕ} {S : State} (held : Held l S rest) where
   pub message-put : (t c x : ℕ) (v : Value) → t < 16 → c < 16 → x ≡ word v → Puts t c S
       → (let n = getD l (6953 + c * 2) 0 % 32768 + 1 in
       let i = channelAt S c .number + 1 in
-      Held (set (set (set l (6952 + c * 2) x) (6953 + c * 2) n) (2057 + t * 306) (n + 1)) (sending t i (channelled c v i S)) rest)
+      Counted (set (set (set l (6952 + c * 2) x) (6953 + c * 2) n) (2057 + t * 306) (n + 1)) N (sending t i (channelled c v i S)) rest)
   unfolding sending channelled putChannel channelWords
   message-put t c x v t< c< x≡ puts =
       let i = channelAt S c .number + 1 in
@@ -78,36 +65,17 @@ module _ {l rest : List ℕ} {S : State} (held : Held l S rest) where
 
   -- ---- Objects and threads
 
-  -- the items' words are those of their slots' values
-  item-words : (h : Here) → Placed h → (ws : List Operand) → Every (λ w. slotOf w < Most.slots) ws
-      → map (itemWord l (h .frame)) (map operandItem ws) ≡ map word (map (λ w. slotAt (frameAt S (h .thread) (h .depth) .slots) (slotOf w)) ws)
-  item-words h placed [] low = refl
-  item-words h placed (w ∷ ws) low =
-      let first : itemWord l (h .frame) (operandItem w) ≡ word (slotAt (frameAt S (h .thread) (h .depth) .slots) (slotOf w)) =
-      rw (eqb·suc-zero (operandWord w)) (ap (λ i. getD l (h .frame + 3 + i) 0) (item-slot w (low .0)) ∙ slot-here held h placed (slotOf w) (low .0)) in
-      rw (first, item-words h placed ws (low .1))
-
-  -- the words of four items
-  pub item-fields : (h : Here) → Placed h → {wa wb wc wd : ℕ} (a b c d : ℕ) (ws : List Operand)
-      → wa ≡ itemWord l (h .frame) a → wb ≡ itemWord l (h .frame) b → wc ≡ itemWord l (h .frame) c → wd ≡ itemWord l (h .frame) d
-      → a ∷ b ∷ c ∷ d ∷ [] ≡ pad 4 0 (map operandItem ws) → Every (λ w. slotOf w < Most.slots) ws
-      → wa ∷ wb ∷ wc ∷ wd ∷ [] ≡ map word (pad 4 Absent (map (λ w. slotAt (frameAt S (h .thread) (h .depth) .slots) (slotOf w)) ws))
-  item-fields h placed a b c d ws wa≡ wb≡ wc≡ wd≡ items low =
-      let fields = map (λ w. slotAt (frameAt S (h .thread) (h .depth) .slots) (slotOf w)) ws in
-      rw (wa≡, wb≡, wc≡, wd≡)
-      (ap (map (itemWord l (h .frame))) items ∙ map-pad (itemWord l (h .frame)) 4 0 (map operandItem ws) ∙ ap (pad 4 0) (item-words h placed ws low) ∙ sym (map-pad word 4 Absent fields))
-
   -- object n, with these words as its fields
   pub object-added : (t n capWord kind a b c d : ℕ) (k : Cap) (fields : List Value) → n < 256 → capWord ≡ rank k
       → a ∷ b ∷ c ∷ d ∷ [] ≡ map word (pad 4 Absent fields) → n ≡ length (S .objects)
       → (let at = 8 + n * 8 in
       let new : Object = record { cap = k; kind = kind; creator = t; fields = fields } in
-      Held (set (set (set (set (set (set (set (set l at capWord) (at + 1) kind) (at + 2) t) (at + 4) a) (at + 5) b) (at + 6) c) (at + 7) d) 0 (n + 1)) (made new S) rest)
+      Counted (set (set (set (set (set (set (set (set l at capWord) (at + 1) kind) (at + 2) t) (at + 4) a) (at + 5) b) (at + 6) c) (at + 7) d) 0 (n + 1)) N (made new S) rest)
   unfolding made objectWords pad
   object-added t n capWord kind a b c d k fields n< cap≡ four next =
       let at : ℕ = 8 + n * 8 in
       let none : getD (S .objects) n unmade ≡ unmade = List·getD-eq-default (S .objects) unmade (omega arith) in
-      let empty : Part l at 8 (objectWords unmade) l = rw none at (object-part held n n<) in
+      let empty : Part l at 8 (objectWords (N n) unmade) l = rw none at (object-part held n n<) in
       let head = part-set (part-set (part-set empty 0 at capWord (omega arith) (omega arith)) 1 (at + 1) kind refl (omega arith)) 2 (at + 2) t refl (omega arith) in
       let half = part-set (part-set head 4 (at + 4) a refl (omega arith)) 5 (at + 5) b refl (omega arith) in
       let whole = part-set (part-set half 6 (at + 6) c refl (omega arith)) 7 (at + 7) d refl (omega arith) in
@@ -117,7 +85,7 @@ module _ {l rest : List ℕ} {S : State} (held : Held l S rest) where
 
   -- thread n, with one frame and its channel in slot 0
   pub thread-added : (n b : ℕ) → n < 16 → Next n S
-      → (let at = 2056 + n * 306 in Held (set (set (set (set (set l at 1) (at + 2) b) (at + 4) 1) (at + 5) (n + 257)) 1 (n + 1)) (started S b) rest)
+      → (let at = 2056 + n * 306 in Counted (set (set (set (set (set l at 1) (at + 2) b) (at + 4) 1) (at + 5) (n + 257)) 1 (n + 1)) N (started S b) rest)
   unfolding threadWords frameWords outermostFirst pad cells
   thread-added n b n< next =
       let at : ℕ = 2056 + n * 306 in

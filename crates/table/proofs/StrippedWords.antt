@@ -20,7 +20,7 @@ use Rattle.rules.specs.Stripped.{stripExpr, stripBlock, strip, eraseObject, era
 use Rattle.rules.specs.Tables.{lineWords, row, firstLines, editionWord, programWords, objectWords}
 use Rattle.rules.proofs.ListLaws.{by-bool, below}
 use Rattle.table.specs.ProgramTable.{lineTable, Filled, noForm}
-use Rattle.table.specs.StateTable.{Held, Becomes, Any}
+use Rattle.table.specs.StateTable.{Counted, Becomes, Any}
 use Rattle.table.specs.StrippedTables.{namesCap, stripForm, LineStripped, Strips, erasedAt}
 use Rattle.table.proofs.ProgramTable.{program-words-by-lines, line-word-is, past-lines, line-word-set}
 use Rattle.table.proofs.ProgramLines.{blocks-of-lines}
@@ -188,9 +188,9 @@ module _ {t t₁ : List ℕ} (all : StripsFirst 672 t t₁) where
 -- ---- Objects
 
 -- the capability is an object's first word
-first-word : (o : Object) → set (objectWords o) 0 3 ≡ objectWords (eraseObject o)
+first-word : (n : ℕ) (o : Object) → set (objectWords n o) 0 3 ≡ objectWords n (eraseObject o)
 unfolding objectWords eraseObject
-first-word o = refl
+first-word n o = refl
 
 -- past the last one there is none
 none-to-erase : (os : List Object) (n : ℕ) → length os ≤ n → set os n (eraseObject (objectAt os n)) ≡ os
@@ -199,23 +199,23 @@ none-to-erase os n past =
     let none : getD os n noObject ≡ noObject = List·getD-eq-default os noObject past in
     ap (λ (o : Object). set os n (eraseObject o)) none ∙ ap (set os n) (sym none) ∙ set-getD os n noObject
 
-module _ {l rest : List ℕ} {S : State} (held : Held l S rest) (o : ℕ) where
-  pub object-erased : (i : ℕ) → o < 256 → i ≡ 8 + o * 8 → o < length (S .objects) → Held (set l i 3) (erasedAt o S) rest
+module _ {l rest : List ℕ} {N : ℕ → ℕ} {S : State} (held : Counted l N S rest) (o : ℕ) where
+  pub object-erased : (i : ℕ) → o < 256 → i ≡ 8 + o * 8 → o < length (S .objects) → Counted (set l i 3) N (erasedAt o S) rest
   unfolding erasedAt
   object-erased i o< e there =
       let old : Object = objectAt (S .objects) o in
       let part = rw (object-there (S .objects) o there) at (object-part held o o<) in
-      held-by (part-set part 0 i 3 (omega arith) (omega arith) .is ∙ rw (first-word old)) (object-put held o (eraseObject old) o< there)
+      held-by (part-set part 0 i 3 (omega arith) (omega arith) .is ∙ rw (first-word (N o) old)) (object-put held o (eraseObject old) o< there)
 
-  pub object-kept : length (S .objects) ≤ o → Held l (erasedAt o S) rest
+  pub object-kept : length (S .objects) ≤ o → Counted l N (erasedAt o S) rest
   unfolding erasedAt putObjects
-  object-kept past = subst (λ (os : List Object). Held l (putObjects S os) rest) (sym (none-to-erase (S .objects) o past)) held
+  object-kept past = subst (λ (os : List Object). Counted l N (putObjects S os) rest) (sym (none-to-erase (S .objects) o past)) held
 
 -- ---- All objects
 
 -- the first n of them
 pub record ErasesFirst (n : ℕ) (s s₁ : List ℕ) : Type 0 where
-  pub erases : (S : State) (rest : List ℕ) → Held s S rest → Held s₁ (putObjects S (changed eraseObject n (S .objects))) rest
+  pub erases : {N : ℕ → ℕ} (S : State) (rest : List ℕ) → Counted s N S rest → Counted s₁ N (putObjects S (changed eraseObject n (S .objects))) rest
 
 pub none-erased : (s : List ℕ) → ErasesFirst 0 s s
 unfolding changed putObjects
@@ -224,14 +224,14 @@ none-erased s = record { erases = λ S rest held. held }
 pub one-object-more : {n : ℕ} {s s₁ s₂ : List ℕ} → ErasesFirst n s s₁ → Becomes s₁ Any (erasedAt n) s₂ → ErasesFirst (suc n) s s₂
 unfolding erasedAt putObjects objectAt
 one-object-more {n} {s₂ = s₂} first next = record {
-  erases = λ S rest held.
-      subst (λ (os : List Object). Held s₂ (putObjects S os) rest) (changed-next eraseObject n (S .objects) noObject)
+  erases = λ {N} S rest held.
+      subst (λ (os : List Object). Counted s₂ N (putObjects S os) rest) (changed-next eraseObject n (S .objects) noObject)
       (next .becomes (putObjects S (changed eraseObject n (S .objects))) rest (first .erases S rest held) tt);
 }
 
 pub all-erased : {s s₁ : List ℕ} → ErasesFirst 256 s s₁ → Becomes s (λ S. length (S .objects) ≤ mosts .objects) erase s₁
 unfolding erase putObjects
 all-erased {s₁ = s₁} all = record {
-  becomes = λ S rest held few.
-      subst (λ (os : List Object). Held s₁ (putObjects S os) rest) (changed-all eraseObject 256 (S .objects) few) (all .erases S rest held);
+  becomes = λ {N} S rest held few.
+      subst (λ (os : List Object). Counted s₁ N (putObjects S os) rest) (changed-all eraseObject 256 (S .objects) few) (all .erases S rest held);
 }

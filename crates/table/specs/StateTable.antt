@@ -11,11 +11,12 @@ use Rattle.rules.specs.declared.Value.the-variants.{Absent, Obj, Chan}
 use Rattle.rules.specs.Mosts as Most
 use Rattle.rules.specs.Mosts.{mosts}
 use Rattle.rules.specs.Lists.{pad, Every}
-use Rattle.rules.specs.Script.{Operand, line, Program, rank, linesOf, blockAt, lineAt}
-use Rattle.rules.specs.Reading.{slotOf}
+use Rattle.rules.specs.Script.{line, Program, rank, linesOf, blockAt, lineAt}
 use Rattle.rules.specs.State.{Object, Frame, Sender, ready, waiting, State, objectAt, threadAt, channelAt, slotAt, start}
 use Rattle.rules.specs.Turn.{putThread, putObjects, putChannel, setField, withSlots, filled}
-use Rattle.rules.specs.Tables.{operandItem, row, word, outermostFirst, noFrame, stateWords}
+use Rattle.rules.specs.Tables.{row, word, outermostFirst, noFrame, countedWords}
+use Rattle.rules.specs.Holders.{holders}
+use Rattle.rules.specs.Reach.{countOne}
 use Rattle.table.specs.ProgramTable.{freshTable, Filled}
 use Rattle.table.specs.declared.state.Here.{Here}
 
@@ -33,21 +34,25 @@ InTable (Chan c) = c < mosts .threads
 
 -- ---- The table
 
--- a table that holds the state; `rest` stands past its 8,192 words
-pub record Held (t : List ℕ) (S : State) (rest : List ℕ) : Type 0 where
-  pub words : t ≡ stateWords S ++ rest
+-- a table that holds the state, with N n as the holder count of object n; `rest` stands past its 8,192 words
+pub record Counted (t : List ℕ) (N : ℕ → ℕ) (S : State) (rest : List ℕ) : Type 0 where
+  pub words : t ≡ countedWords N S ++ rest
+
+-- the same with the state's own counts: t ≡ stateWords S ++ rest
+abbrev pub Held : List ℕ → State → List ℕ → Type 0
+Held t S rest = Counted t (holders S) S rest
 
 -- a fresh table becomes that of the start of every run
 pub record Starts (t t₁ : List ℕ) : Type 0 where
   pub starts : t ≡ freshTable → Held t₁ start []
 
--- what is read of a table that holds a state of which P holds
+-- what is read of a table that holds a state of which P holds, whatever its counts
 pub record Sees {A : Type 0} (t : List ℕ) (P : State → Type 0) (f : State → A) (r : A) : Type 0 where
-  pub sees : (S : State) (rest : List ℕ) → Held t S rest → P S → r ≡ f S
+  pub sees : {N : ℕ → ℕ} (S : State) (rest : List ℕ) → Counted t N S rest → P S → r ≡ f S
 
--- what a table that holds a state of which P holds becomes
+-- what a table that holds a state of which P holds becomes; its counts are kept
 pub record Becomes (t : List ℕ) (P : State → Type 0) (f : State → State) (t₁ : List ℕ) : Type 0 where
-  pub becomes : (S : State) (rest : List ℕ) → Held t S rest → P S → Held t₁ (f S) rest
+  pub becomes : {N : ℕ → ℕ} (S : State) (rest : List ℕ) → Counted t N S rest → P S → Counted t₁ N (f S) rest
 
 -- of any state
 abbrev pub Any : State → Type 0
@@ -163,24 +168,63 @@ pub record Next (n : ℕ) (S : State) : Type 0 where
   pub next : n ≡ length (S .threads)
   pub channels : length (S .channels) ≡ length (S .threads)
 
--- n is the next object: made of these words; of the operands' slots; of these values
+-- n is the next object: made of these words; of these values
 pub record MadeOf (t n cap kind : ℕ) (words : List ℕ) (e e₁ : List ℕ) : Type 0 where
   pub makes : (c : Cap) (vs : List Value) → cap ≡ rank c → words ≡ map word (pad Most.fields Absent vs)
       → Becomes e (λ S. n ≡ length (S .objects)) (made (record { cap = c; kind = kind; creator = t; fields = vs })) e₁
 
-pub record Makes (t k n cap kind : ℕ) (items : List ℕ) (e e₁ : List ℕ) : Type 0 where
-  pub makes : (c : Cap) (ws : List Operand) → cap ≡ rank c → items ≡ pad Most.operands 0 (map operandItem ws)
-      → Every (λ w. slotOf w < Most.slots) ws
-      → Becomes e (λ S. n ≡ length (S .objects)) (λ S. made (record { cap = c; kind = kind; creator = t; fields = map (λ w. slotAt (frameAt S t k .slots) (slotOf w)) ws }) S) e₁
-
-pub record Copies (t n cap kind : ℕ) (fields : List Value) (e e₁ : List ℕ) : Type 0 where
+pub record Makes (t n cap kind : ℕ) (fields : List Value) (e e₁ : List ℕ) : Type 0 where
   pub makes : (c : Cap) (vs : List Value) → cap ≡ rank c → fields ≡ pad Most.fields Absent vs
       → Becomes e (λ S. n ≡ length (S .objects)) (made (record { cap = c; kind = kind; creator = t; fields = vs })) e₁
+
+-- ---- Holder counts
+
+-- d is added to the count of a value, in words of 16 bits: it gets a holder more, or one less
+unfoldable pub recount : ℕ → Value → (ℕ → ℕ) → ℕ → ℕ
+recount d v N n = cond (eqb (countOne n v) 0) (N n) ((N n + d) % 65536)
+
+abbrev pub raised : Value → (ℕ → ℕ) → ℕ → ℕ
+raised v N = recount 1 v N
+
+abbrev pub lowered : Value → (ℕ → ℕ) → ℕ → ℕ
+lowered v N = recount 65535 v N
+
+unfoldable pub allRaised : List Value → (ℕ → ℕ) → ℕ → ℕ
+allRaised [] N = N
+allRaised (v ∷ vs) N = allRaised vs (raised v N)
+
+unfoldable pub allLowered : List Value → (ℕ → ℕ) → ℕ → ℕ
+allLowered [] N = N
+allLowered (v ∷ vs) N = allLowered vs (lowered v N)
+
+-- and on the words of any table
+unfoldable pub countedBy : ℕ → Value → List ℕ → List ℕ
+countedBy d Absent t = t
+countedBy d (Obj n) t = set t (11 + n * 8) ((getD t (11 + n * 8) 0 + d) % 65536)
+countedBy d (Chan c) t = t
+
+-- the state is kept, and its counts become these
+pub record Counts (g : (ℕ → ℕ) → ℕ → ℕ) (t t₁ : List ℕ) : Type 0 where
+  pub counts : {N : ℕ → ℕ} (S : State) (rest : List ℕ) → Counted t N S rest → Counted t₁ (g N) S rest
+
+-- the stored count of object n
+pub record Stores (t : List ℕ) (n r : ℕ) : Type 0 where
+  pub stores : {N : ℕ → ℕ} (S : State) (rest : List ℕ) → Counted t N S rest → r ≡ N n
+
+-- each value in the slots of frame k of thread t gets a holder less
+pub record Releases (t k : ℕ) (e e₁ : List ℕ) : Type 0 where
+  pub releases : {N : ℕ → ℕ} (S : State) (rest : List ℕ) → Counted e N S rest → length (frameAt S t k .slots) ≤ Most.slots
+      → Every InTable (frameAt S t k .slots) → Counted e₁ (allLowered (frameAt S t k .slots) N) S rest
+
+-- the same, and the frame, the innermost, ends
+pub record Drops (t k : ℕ) (e e₁ : List ℕ) : Type 0 where
+  pub drops : {N : ℕ → ℕ} (S : State) (rest : List ℕ) → Counted e N S rest → Innermost t k S → length (frameAt S t k .slots) ≤ Most.slots
+      → Every InTable (frameAt S t k .slots) → Counted e₁ (allLowered (frameAt S t k .slots) N) (left t S) rest
 
 -- ---- The line where a thread stands
 
 -- of any program and state that the tables hold: the innermost of d frames, and the place of its line
 pub record Stands (p s : List ℕ) (d : ℕ) (h : Here) : Type 0 where
-  pub depth : (S : State) (rest : List ℕ) → Held s S rest → length (threadAt S (h .thread) .frames) ≡ d → d ≤ Most.frames → d ≡ suc (h .depth)
-  pub row : (P : Program) (S : State) (counts rest₁ rest₂ : List ℕ) → Filled p counts (linesOf P) rest₁ → Held s S rest₂
+  pub depth : {N : ℕ → ℕ} (S : State) (rest : List ℕ) → Counted s N S rest → length (threadAt S (h .thread) .frames) ≡ d → d ≤ Most.frames → d ≡ suc (h .depth)
+  pub row : {N : ℕ → ℕ} (P : Program) (S : State) (counts rest₁ rest₂ : List ℕ) → Filled p counts (linesOf P) rest₁ → Counted s N S rest₂
       → (let f = frameAt S (h .thread) (h .depth) in f .block < length (P .blocks) → f .line ≤ length (blockAt P (f .block) .lets) → OnLine p P (f .block) (f .line) h)

@@ -1,18 +1,16 @@
-// The state table: counts, objects of eight words, threads of 306, channels of two. Values are packed and unpacked here alone; where a value
-// only moves from one place to another, its word is copied as it is.
+// The state table: counts, objects of eight words, threads of 306, channels of two. Values are packed and unpacked here alone. The writers keep
+// every object's holder count; `hold` and `release` alone change one, and `drop_frame` by them.
 use rules::Cap;
 use rules::Value;
 ghost use mathlib.Core.Path.{_≡_};
-ghost use mathlib.Core.Bool.{cond};
 ghost use mathlib.Core.List.{[], _∷_};
 ghost use Prim.Native.Nat.{_+_, _-_, _*_, _/_, _%_, _≤_, _<_};
-ghost use lib.Dec.{eqb};
 ghost use lib.ListN.{length, getD, set};
 ghost use Rattle.rules.specs.declared.Value.the-variants.{Absent};
 ghost use Rattle.rules.specs.State.{objectAt, threadAt, channelAt, slotAt};
 ghost use Rattle.rules.specs.Tables.{capOf, word, senderWord};
 ghost use Rattle.rules.specs.Turn.{started};
-ghost use Rattle.table.specs.StateTable.{valueOf, InTable, Starts, Sees, Becomes, Any, Placed, Stands, frameAt, given, cleared, HasRoom, HasSlot, FieldIn, HasField, stored, channelled, Puts, sending, Pushes, MadeOf, Makes, Copies, Next, Innermost, callee, called, left};
+ghost use Rattle.table.specs.StateTable.{valueOf, InTable, Starts, Sees, Becomes, Any, Placed, Stands, frameAt, given, cleared, HasRoom, HasSlot, FieldIn, HasField, stored, channelled, Puts, sending, Pushes, MadeOf, Makes, Next, Innermost, callee, called, left, raised, lowered, countedBy, Counts, Stores, Releases, Drops};
 
 // Where a thread stands: its number, its innermost frame's number from the outermost, and the places of that frame's words and of its line's.
 pub struct Here {
@@ -190,6 +188,49 @@ pub fn message_number(s: &[u16], c: u16) -> u16
     s[6953 + c as usize * 2] // after the message
 }
 
+// ---- Holder counts
+
+// How many places hold object o.
+pub fn holder_count(s: &[u16], o: u16) -> u16
+    requires { ⌜ (8192 ≤ length (now s)) × (o < 256) ⌝ }
+    ensures { λ r. ⌜ r ≡ getD (now (s .entry)) (11 + o * 8) 0 ⌝ }
+    ensures { λ r. ⌜ Stores (now (s .entry)) o r ⌝ }
+{
+    s[11 + o as usize * 8]
+}
+
+// The value gets a holder more.
+pub fn hold(s: &mut [u16], v: Value)
+    requires { ⌜ (8192 ≤ length (now s)) × InTable v ⌝ }
+    ensures { λ _. ⌜ now (s .exit) ≡ countedBy 1 v (now (s .entry)) ⌝ }
+    ensures { λ _. ⌜ Counts (raised v) (now (s .entry)) (now (s .exit)) ⌝ }
+{
+    match v {
+        Value::Absent => {}
+        Value::Chan(_) => {}
+        Value::Obj(n) => {
+            let at = 11 + n as usize * 8;
+            s[at] = std::num::wrapping_add_u16(s[at], 1);
+        }
+    }
+}
+
+// The value gets a holder less.
+pub fn release(s: &mut [u16], v: Value)
+    requires { ⌜ (8192 ≤ length (now s)) × InTable v ⌝ }
+    ensures { λ _. ⌜ now (s .exit) ≡ countedBy 65535 v (now (s .entry)) ⌝ }
+    ensures { λ _. ⌜ Counts (lowered v) (now (s .entry)) (now (s .exit)) ⌝ }
+{
+    match v {
+        Value::Absent => {}
+        Value::Chan(_) => {}
+        Value::Obj(n) => {
+            let at = 11 + n as usize * 8;
+            s[at] = std::num::wrapping_add_u16(s[at], 65535); // one less
+        }
+    }
+}
+
 // ---- Where a thread stands
 
 // Thread t with d frames, at its innermost one.
@@ -247,36 +288,6 @@ fn push_word(s: &mut [u16], t: usize, k: usize, at: usize, x: u16)
     s[2057 + t * 306] = 0;
 }
 
-// The let gives the value of slot i.
-pub fn give_slot(s: &mut [u16], h: Here, i: usize)
-    requires { ⌜ (8192 ≤ length (now s)) × Placed h × (i < 16) ⌝ }
-    ensures { λ _. ⌜ Becomes (now (s .entry)) (HasRoom (h .thread) (h .depth)) (λ S. given (h .thread) (h .depth) (slotAt (frameAt S (h .thread) (h .depth) .slots) i) S) (now (s .exit)) ⌝ }
-{
-    let at = h.frame;
-    let x = s[at + 3 + i]; // as it is
-    push_word(s, h.thread, h.depth, at, x);
-}
-
-// The let gives the value of field j of object o.
-pub fn give_field(s: &mut [u16], h: Here, o: u16, j: u16)
-    requires { ⌜ (8192 ≤ length (now s)) × Placed h × (o < 256) × (j < 4) ⌝ }
-    ensures { λ _. ⌜ Becomes (now (s .entry)) (λ S. HasRoom (h .thread) (h .depth) S × HasField o j S) (λ S. given (h .thread) (h .depth) (slotAt (objectAt (S .objects) o .fields) j) S) (now (s .exit)) ⌝ }
-{
-    let at = h.frame;
-    let x = s[12 + o as usize * 8 + j as usize];
-    push_word(s, h.thread, h.depth, at, x);
-}
-
-// The let gives the message of channel c.
-pub fn give_message(s: &mut [u16], h: Here, c: u16)
-    requires { ⌜ (8192 ≤ length (now s)) × Placed h × (c < 16) ⌝ }
-    ensures { λ _. ⌜ Becomes (now (s .entry)) (HasRoom (h .thread) (h .depth)) (λ S. given (h .thread) (h .depth) (channelAt S c .message) S) (now (s .exit)) ⌝ }
-{
-    let at = h.frame;
-    let x = s[6952 + c as usize * 2];
-    push_word(s, h.thread, h.depth, at, x);
-}
-
 // The let gives this value.
 pub fn give_value(s: &mut [u16], h: Here, v: Value)
     requires { ⌜ (8192 ≤ length (now s)) × Placed h × InTable v ⌝ }
@@ -287,13 +298,13 @@ pub fn give_value(s: &mut [u16], h: Here, v: Value)
     push_word(s, h.thread, h.depth, at, x);
 }
 
-// The caller's let gives the value of slot i.
-pub fn return_slot(s: &mut [u16], h: Here, i: usize)
-    requires { ⌜ (8192 ≤ length (now s)) × Placed h × (i < 16) × (1 ≤ h .depth) ⌝ }
-    ensures { λ _. ⌜ Becomes (now (s .entry)) (HasRoom (h .thread) (h .depth - 1)) (λ S. given (h .thread) (h .depth - 1) (slotAt (frameAt S (h .thread) (h .depth) .slots) i) S) (now (s .exit)) ⌝ }
+// The caller's let gives this value.
+pub fn return_value(s: &mut [u16], h: Here, v: Value)
+    requires { ⌜ (8192 ≤ length (now s)) × Placed h × (1 ≤ h .depth) × InTable v ⌝ }
+    ensures { λ _. ⌜ Becomes (now (s .entry)) (HasRoom (h .thread) (h .depth - 1)) (given (h .thread) (h .depth - 1) v) (now (s .exit)) ⌝ }
 {
     let at = h.frame;
-    let x = s[at + 3 + i]; // the callee's
+    let x = pack(v);
     push_word(s, h.thread, h.depth - 1, at - 19, x);
 }
 
@@ -307,25 +318,24 @@ pub fn clear_slot(s: &mut [u16], h: Here, i: usize)
     s[at + 3 + i] = 0;
 }
 
-// Field j of object o takes the value of slot i.
-pub fn store_field(s: &mut [u16], h: Here, o: u16, j: u16, i: usize)
-    requires { ⌜ (8192 ≤ length (now s)) × Placed h × (o < 256) × (j < 4) × (i < 16) ⌝ }
-    ensures { λ _. ⌜ now (s .exit) ≡ set (now (s .entry)) (12 + o * 8 + j) (getD (now (s .entry)) (h .frame + 3 + i) 0) ⌝ }
-    ensures { λ _. ⌜ Becomes (now (s .entry)) (HasField o j) (λ S. stored o j (slotAt (frameAt S (h .thread) (h .depth) .slots) i) S) (now (s .exit)) ⌝ }
+// Field j of object o takes this value.
+pub fn store_field(s: &mut [u16], o: u16, j: u16, v: Value)
+    requires { ⌜ (8192 ≤ length (now s)) × (o < 256) × (j < 4) × InTable v ⌝ }
+    ensures { λ _. ⌜ now (s .exit) ≡ set (now (s .entry)) (12 + o * 8 + j) (word v) ⌝ }
+    ensures { λ _. ⌜ Becomes (now (s .entry)) (HasField o j) (stored o j v) (now (s .exit)) ⌝ }
 {
-    let at = h.frame;
-    s[12 + o as usize * 8 + j as usize] = s[at + 3 + i];
+    s[12 + o as usize * 8 + j as usize] = pack(v);
 }
 
-// Channel c takes the value of slot i as its next message, and the thread waits as its sender.
-pub fn put_message(s: &mut [u16], h: Here, c: u16, i: usize)
-    requires { ⌜ (8192 ≤ length (now s)) × Placed h × (c < 16) × (i < 16) ⌝ }
-    ensures { λ _. ⌜ Becomes (now (s .entry)) (Puts (h .thread) c) (λ S. sending (h .thread) (channelAt S c .number + 1) (channelled c (slotAt (frameAt S (h .thread) (h .depth) .slots) i) (channelAt S c .number + 1) S)) (now (s .exit)) ⌝ }
+// Channel c takes this value as its next message, and the thread waits as its sender.
+pub fn put_message(s: &mut [u16], h: Here, c: u16, v: Value)
+    requires { ⌜ (8192 ≤ length (now s)) × Placed h × (c < 16) × InTable v ⌝ }
+    ensures { λ _. ⌜ Becomes (now (s .entry)) (Puts (h .thread) c) (λ S. sending (h .thread) (channelAt S c .number + 1) (channelled c v (channelAt S c .number + 1) S)) (now (s .exit)) ⌝ }
 {
-    let at = h.frame;
     let t = h.thread;
+    let x = pack(v);
     let n = s[6953 + c as usize * 2] % 32768 + 1;
-    s[6952 + c as usize * 2] = s[at + 3 + i];
+    s[6952 + c as usize * 2] = x;
     s[6953 + c as usize * 2] = n;
     s[2057 + t * 306] = n + 1;
 }
@@ -339,19 +349,7 @@ pub fn empty_channel(s: &mut [u16], c: u16)
     s[6952 + c as usize * 2] = 0;
 }
 
-// The word of an item of a new: that of its slot, or 0 where there is no item.
-fn item_word(s: &[u16], h: Here, e: u16) -> u16
-    requires { ⌜ (8192 ≤ length (now s)) × Placed h ⌝ }
-    ensures { λ r. ⌜ r ≡ cond (eqb e 0) 0 (getD (now (s .entry)) (h .frame + 3 + (e - 1) / 2 % 16) 0) ⌝ }
-{
-    if e == 0 {
-        return 0;
-    }
-    let at = h.frame;
-    s[at + 3 + (e - 1) as usize / 2 % 16]
-}
-
-// The words of object n, and the count.
+// The words of object n, but for its holder count, and the number of objects.
 fn put_object(
     s: &mut [u16],
     creator: u16,
@@ -377,30 +375,8 @@ fn put_object(
     s[0] = n + 1;
 }
 
-// Object n is made, with the values of the items' slots as its fields.
-pub fn add_object(
-    s: &mut [u16],
-    h: Here,
-    n: u16,
-    cap: u16,
-    kind: u16,
-    a: u16,
-    b: u16,
-    c: u16,
-    d: u16,
-)
-    requires { ⌜ (8192 ≤ length (now s)) × Placed h × (n < 256) ⌝ }
-    ensures { λ _. ⌜ Makes (h .thread) (h .depth) n cap kind (a ∷ b ∷ c ∷ d ∷ []) (now (s .entry)) (now (s .exit)) ⌝ }
-{
-    let wa = item_word(s, h, a);
-    let wb = item_word(s, h, b);
-    let wc = item_word(s, h, c);
-    let wd = item_word(s, h, d);
-    put_object(s, h.thread as u16, n, cap, kind, wa, wb, wc, wd);
-}
-
 // Object n is made, with these values as its fields: Absent for each that its kind does not have.
-pub fn add_copy(
+pub fn add_object(
     s: &mut [u16],
     creator: u16,
     n: u16,
@@ -412,7 +388,7 @@ pub fn add_copy(
     d: Value,
 )
     requires { ⌜ (8192 ≤ length (now s)) × (n < 256) × InTable a × InTable b × InTable c × InTable d ⌝ }
-    ensures { λ _. ⌜ Copies creator n cap kind (a ∷ b ∷ c ∷ d ∷ []) (now (s .entry)) (now (s .exit)) ⌝ }
+    ensures { λ _. ⌜ Makes creator n cap kind (a ∷ b ∷ c ∷ d ∷ []) (now (s .entry)) (now (s .exit)) ⌝ }
 {
     put_object(s, creator, n, cap, kind, pack(a), pack(b), pack(c), pack(d));
 }
@@ -430,23 +406,25 @@ pub fn start_thread(s: &mut [u16], n: u16, b: u16)
     s[1] = n + 1;
 }
 
-// A new frame inside, before the first line of block b, with the values of slots i and j.
-pub fn push_frame(s: &mut [u16], h: Here, b: u16, i: usize, j: usize)
-    requires { ⌜ (8192 ≤ length (now s)) × Placed h × (h .depth < 15) × (i < 16) × (j < 16) ⌝ }
-    ensures { λ _. ⌜ Becomes (now (s .entry)) (Innermost (h .thread) (h .depth)) (λ S. called (h .thread) (callee b (slotAt (frameAt S (h .thread) (h .depth) .slots) i) (slotAt (frameAt S (h .thread) (h .depth) .slots) j)) S) (now (s .exit)) ⌝ }
+// A new frame inside, before the first line of block b, with these values.
+pub fn push_frame(s: &mut [u16], h: Here, b: u16, target: Value, v: Value)
+    requires { ⌜ (8192 ≤ length (now s)) × Placed h × (h .depth < 15) × InTable target × InTable v ⌝ }
+    ensures { λ _. ⌜ Becomes (now (s .entry)) (Innermost (h .thread) (h .depth)) (called (h .thread) (callee b target v)) (now (s .exit)) ⌝ }
 {
     let at = h.frame;
     let t = h.thread;
+    let x = pack(target);
+    let y = pack(v);
     s[at + 19] = b;
     s[at + 21] = 2;
-    s[at + 22] = s[at + 3 + i];
-    s[at + 23] = s[at + 3 + j];
+    s[at + 22] = x;
+    s[at + 23] = y;
     s[2056 + t * 306] = h.depth as u16 + 2;
     s[2057 + t * 306] = 0;
 }
 
-// The innermost frame ends: its words are zero again.
-pub fn drop_frame(s: &mut [u16], h: Here)
+// The innermost frame's words are zero again.
+fn clear_frame(s: &mut [u16], h: Here)
     requires { ⌜ (8192 ≤ length (now s)) × Placed h ⌝ }
     ensures { λ _. ⌜ Becomes (now (s .entry)) (Innermost (h .thread) (h .depth)) (left (h .thread)) (now (s .exit)) ⌝ }
 {
@@ -459,6 +437,29 @@ pub fn drop_frame(s: &mut [u16], h: Here)
     }
     s[2056 + t * 306] = h.depth as u16;
     s[2057 + t * 306] = 0;
+}
+
+// Each value in the innermost frame's slots gets a holder less.
+fn release_slots(s: &mut [u16], h: Here)
+    requires { ⌜ (8192 ≤ length (now s)) × Placed h ⌝ }
+    ensures { λ _. ⌜ Releases (h .thread) (h .depth) (now (s .entry)) (now (s .exit)) ⌝ }
+{
+    let n = slot_count(s, h.thread, h.depth) as usize % 17;
+    let mut i: usize = 0;
+    while i < n {
+        let v = slot(s, h, i);
+        release(s, v);
+        i += 1;
+    }
+}
+
+// The innermost frame ends.
+pub fn drop_frame(s: &mut [u16], h: Here)
+    requires { ⌜ (8192 ≤ length (now s)) × Placed h ⌝ }
+    ensures { λ _. ⌜ Drops (h .thread) (h .depth) (now (s .entry)) (now (s .exit)) ⌝ }
+{
+    release_slots(s, h);
+    clear_frame(s, h);
 }
 
 // "no object, no channel, no move, and thread 0 alone, before the first line of block 0, its slot 0 absent", in words that are all 0.
