@@ -12,7 +12,7 @@ use Rattle.rules.specs.State.{State, objectAt, channelAt}
 use Rattle.rules.specs.Tables.{operandOf}
 use Rattle.rules.specs.Turn.{ok, _>>=_, _>>_, waitUnless, permit, isLocal, isAbsent, asObject, asChannel, object, recvLine, sentLine, putLine}
 use Rattle.table.specs.declared.state.Here.{Here}
-use Rattle.table.specs.StateTable.{InTable, Held, Sees, Any}
+use Rattle.table.specs.StateTable.{InTable, Counted, Sees, Any}
 use Rattle.table.proofs.Places.{message-in-table}
 use Rattle.checks.specs.declared.form_checks.Step.{Step}
 use Rattle.checks.specs.declared.form_checks.Step.the-variants.{Next, Waits, NoValue, WrongThing}
@@ -85,7 +85,7 @@ module _ (s : List ℕ) (c : ℕ) {v : Value} where
 
 module _ {s : List ℕ} (c : ℕ) {v : Value} {n : ℕ} {k : Cap} {b : Bool} (is : v ≡ Obj n) (cap : Sees s (λ S. n < length (S .objects)) (λ S. objectAt (S .objects) n .cap) k)
     (local : b ≡ isLocal k) where
-  local-is : (S : State) (rest : List ℕ) → Held s S rest → InObjects v S → isLocal (objectAt (S .objects) n .cap) ≡ b
+  local-is : {N : ℕ → ℕ} (S : State) (rest : List ℕ) → Counted s N S rest → InObjects v S → isLocal (objectAt (S .objects) n .cap) ≡ b
   local-is S rest held there = sym (local ∙ ap isLocal (cap .sees S rest held (subst (λ x. InObjects x S) is there)))
 
   pub put-forbidden : (a : Step) → resultOf a ≡ permit false false b → isPass a ≡ false → PutSeen s c v a

@@ -1,8 +1,8 @@
 -- A rule's result as a check: where its first part does not pass, the whole answers the same; an operand that passes gives its slot's value.
-use Prim.Native.Nat.{ℕ, zero, suc, _/_}
+use Prim.Native.Nat.{ℕ, _/_}
 use mathlib.Core.Path.{_≡_, refl, sym, ap, _∙_}
 use mathlib.Core.Bool.{true, false}
-use mathlib.Core.List.{List, [], _∷_}
+use mathlib.Core.List.{List}
 use lib.ListN.{set}
 use Rattle.rules.specs.declared.Value.{Value}
 use Rattle.rules.specs.declared.Value.the-variants.{Absent, Obj, Chan}
@@ -10,7 +10,7 @@ use Rattle.rules.specs.Script.{Operand, reads, takes}
 use Rattle.rules.specs.Reading.{slotOf}
 use Rattle.rules.specs.State.{Object, slotAt}
 use Rattle.rules.specs.Tables.{operandOf}
-use Rattle.rules.specs.Turn.{Res, ok, wait, stop, _>>=_, _>>_, check, permit, isAbsent, isIsoObject, present, operand, leftBy}
+use Rattle.rules.specs.Turn.{Res, ok, wait, stop, _>>=_, _>>_, check, permit, isIsoObject, present, operand, leftBy}
 use Rattle.rules.proofs.ListLaws.{impossible, by-bool}
 use Rattle.rules.proofs.TableWords.{slot-of-word}
 use Rattle.checks.specs.Checked.{outcomeOf, passed}
@@ -104,13 +104,3 @@ given os vs (takes s) passes e = taking-gives os (set vs s Absent) (slotAt vs s)
 pub operand-gives : (os : List Object) (vs : List Value) (w : ℕ) {k : Res (Unit {0})} → passed k ≡ true → k ≡ outcomeOf (operand os vs (operandOf w))
     → operand os vs (operandOf w) ≡ ok (slotAt vs (w / 2), leftBy vs (operandOf w))
 operand-gives os vs w passes e = given os vs (operandOf w) passes e ∙ ap (λ (i : ℕ). ok (slotAt vs i, leftBy vs (operandOf w))) (slot-of-word w)
-
--- what an operand leaves in a slot was there before
-pub left-was-there : {v : Value} (vs : List Value) (w : Operand) (i : ℕ) → isAbsent v ≡ false → slotAt (leftBy vs w) i ≡ v → slotAt vs i ≡ v
-unfolding slotAt isAbsent
-left-was-there vs (reads k) i there is = is
-left-was-there [] (takes k) i there is = is
-left-was-there (u ∷ us) (takes zero) zero there is = impossible cc
-left-was-there (u ∷ us) (takes zero) (suc i) there is = is
-left-was-there (u ∷ us) (takes (suc k)) zero there is = is
-left-was-there (u ∷ us) (takes (suc k)) (suc i) there is = left-was-there us (takes k) i there is

@@ -18,12 +18,13 @@ use Rattle.rules.specs.Turn as R
 use Rattle.rules.specs.Turn.{Res, ok, _>>=_, _>>_, check, permit, isAbsent, present, operand, operands, allObjects, objectsOf, object, newLine, leftBy}
 use Rattle.rules.proofs.ListLaws.{by-bool, every-map, every-image, every-mapped, map-pad}
 use Rattle.rules.proofs.TableWords.{half-of-word}
+use Rattle.rules.proofs.Moves.{left-was-there}
 use Rattle.table.specs.declared.state.Here.{Here}
 use Rattle.table.specs.StateTable.{InTable, Sees, frameAt}
 use Rattle.checks.specs.declared.form_checks.Step.{Step}
 use Rattle.checks.specs.Checked.{outcomeOf, passed, isPass, InObjects, hereAt, Stand, Named}
 use Rattle.checks.specs.NewItems.{holdAll, itemSlots, itemValue, AllInObjects, ChecksItems, ChecksHeld, ChecksNew}
-use Rattle.checks.proofs.CheckLaws.{stays, then-ok, then-gives, same-after, given, left-was-there, no-both}
+use Rattle.checks.proofs.CheckLaws.{stays, then-ok, then-gives, same-after, given, no-both}
 use Rattle.checks.proofs.Standing.{SlotSeen, frame-is, slots-few, slot-in-table, slot-in-objects}
 use Rattle.checks.proofs.ItemChecks.{items-named}
 use Rattle.checks.proofs.HeldChecks.{AllThere}
@@ -101,6 +102,15 @@ items-values : (vs : List Value) (ws : List Operand) → map (itemValue vs) (map
 items-values vs [] = refl
 items-values vs (w ∷ ws) = rw (half-of-word w, items-values vs ws) refl
 
+-- the values of four items are those of the operands' slots
+pub values-read : {s : List ℕ} {h : Here} {P : Program} {n : ℕ} {S : State} {f : Frame} {fs : List Frame} {rest : List ℕ} → Stand s h P n S f fs rest
+    → {a b c d : ℕ} {va vb vc vd : Value} → ItemSeen s h a va → ItemSeen s h b vb → ItemSeen s h c vc → ItemSeen s h d vd
+    → (ws : List Operand) → a ∷ b ∷ c ∷ d ∷ [] ≡ pad 4 0 (map operandItem ws) → Named (map slotOf ws) f → va ∷ vb ∷ vc ∷ vd ∷ [] ≡ pad 4 Absent (slotsOf (f .slots) ws)
+values-read {f = f} st {a} {b} {c} {d} seen-a seen-b seen-c seen-d ws is named =
+    let each = items-named f ws is named in
+    rw (item-read st a seen-a (each .0), item-read st b seen-b (each .1 .0), item-read st c seen-c (each .1 .1 .0), item-read st d seen-d (each .1 .1 .1 .0))
+    (ap (map (itemValue (f .slots))) is ∙ map-pad (itemValue (f .slots)) 4 0 (map operandItem ws) ∙ ap (pad 4 Absent) (items-values (f .slots) ws))
+
 -- ---- new
 
 -- past its operands it is the checks of its values, and then it cannot fail
@@ -119,16 +129,13 @@ module _ {s : List ℕ} {h : Here} (k : Cap) {a b c d : ℕ} {first : Step} (che
 
   pub new-of-values : {va vb vc vd : Value} {r : Step} → isPass first ≡ true → ItemSeen s h a va → ItemSeen s h b vb → ItemSeen s h c vc → ItemSeen s h d vd
       → ChecksHeld s (h .thread) k (va ∷ vb ∷ vc ∷ vd ∷ []) r → ChecksNew s h k (a ∷ b ∷ c ∷ d ∷ []) r
-  new-of-values {va} {vb} {vc} {vd} passes seen-a seen-b seen-c seen-d held =
+  new-of-values passes seen-a seen-b seen-c seen-d held =
       record {
         checks = λ ws is few kind. record {
           checks = λ P n S f fs rest st named.
               let gave = all-given (S .objects) (f .slots) ws passes (checked .checks ws is few .checks P n S f fs rest st named) in
               let us = slotsOf (f .slots) ws in
-              let each = items-named f ws is named in
-              let values : va ∷ vb ∷ vc ∷ vd ∷ [] ≡ pad 4 Absent us =
-              rw (item-read st a seen-a (each .0), item-read st b seen-b (each .1 .0), item-read st c seen-c (each .1 .1 .0), item-read st d seen-d (each .1 .1 .1 .0))
-              (ap (map (itemValue (f .slots))) is ∙ map-pad (itemValue (f .slots)) 4 0 (map operandItem ws) ∙ ap (pad 4 Absent) (items-values (f .slots) ws)) in
+              let values = values-read st seen-a seen-b seen-c seen-d ws is named in
               let made : AllInObjects us S = every-image (λ v. InObjects v S) _ ws (every-map (λ w filled. slot-in-objects st (slotOf w)) ws (every-mapped _ slotOf ws named)) in
               held .checks us values (omega (arith, few, length-map ws (λ w. slotAt (f .slots) (slotOf w)))) (gave .there) .sees S rest (st .held) made
               ∙ new-checks-values (hereAt S (h .thread) f fs) k kind ws us (gave .left) (gave .gives);

@@ -27,6 +27,9 @@ use Rattle.checks.proofs.Standing.{SlotSeen, TargetSeen, OperandChecked
 
 -- ---- An operand: its word w, its slot's value v
 
+pub seen-at-half : {s : List ℕ} (h : Here) {r : ℕ} {v : Value} (w : ℕ) → r ≡ w / 2 % 16 → SlotSeen s h r v → SlotSeen s h (w / 2 % 16) v
+seen-at-half {s = s} h {v = v} w place slot = subst (λ i. SlotSeen s h i v) place slot
+
 module _ {s : List ℕ} {h : Here} {r : ℕ} {v : Value} (w : ℕ) (place : r ≡ w / 2 % 16) (slot : SlotSeen s h r v) where
   pub operand-absent : v ≡ Absent → OperandChecked s h w NoValue
   unfolding operand present _>>=_

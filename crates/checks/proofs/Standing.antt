@@ -17,13 +17,14 @@ use Rattle.rules.specs.Turn.{ok, isAbsent, operand, leftBy}
 use Rattle.rules.specs.Fits.{InRange, IsObject, Fits}
 use Rattle.rules.proofs.ListLaws.{every-map, every-get}
 use Rattle.rules.proofs.Keeps.{HereFits, here-fits, is-object-more, object-in-range, slot-range, object-fits, channel-fits}
+use Rattle.rules.proofs.Moves.{left-was-there}
 use Rattle.table.specs.declared.state.Here.{Here}
 use Rattle.table.specs.StateTable.{InTable, Sees, FieldIn, frameAt}
 use Rattle.table.proofs.StateEdits.{innermost-frame}
 use Rattle.table.proofs.Places.{in-table, has-place, message-in-table}
 use Rattle.checks.specs.declared.form_checks.Step.{Step}
 use Rattle.checks.specs.Checked.{isPass, Fielded, InObjects, hereAt, Stand, Checks}
-use Rattle.checks.proofs.CheckLaws.{operand-gives, left-was-there}
+use Rattle.checks.proofs.CheckLaws.{operand-gives}
 
 -- ---- What is learned of the table
 

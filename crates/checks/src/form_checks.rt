@@ -181,12 +181,21 @@ pub fn permission_check(foreign: bool, alias: bool, other: bool) -> Step
 
 // ---- Operands
 
+// The value of the operand's slot: what it gives, where its check passes.
+pub fn operand(s: &[u16], h: Here, w: u16) -> Value
+    requires { ⌜ (8192 ≤ length (now s)) × Placed h ⌝ }
+    ensures { λ r. ⌜ InTable r ⌝ }
+    ensures { λ r. ⌜ Sees (now (s .entry)) (λ S. InTable (slotAt (frameAt S (h .thread) (h .depth) .slots) (w / 2 % 16))) (λ S. slotAt (frameAt S (h .thread) (h .depth) .slots) (w / 2 % 16)) r ⌝ }
+{
+    table::slot(s, h, slot_of(w))
+}
+
 // "operand: absent 10; a read of an iso object 19."
 pub fn operand_check(s: &[u16], h: Here, w: u16) -> Step
     requires { ⌜ (8192 ≤ length (now s)) × Placed h ⌝ }
     ensures { λ r. ⌜ Checks (now (s .entry)) h (w / 2 ∷ []) (λ P H. operand (H .state .objects) (H .frame .slots) (operandOf w)) r ⌝ }
 {
-    let v = table::slot(s, h, slot_of(w));
+    let v = operand(s, h, w);
     match v {
         Value::Absent => Step::NoValue,
         Value::Chan(_) => Step::Next,
@@ -222,7 +231,7 @@ pub fn cast_check(s: &[u16], h: Here, k: Cap, w: u16) -> Step
     if !passes(first) {
         return first;
     }
-    let v = table::slot(s, h, slot_of(w));
+    let v = operand(s, h, w);
     match v {
         Value::Absent => Step::NoValue,
         Value::Chan(_) => Step::WrongThing,
@@ -377,7 +386,7 @@ pub fn put_check(s: &[u16], h: Here, i: u16, w: u16) -> Step
     if !passes(k) {
         return k;
     }
-    let v = table::slot(s, h, slot_of(w)); // what is sent
+    let v = operand(s, h, w); // what is sent
     let x = seen(s, h, i, w);
     match x {
         Value::Absent => Step::NoValue,

@@ -1,10 +1,10 @@
 // The checks of new. Its operands are items, each one more than an operand's word, 0 where there is none.
 use super::form_checks::Step;
 use super::form_checks::is_foreign;
+use super::form_checks::operand;
 use super::form_checks::operand_check;
 use super::form_checks::passes;
 use super::form_checks::permission_check;
-use super::form_checks::slot_of;
 use rules::Cap;
 use rules::Value;
 use table::Here;
@@ -17,7 +17,7 @@ ghost use Rattle.rules.specs.Lists.{any, Every};
 ghost use Rattle.rules.specs.State.{slotAt};
 ghost use Rattle.table.specs.StateTable.{InTable, Sees, Placed, frameAt};
 ghost use Rattle.checks.specs.Checked.{InObjects, Checks};
-ghost use Rattle.checks.specs.NewItems.{leftByItem, itemSlots, itemOperand, itemValue, takesSlot, foreignTo, above, isChannel, AllInObjects, ChecksItems, ChecksHeld, ChecksNew};
+ghost use Rattle.checks.specs.NewItems.{leftByItem, itemSlots, itemOperand, itemValue, takesSlot, foreignTo, above, isChannel, AllInObjects, ChecksItems, ChecksHeld};
 
 // Whether item a takes the slot of item e.
 fn takes_slot(a: u16, e: u16) -> bool
@@ -50,7 +50,7 @@ fn item_check(s: &[u16], h: Here, a: u16, b: u16, c: u16, e: u16) -> Step
 }
 
 // "All operands come first, left to right, each seeing what the earlier ones took."
-fn items_check(s: &[u16], h: Here, a: u16, b: u16, c: u16, d: u16) -> Step
+pub fn items_check(s: &[u16], h: Here, a: u16, b: u16, c: u16, d: u16) -> Step
     requires { ⌜ (8192 ≤ length (now s)) × Placed h ⌝ }
     ensures { λ r. ⌜ ChecksItems (now (s .entry)) h (a ∷ b ∷ c ∷ d ∷ []) r ⌝ }
 {
@@ -70,7 +70,7 @@ fn items_check(s: &[u16], h: Here, a: u16, b: u16, c: u16, d: u16) -> Step
 }
 
 // The value of an item's slot; absent where there is no item.
-fn item_value(s: &[u16], h: Here, e: u16) -> Value
+pub fn item_value(s: &[u16], h: Here, e: u16) -> Value
     requires { ⌜ (8192 ≤ length (now s)) × Placed h ⌝ }
     ensures { λ r. ⌜ InTable r ⌝ }
     ensures { λ r. ⌜ Sees (now (s .entry)) (λ S. Every (λ i. (i < 16) × InTable (slotAt (frameAt S (h .thread) (h .depth) .slots) i)) (itemSlots e)) (λ S. itemValue (frameAt S (h .thread) (h .depth) .slots) e) r ⌝ }
@@ -78,7 +78,7 @@ fn item_value(s: &[u16], h: Here, e: u16) -> Value
     if e == 0 {
         return Value::Absent;
     }
-    table::slot(s, h, slot_of(e - 1))
+    operand(s, h, e - 1)
 }
 
 fn is_channel(v: Value) -> bool
@@ -161,7 +161,7 @@ fn any_above(s: &[u16], k: Cap, a: Value, b: Value, c: Value, d: Value) -> bool
 }
 
 // "any value a channel 13; any value above K, .. 14", or 20 for "new's value that is local with another creator"; "objects used up 16".
-fn hold_check(s: &[u16], t: usize, k: Cap, a: Value, b: Value, c: Value, d: Value) -> Step
+pub fn hold_check(s: &[u16], t: usize, k: Cap, a: Value, b: Value, c: Value, d: Value) -> Step
     requires { ⌜ (8192 ≤ length (now s)) × InTable a × InTable b × InTable c × InTable d ⌝ }
     ensures { λ r. ⌜ ChecksHeld (now (s .entry)) t k (a ∷ b ∷ c ∷ d ∷ []) r ⌝ }
 {
@@ -178,24 +178,4 @@ fn hold_check(s: &[u16], t: usize, k: Cap, a: Value, b: Value, c: Value, d: Valu
         return Step::Next;
     }
     Step::UsedUp
-}
-
-// The operands of a new, then the values that they give.
-pub fn new_check(s: &[u16], h: Here, k: Cap, a: u16, b: u16, c: u16, d: u16) -> Step
-    requires { ⌜ (8192 ≤ length (now s)) × Placed h ⌝ }
-    ensures { λ r. ⌜ ChecksNew (now (s .entry)) h k (a ∷ b ∷ c ∷ d ∷ []) r ⌝ }
-{
-    let first = items_check(s, h, a, b, c, d);
-    if !passes(first) {
-        return first;
-    }
-    hold_check(
-        s,
-        h.thread,
-        k,
-        item_value(s, h, a),
-        item_value(s, h, b),
-        item_value(s, h, c),
-        item_value(s, h, d),
-    )
 }

@@ -1,4 +1,5 @@
--- The lines call and give: a frame is pushed, then the operand's slot in its caller is left; the caller is given the slot's value, then the frame ends.
+-- The lines call and give: a frame is pushed, which holds its target, then the operand's slot in its caller is left; the caller is given the operand's
+-- value, then the frame ends and lets go of its slots' values.
 use Prim.Native.Nat.{ℕ, suc, _-_, _/_, _%_, _<_}
 use native.Mathlib.Omega.{arith}
 use mathlib.Core.Path.{_≡_, refl, sym, ap, _∙_, subst}
@@ -10,26 +11,33 @@ use Rattle.rules.specs.declared.Value.{Value}
 use Rattle.rules.specs.declared.Value.the-variants.{Obj}
 use Rattle.rules.specs.Mosts as Most
 use Rattle.rules.specs.Mosts.{mosts}
+use Rattle.rules.specs.Lists.{Every}
+use Rattle.rules.specs.Holders.{holders}
+use Rattle.rules.specs.HolderChanges.{operandGained, returnGained, letGained, lineGained, lineLost}
+use Rattle.rules.specs.Reading.{slotOf}
 use Rattle.rules.specs.Script.{Operand, Program, call, bind, give, kindAt}
 use Rattle.rules.specs.State.{Frame, Sender, ready, Thread, State, objectAt, threadAt, slotAt}
 use Rattle.rules.specs.Tables.{operandOf, outermostFirst, noFrame}
 use Rattle.rules.specs.Turn.{leftBy, object, putThread, filled, withSlots, isAbsent, giveLine, letLine, perform}
-use Rattle.rules.proofs.ListLaws.{get-there}
-use Rattle.rules.proofs.Moves.{MethodCalled, Step, by-call, by-return, by-finish}
+use Rattle.rules.proofs.ListLaws.{get-there, every-map}
+use Rattle.rules.proofs.Moves.{left-was-there, MethodCalled, Step, by-call, by-return, by-finish}
 use Rattle.rules.proofs.Keeps.{block-ok}
-use Rattle.rules.proofs.TableWords.{length-outermost, slot-of-word}
+use Rattle.rules.proofs.TableWords.{length-outermost}
 use Rattle.table.specs.declared.state.Here.{Here}
-use Rattle.table.specs.StateTable.{Held, Becomes, frameAt, onFrame, editFrame, HasFrame, HasRoom, HasSlot, Innermost, given, callee, called, left}
+use Rattle.table.specs.StateTable.{InTable, Counted, Becomes, frameAt, onFrame, editFrame, HasFrame, HasRoom, HasSlot, Innermost, given, callee, called, left, raised, allRaised, allLowered, Counts, Drops}
 use Rattle.table.proofs.StateEdits.{thread-put, put-put}
+use Rattle.table.proofs.Places.{has-place}
 use Rattle.checks.specs.Checked.{hereAt, Stand, MethodItem}
-use Rattle.checks.proofs.CheckLaws.{numberOf, then-gives, left-was-there}
+use Rattle.checks.proofs.CheckLaws.{numberOf, then-gives}
 use Rattle.checks.proofs.CallChecks.{ChecksCall}
-use Rattle.checks.proofs.Standing.{TargetSeen, fits-here, slots-few, OperandChecked, slot-found, target-read, slot-object, kind-is-there}
+use Rattle.checks.proofs.Standing.{SlotSeen, TargetSeen, fits-here, slots-few, OperandChecked, target-read, slot-object, kind-is-there}
 use Rattle.checks.specs.declared.form_checks.Step as C
 use Rattle.checks.specs.declared.form_checks.Step.the-variants.{Turned}
-use Rattle.turn.specs.Performed.{emptied, Went, to-other, Always, Loaded}
+use Rattle.turn.specs.Performed.{emptied, Leaves, Went, to-other, Always, Loaded}
+use Rattle.turn.proofs.Settled.{Written, written, only-gained}
+use Rattle.turn.proofs.SlotLines.{operand-kept, operand-gave}
 use Rattle.turn.proofs.TurnSteps.{Answers, Writes, word-names, let-names, give-names}
-use Rattle.turn.proofs.Frames.{Inside, inside, inside-put, innermost, left-inside}
+use Rattle.turn.proofs.Frames.{Inside, inside, frame-inside, inside-put, innermost, left-inside}
 
 -- ---- The frame that called the innermost one
 
@@ -63,19 +71,30 @@ pub give-answers : {s : List ℕ} {h : Here} {k : C.Step} (w : ℕ) → OperandC
 unfolding perform giveLine
 give-answers w first = record { answers = λ P n S f fs rest q st at-line. first .checks P n S f fs rest st (word-names st w (give-names st at-line), tt) ∙ sym (then-gives _ _) }
 
+-- the values of a frame's slots have places in the table
+slots-in-table : {s : List ℕ} {h : Here} {P : Program} {n : ℕ} {S : State} {f : Frame} {fs : List Frame} {rest : List ℕ} → Stand s h P n S f fs rest → Every InTable (f .slots)
+slots-in-table {f = f} st = every-map (has-place (st .fits)) (f .slots) (fits-here st .frame .slots)
+
 -- from the outermost frame: it ends
-module _ {s s₁ : List ℕ} {h : Here} {w : Operand} (outermost : h .depth ≡ 0) (drops : Becomes s (Innermost (h .thread) (h .depth)) (left (h .thread)) s₁) where
+module _ {s s₁ : List ℕ} {h : Here} {w : Operand} (outermost : h .depth ≡ 0) (drops : Drops (h .thread) (h .depth) s s₁) where
   finish-moved : {P : Program} {n : ℕ} {S : State} {f : Frame} {fs : List Frame} {rest : List ℕ} → Stand s h P n S f fs rest → (S₁ : State)
-      → Step mosts P (hereAt S (h .thread) f fs) (give w) S₁ → Held s₁ S₁ rest × Went (h .thread) f fs S₁ Turned
-  finish-moved {S = S} {rest = rest} st S₁ (by-finish u v vs gave none) =
+      → Step mosts P (hereAt S (h .thread) f fs) (give w) S₁ → Written s₁ S (returnGained fs (slotAt (f .slots) (slotOf w))) (f .slots) S₁ rest × Went (h .thread) f fs S₁ Turned
+  unfolding allRaised
+  finish-moved {S = S} {f = f} {fs = fs} {rest = rest} st S₁ (by-finish u v vs gave none) =
       let here = inside st in
-      let ended = drops .becomes S rest (st .held) (innermost here) in
-      (subst (λ (R : State). Held s₁ R rest) (left-inside here ∙ ap (λ (gs : List Frame). putThread S (h .thread) gs ready) none) ended, to-other)
+      let t = h .thread in
+      let ended : Counted s₁ (allLowered (f .slots) (holders S)) (left t S) rest =
+      rw (frame-inside here) at (drops .drops S rest (st .held) (innermost here) (rw (frame-inside here) (slots-few st)) (rw (frame-inside here) (slots-in-table st))) in
+      let gone : Counted s₁ (allLowered (f .slots) (holders S)) (putThread S t [] ready) rest =
+      subst (λ (R : State). Counted s₁ (allLowered (f .slots) (holders S)) R rest) (left-inside here ∙ ap (λ (gs : List Frame). putThread S t gs ready) none) ended in
+      let nothing : returnGained fs (slotAt (f .slots) (slotOf w)) ≡ [] = ap (λ (gs : List Frame). returnGained gs (slotAt (f .slots) (slotOf w))) none in
+      (rw nothing (written [] (f .slots) gone), to-other)
   finish-moved {fs = fs} st S₁ (by-return u v vs c cs gave callers) =
       let some : length fs ≡ suc (length cs) = ap length callers in
       absurd (omega (arith, some, st .depth, outermost))
 
   pub finish-writes : Writes Always s h (give w) Turned s₁
+  unfolding lineGained lineLost
   finish-writes = record { writes = λ P n S f fs rest q st few at-line S₁ step. finish-moved st S₁ step }
 
 -- a caller has room for what it is given
@@ -95,35 +114,41 @@ given-then-left {t} {k} {f} {c} {cs} {S} in-call v =
     rw (edit-caller in-call (λ c. filled c (c .slots) v) ready)
     (left-inside (inside-put S ready (in-call .thread) refl) ∙ put-put S t (f ∷ g ∷ cs) (g ∷ cs) ready ready)
 
--- to a caller: the value of slot i is given to it, then the frame ends
-module _ {s s₁ s₂ : List ℕ} {h : Here} {i : ℕ} (w : ℕ) (inner : h .depth ≡ 0 → ⊥) (place : i ≡ w / 2 % 16)
-    (returns : Becomes s (HasRoom (h .thread) (h .depth - 1)) (λ S. given (h .thread) (h .depth - 1) (slotAt (frameAt S (h .thread) (h .depth) .slots) i) S) s₁)
-    (drops : Becomes s₁ (Innermost (h .thread) (h .depth)) (left (h .thread)) s₂) where
-  value-returned : {P : Program} {n : ℕ} {S : State} {f c : Frame} {cs : List Frame} {rest : List ℕ} → Stand s h P n S f (c ∷ cs) rest → w / 2 < length (f .slots)
-      → Held s₂ (putThread S (h .thread) (filled c (c .slots) (slotAt (f .slots) (w / 2)) ∷ cs) ready) rest
-  unfolding given
-  value-returned {S = S} {f = f} {c = c} {cs = cs} {rest = rest} st there =
+-- to a caller: the operand's value is given to it and held there, then the frame ends
+module _ {s s₁ s₂ s₃ : List ℕ} {h : Here} {v : Value} (w : ℕ) (inner : h .depth ≡ 0 → ⊥) (read : SlotSeen s h (w / 2 % 16) v)
+    (returns : Becomes s (HasRoom (h .thread) (h .depth - 1)) (given (h .thread) (h .depth - 1) v) s₁)
+    (holds : Counts (raised v) s₁ s₂) (drops : Drops (h .thread) (h .depth) s₂ s₃) where
+  value-returned : {P : Program} {n : ℕ} {S : State} {f c : Frame} {cs : List Frame} {rest : List ℕ} → Stand s h P n S f (c ∷ cs) rest
+      → Written s₃ S (v ∷ []) (f .slots) (putThread S (h .thread) (filled c (c .slots) v ∷ cs) ready) rest
+  unfolding given allRaised
+  value-returned {S = S} {f = f} {c = c} {cs = cs} {rest = rest} st =
       let t = h .thread in
       let k = h .depth - 1 in
-      let v = slotAt (f .slots) (w / 2) in
       let here = inside st in
       let in-call : Inside t (suc k) f (c ∷ cs) S = record { thread = here .thread; frames = here .frames; depth = omega (arith, st .depth) } in
       let room : HasRoom t k S = record { has = has-caller in-call; room = rw (caller-frame in-call) (caller-room st .0); line = rw (caller-frame in-call) (caller-room st .1) } in
-      let first : Held s₁ (given t k v S) rest = subst (λ (u : Value). Held s₁ (given t k u S) rest) (slot-found st (w / 2) i place there) (returns .becomes S rest (st .held) room) in
+      let first = holds .counts (given t k v S) rest (returns .becomes S rest (st .held) room) in
       let now-in : Inside t (h .depth) f (filled c (c .slots) v ∷ cs) (given t k v S) =
       rw (edit-caller in-call (λ c. filled c (c .slots) v) ready) (inside-put S ready (here .thread) (st .depth)) in
-      subst (λ (R : State). Held s₂ R rest) (given-then-left in-call v) (drops .becomes (given t k v S) rest first (innermost now-in))
+      let ended : Counted s₃ (allLowered (f .slots) (raised v (holders S))) (left t (given t k v S)) rest =
+      rw (frame-inside now-in) at (drops .drops (given t k v S) rest first (innermost now-in) (rw (frame-inside now-in) (slots-few st)) (rw (frame-inside now-in) (slots-in-table st))) in
+      written (v ∷ []) (f .slots) (subst (λ (R : State). Counted s₃ (allLowered (f .slots) (raised v (holders S))) R rest) (given-then-left in-call v) ended)
 
   return-moved : {P : Program} {n : ℕ} {S : State} {f : Frame} {fs : List Frame} {rest : List ℕ} → Stand s h P n S f fs rest → w / 2 < length (f .slots) → (S₁ : State)
-      → Step mosts P (hereAt S (h .thread) f fs) (give (operandOf w)) S₁ → Held s₂ S₁ rest × Went (h .thread) f fs S₁ Turned
-  return-moved {fs = fs} st there S₁ (by-finish u v vs gave none) =
+      → Step mosts P (hereAt S (h .thread) f fs) (give (operandOf w)) S₁
+      → Written s₃ S (returnGained fs (slotAt (f .slots) (slotOf (operandOf w)))) (f .slots) S₁ rest × Went (h .thread) f fs S₁ Turned
+  return-moved {fs = fs} st there S₁ (by-finish u x vs gave none) =
       let empty : length fs ≡ 0 = ap length none in
       absurd (inner (omega (arith, empty, st .depth)))
-  return-moved {P} {n} {S} {f} {fs} {rest} st there S₁ (by-return u v vs c cs gave callers) =
-      let is-value : slotAt (f .slots) (w / 2) ≡ v = ap (slotAt (f .slots)) (sym (slot-of-word w)) ∙ gave .value in
-      (rw (← is-value) (value-returned (subst (λ (gs : List Frame). Stand s h P n S f gs rest) callers st) there), to-other)
+  return-moved {P} {n} {S} {f} {fs} {rest} st there S₁ (by-return u x vs c cs gave callers) =
+      let is-value : x ≡ v = operand-gave st w read there gave in
+      let done = value-returned (subst (λ (gs : List Frame). Stand s h P n S f gs rest) callers st) in
+      let gains : returnGained fs (slotAt (f .slots) (slotOf (operandOf w))) ≡ v ∷ [] =
+      ap (λ (gs : List Frame). returnGained gs (slotAt (f .slots) (slotOf (operandOf w)))) callers ∙ ap (_∷ []) (gave .value ∙ is-value) in
+      (rw (gains, is-value) done, to-other)
 
-  pub return-writes : Writes Always s h (give (operandOf w)) Turned s₂
+  pub return-writes : Writes Always s h (give (operandOf w)) Turned s₃
+  unfolding lineGained lineLost
   return-writes = record { writes = λ P n S f fs rest q st few at-line S₁ step. return-moved st (word-names st w (give-names st at-line)) S₁ step }
 
 -- ---- call: the operand's word w, the target in slot i, method j
@@ -175,33 +200,37 @@ module _ {p s : List ℕ} {h : Here} {o m : ℕ} {a : Value} (i j w : ℕ) (targ
         is .is P S (loaded .counts) (loaded .rest) rest (loaded .filled) (st .held) (st .valid) made (kind-is-there st b made)
         ∙ item-there (kindAt P (objectAt (S .objects) b .kind) .methods) j (passed .has-method)
 
-  -- the frame is pushed with the target and the value of slot l, then the operand's slot is left
-  module _ {s₁ s₂ : List ℕ} {l : ℕ} (value-place : l ≡ w / 2 % 16)
-      (pushes : Becomes s (Innermost (h .thread) (h .depth))
-      (λ S. called (h .thread) (callee (m - 1) (slotAt (frameAt S (h .thread) (h .depth) .slots) (i % 16)) (slotAt (frameAt S (h .thread) (h .depth) .slots) l)) S) s₁)
-      (leaves : Becomes s₁ (λ S. (w / 2 < 16) × HasSlot (h .thread) (h .depth) (w / 2) S) (emptied (h .thread) (h .depth) (operandOf w)) s₂) where
-    frame-called : {P : Program} {n : ℕ} {S : State} {f : Frame} {fs : List Frame} {rest : List ℕ} → Stand s h P n S f fs rest → i < length (f .slots) → w / 2 < length (f .slots)
-        → Held s₂ (putThread S (h .thread) (callee (m - 1) (slotAt (f .slots) i) (slotAt (f .slots) (w / 2)) ∷ withSlots f (leftBy (f .slots) (operandOf w)) ∷ fs) ready) rest
-    unfolding called
-    frame-called {S = S} {f = f} {fs = fs} {rest = rest} st named there =
+  -- the frame is pushed with the target and the operand's value, the target is held there, then the operand's slot is left
+  module _ {s₁ s₂ s₃ : List ℕ} {v : Value} (read : SlotSeen s h (w / 2 % 16) v)
+      (pushes : Becomes s (Innermost (h .thread) (h .depth)) (called (h .thread) (callee (m - 1) (Obj o) v)) s₁)
+      (holds : Counts (raised (Obj o)) s₁ s₂) (leaves : Leaves (h .thread) (h .depth) w v s₂ s₃) where
+    frame-called : {P : Program} {n : ℕ} {S : State} {f : Frame} {fs : List Frame} {rest : List ℕ} → Stand s h P n S f fs rest → w / 2 < length (f .slots)
+        → Written s₃ S (Obj o ∷ operandGained (f .slots) (operandOf w)) []
+        (putThread S (h .thread) (callee (m - 1) (Obj o) v ∷ withSlots f (leftBy (f .slots) (operandOf w)) ∷ fs) ready) rest
+    unfolding called allRaised
+    frame-called {S = S} {f = f} {fs = fs} {rest = rest} st there =
         let t = h .thread in
         let k = h .depth in
         let here = inside st in
-        let g : Frame = callee (m - 1) (slotAt (f .slots) i) (slotAt (f .slots) (w / 2)) in
-        let first : Held s₁ (called t g S) rest = rw (slot-found st i (i % 16) refl named, slot-found st (w / 2) l value-place there) at (pushes .becomes S rest (st .held) (innermost here)) in
+        let g : Frame = callee (m - 1) (Obj o) v in
+        let first = holds .counts (called t g S) rest (pushes .becomes S rest (st .held) (innermost here)) in
         let in-call : Inside t (suc k) g (f ∷ fs) (called t g S) = rw (here .frames) (called-by here g) in
         let has : HasSlot t k (w / 2) (called t g S) = record { has = has-caller in-call; slot = rw (caller-frame in-call) there } in
-        subst (λ (R : State). Held s₂ R rest) (called-then-emptied here g (operandOf w)) (leaves .becomes (called t g S) rest first (omega (arith, there, slots-few st), has))
+        let last = leaves .leaves (called t g S) rest first (omega (arith, there, slots-few st)) has in
+        only-gained (Obj o ∷ operandGained (f .slots) (operandOf w)) (rw (operand-kept st w read there, called-then-emptied here g (operandOf w)) at last)
 
     call-moved : {P : Program} {n : ℕ} {S : State} {f : Frame} {fs : List Frame} {rest : List ℕ} → Loaded p P → Stand s h P n S f fs rest → i < length (f .slots)
-        → w / 2 < length (f .slots) → (S₁ : State) → Step mosts P (hereAt S (h .thread) f fs) (bind (call i j (operandOf w))) S₁ → Held s₂ S₁ rest × Went (h .thread) f fs S₁ Turned
+        → w / 2 < length (f .slots) → (S₁ : State) → Step mosts P (hereAt S (h .thread) f fs) (bind (call i j (operandOf w))) S₁
+        → Written s₃ S (slotAt (f .slots) i ∷ operandGained (f .slots) (operandOf w)) [] S₁ rest × Went (h .thread) f fs S₁ Turned
     unfolding object
-    call-moved {P} {n} {S} {f} {fs} {rest} loaded st named there S₁ (by-call _ _ u b v vs passed) =
-        let block : m - 1 ≡ getD (kindAt P (objectAt (S .objects) b .kind) .methods) j 0 = omega (arith, item-is loaded st named passed) in
-        let is-value : slotAt (f .slots) (w / 2) ≡ v = ap (slotAt (f .slots)) (sym (slot-of-word w)) ∙ passed .gave .value in
-        (rw (← block, ← target-was-there loaded st named passed, ← is-value, passed .gave .slots) (frame-called st named there), to-other)
+    call-moved {P} {n} {S} {f} {fs} {rest} loaded st named there S₁ (by-call _ _ u b x vs passed) =
+        let block : getD (kindAt P (objectAt (S .objects) b .kind) .methods) j 0 ≡ m - 1 = omega (arith, item-is loaded st named passed) in
+        let is-target : slotAt (f .slots) i ≡ Obj o = target-was-there loaded st named passed ∙ ap Obj (sym (number-is loaded st named passed)) in
+        let is-value : x ≡ v = operand-gave st w read there (passed .gave) in
+        (rw (block, is-target, ← number-is loaded st named passed, is-value, passed .gave .slots) (frame-called st there), to-other)
 
-    pub call-writes : Writes (λ P S. Loaded p P) s h (bind (call i j (operandOf w))) Turned s₂
+    pub call-writes : Writes (λ P S. Loaded p P) s h (bind (call i j (operandOf w))) Turned s₃
+    unfolding lineGained letGained lineLost
     call-writes =
         record {
           writes = λ P n S f fs rest q st few at-line S₁ step.

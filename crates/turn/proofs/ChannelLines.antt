@@ -10,6 +10,8 @@ use Rattle.rules.specs.declared.Value.{Value}
 use Rattle.rules.specs.declared.Value.the-variants.{Absent, Chan}
 use Rattle.rules.specs.Mosts.{mosts}
 use Rattle.rules.specs.Numbers as No
+use Rattle.rules.specs.Holders.{holders}
+use Rattle.rules.specs.HolderChanges.{letGained, lineGained, lineLost}
 use Rattle.rules.specs.Script.{Program, spawn, recv, bind, lineAt}
 use Rattle.rules.specs.State.{Frame, ready, Thread, noThread, State, threadAt, channelAt}
 use Rattle.rules.specs.Turn.{check, putThread, putChannel, filled, gives, started, spawnLine, recvLine, letLine, perform}
@@ -17,13 +19,14 @@ use Rattle.rules.proofs.ListLaws.{length-snoc}
 use Rattle.rules.proofs.Moves.{Step, by-spawn, by-recv}
 use Rattle.table.specs.declared.state.Here.{Here}
 use Rattle.table.specs.StateTable as T
-use Rattle.table.specs.StateTable.{Held, Sees, Becomes, Any, HasRoom, given, channelled}
+use Rattle.table.specs.StateTable.{Counted, Sees, Becomes, Any, HasRoom, given, channelled}
 use Rattle.checks.specs.declared.form_checks.Step as C
 use Rattle.checks.specs.Checked.{resultOf, outcomeOf, Few, hereAt, Stand, Checks}
 use Rattle.checks.proofs.CheckLaws.{numberOf, then-ok}
-use Rattle.checks.proofs.Standing.{SlotSeen, slot-channel, slot-read}
+use Rattle.checks.proofs.Standing.{SlotSeen, MessageSeen, slot-channel, slot-read, message-read}
 use Rattle.checks.specs.declared.form_checks.Step.the-variants.{Next}
 use Rattle.turn.specs.Performed.{Went, to-next, Always}
+use Rattle.turn.proofs.Settled.{Written, nothing-gained}
 use Rattle.turn.proofs.TurnSteps.{Answers, Writes, let-names, let-room, line-few}
 use Rattle.turn.proofs.Frames.{Inside, inside, has-room, stands-put, given-inside}
 
@@ -52,7 +55,8 @@ module _ {s : List ℕ} {h : Here} (b : ℕ) where
       (starts : Becomes s (λ S. T.Next (c % 16) S) (λ S. started S b) s₁)
       (gives-channel : Becomes s₁ (HasRoom (h .thread) (h .depth)) (given (h .thread) (h .depth) (Chan (c % 16))) s₂) where
     spawn-moved : {P : Program} {n : ℕ} {S : State} {f : Frame} {fs : List Frame} {rest : List ℕ} {S₁ : State} → Stand s h P n S f fs rest
-        → lineAt P (f .block) (f .line) ≡ bind (spawn b) → Step mosts P (hereAt S (h .thread) f fs) (bind (spawn b)) S₁ → Held s₂ S₁ rest × Went (h .thread) f fs S₁ Next
+        → lineAt P (f .block) (f .line) ≡ bind (spawn b) → Step mosts P (hereAt S (h .thread) f fs) (bind (spawn b)) S₁
+        → Written s₂ S [] [] S₁ rest × Went (h .thread) f fs S₁ Next
     unfolding gives filled
     spawn-moved {S = S} {f = f} {fs = fs} {rest = rest} st at-line (by-spawn _ room) =
         let count : c ≡ length (S .threads) = counted .sees S rest (st .held) tt in
@@ -63,9 +67,10 @@ module _ {s : List ℕ} {h : Here} (b : ℕ) where
         let then = gives-channel .becomes (started S b) rest first (has-room here (let-room st at-line) (line-few st)) in
         let is : given (h .thread) (h .depth) (Chan (c % 16)) (started S b) ≡ putThread (started S b) (h .thread) (filled f (f .slots) (Chan (length (S .threads))) ∷ fs) ready =
         given-inside here (Chan (c % 16)) ∙ ap (λ (m : ℕ). putThread (started S b) (h .thread) (filled f (f .slots) (Chan m) ∷ fs) ready) same in
-        (subst (λ (R : State). Held s₂ R rest) is then, to-next (stands-put (started S b) _ fs ready (here .thread)))
+        (nothing-gained (subst (λ (R : State). Counted s₂ (holders S) R rest) is then), to-next (stands-put (started S b) _ fs ready (here .thread)))
 
     pub spawn-writes : Writes Always s h (bind (spawn b)) Next s₂
+    unfolding lineGained letGained lineLost
     spawn-writes = record { writes = λ P n S f fs rest q st few at-line S₁ step. spawn-moved st at-line step }
 
 -- ---- recv
@@ -75,26 +80,28 @@ module _ {s : List ℕ} {h : Here} (i : ℕ) where
   unfolding perform letLine
   recv-answers all = record { answers = λ P n S f fs rest q st at-line. all .checks P n S f fs rest st (let-names st at-line, tt) }
 
-  -- the message is given, then the channel is emptied
-  module _ {s₁ s₂ : List ℕ} {v : Value} {m : ℕ} (target : SlotSeen s h (i % 16) v) (is : v ≡ Chan m)
-      (gives-message : Becomes s (HasRoom (h .thread) (h .depth)) (λ S. given (h .thread) (h .depth) (channelAt S m .message) S) s₁)
+  -- the message u is given, then its channel is emptied
+  module _ {s₁ s₂ : List ℕ} {x u : Value} {m : ℕ} (target : SlotSeen s h (i % 16) x) (is : x ≡ Chan m) (message : MessageSeen s m u)
+      (gives-message : Becomes s (HasRoom (h .thread) (h .depth)) (given (h .thread) (h .depth) u) s₁)
       (empties : Becomes s₁ (λ S. m < length (S .channels)) (λ S. channelled m Absent (channelAt S m .number) S) s₂) where
     recv-moved : {P : Program} {n : ℕ} {S : State} {f : Frame} {fs : List Frame} {rest : List ℕ} {S₁ : State} → Stand s h P n S f fs rest
-        → lineAt P (f .block) (f .line) ≡ bind (recv i) → Step mosts P (hereAt S (h .thread) f fs) (bind (recv i)) S₁ → Held s₂ S₁ rest × Went (h .thread) f fs S₁ Next
+        → lineAt P (f .block) (f .line) ≡ bind (recv i) → Step mosts P (hereAt S (h .thread) f fs) (bind (recv i)) S₁
+        → Written s₂ S [] [] S₁ rest × Went (h .thread) f fs S₁ Next
     unfolding gives filled channelled putThread putChannel channelAt
     recv-moved {S = S} {f = f} {fs = fs} {rest = rest} st at-line (by-recv _ c received) =
         let same : m ≡ c = ap numberOf (sym (slot-read st i (i % 16) refl target (let-names st at-line) ∙ is) ∙ received .target) in
         let here = inside st in
-        let u = channelAt S c .message in
-        let first : Held s₁ (given (h .thread) (h .depth) u S) rest =
-        subst (λ (d : ℕ). Held s₁ (given (h .thread) (h .depth) (channelAt S d .message) S) rest) same
-        (gives-message .becomes S rest (st .held) (has-room here (let-room st at-line) (line-few st))) in
+        let is-message : channelAt S c .message ≡ u = subst (λ (d : ℕ). channelAt S d .message ≡ u) same (message-read st m message) in
+        let first = gives-message .becomes S rest (st .held) (has-room here (let-room st at-line) (line-few st)) in
         let G = putThread S (h .thread) (filled f (f .slots) u ∷ fs) ready in
-        let second : Held s₁ G rest = subst (λ (R : State). Held s₁ R rest) (given-inside here u) first in
-        let third = empties .becomes G rest second (rw same (slot-channel st i c (received .target))) in (
-          subst (λ (d : ℕ). Held s₂ (channelled d Absent (channelAt G d .number) G) rest) same third,
+        let second : Counted s₁ (holders S) G rest = subst (λ (R : State). Counted s₁ (holders S) R rest) (given-inside here u) first in
+        let third = empties .becomes G rest second (rw same (slot-channel st i c (received .target))) in
+        let last : Counted s₂ (holders S) (channelled c Absent (channelAt G c .number) G) rest =
+        subst (λ (d : ℕ). Counted s₂ (holders S) (channelled d Absent (channelAt G d .number) G) rest) same third in (
+          rw is-message (nothing-gained last),
           to-next (stands-put (putChannel S c (record { message = Absent; number = channelAt S c .number })) _ fs ready (here .thread)),
         )
 
     pub recv-writes : Writes Always s h (bind (recv i)) Next s₂
+    unfolding lineGained letGained lineLost
     recv-writes = record { writes = λ P n S f fs rest q st few at-line S₁ step. recv-moved st at-line step }

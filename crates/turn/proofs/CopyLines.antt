@@ -21,13 +21,16 @@ use Rattle.rules.specs.Script.{Program, copy, bind, rank, lineAt}
 use Rattle.rules.specs.State.{Object, Frame, State, ready, objectAt, slotAt}
 use Rattle.rules.specs.Turn.{Res, ok, stop, _>>=_, _>>_, check, permit, asObject, object, putObjects, filled, gives, renamed, copyOf, copyLine, letLine, perform}
 use Rattle.rules.specs.Walk.{metFrom}
+use Rattle.rules.specs.Holders.{holders}
+use Rattle.rules.specs.HolderChanges.{copiedFields, copiesGained, letGained, lineGained, lineLost}
 use Rattle.rules.specs.Fits.{Fits}
-use Rattle.rules.proofs.Counts.{object-self, every-time, among-times, place-there}
+use Rattle.rules.proofs.ListLaws.{every-map}
+use Rattle.rules.proofs.Counts.{object-self, every-time, among-times, place-there, count-append}
 use Rattle.rules.proofs.Walks.{walked-values, walked-fields, walked-range, met-walked}
 use Rattle.rules.proofs.Moves.{metHere, Step, by-copy, withCopies}
 use Rattle.rules.proofs.Keeps.{fields-in-range}
 use Rattle.table.specs.declared.state.Here.{Here}
-use Rattle.table.specs.StateTable.{Held, Sees, Any, Becomes, HasRoom, given}
+use Rattle.table.specs.StateTable.{Counted, Held, Sees, Any, Becomes, HasRoom, given, raised, allRaised, Counts}
 use Rattle.walk.specs.Walking.{tally, Numbered, Walks, Of}
 use Rattle.walk.proofs.Numbers.{number-of}
 use Rattle.walk.proofs.FromNothing.{walk-from-nothing}
@@ -37,7 +40,8 @@ use Rattle.checks.specs.Checked.{resultOf, outcomeOf, stopNumber, Made, hereAt,
 use Rattle.checks.proofs.CheckLaws.{numberOf, as-outcome, then-ok, same-after}
 use Rattle.checks.proofs.Standing.{SlotSeen, made-fielded, slot-read, slot-object}
 use Rattle.turn.specs.Performed.{Went, to-next, Always, Performs}
-use Rattle.turn.specs.Copied.{AllMade, renamedBy, allCopied, CanCopyAll, CopiesAll, copyFrom, CopiesFrom}
+use Rattle.turn.specs.Copied.{AllMade, renamedBy, allCopied, fieldsCopied, CanCopyAll, CopiesAll, copyFrom, CopiesFrom}
+use Rattle.turn.proofs.Settled.{Written, only-gained, raised-append}
 use Rattle.turn.proofs.TurnSteps.{Answers, line-halts, line-moves, let-names, let-room, line-few}
 use Rattle.turn.proofs.Frames.{Inside, inside, inside-objects, has-room, stands-put, given-inside}
 use Rattle.turn.proofs.CopiesMade.{foreignIn}
@@ -60,6 +64,14 @@ module _ {places order : List ℕ} {n : ℕ} (b : ℕ) {met : List ℕ} (numbere
   values-same (Absent ∷ vs) all-met = ap (Absent ∷_) (values-same vs (λ x h. all-met x (omega arith)))
   values-same (Obj x ∷ vs) all-met = ap₂ _∷_ (ap Obj (number-same x (all-met x (omega (arith, object-self x))))) (values-same vs (λ y h. all-met y (omega arith)))
   values-same (Chan c ∷ vs) all-met = ap (Chan c ∷_) (values-same vs (λ x h. all-met x (omega arith)))
+
+-- and so for all fields of the objects ms
+fields-same : (places met : List ℕ) (os : List Object) (ms : List ℕ)
+    → Every (λ x. map (renamedBy places (length os)) (objectAt os x .fields) ≡ map (renamed (length os) met) (objectAt os x .fields)) ms
+    → fieldsCopied places (length os) os ms ≡ copiedFields os met ms
+unfolding fieldsCopied copiedFields
+fields-same places met os [] same = refl
+fields-same places met os (x ∷ ms) same = rw (same .0, fields-same places met os ms (same .1)) refl
 
 self-counts : (n : ℕ) → 1 ≤ count n (Obj n ∷ [])
 unfolding count
@@ -93,18 +105,25 @@ module _ {s order₀ places order : List ℕ} {n total : ℕ}
         let is-far : far ≡ any (foreignIn t S) met = rw (numbered .listed) at (foreign .sees S rest held all-made) in
         rw (is-far, counted .sees S rest held tt, numbered .counted) refl
 
-    -- what the code makes is what the rule makes
-    copies-same : (k : Cap) (t : ℕ) (f : Frame) (fs : List Frame) {first : ℕ} → first ≡ length (S .objects) → first + total ≤ 256
-        → allCopied k t places first (take total order) S ≡ putObjects S (S .objects ++ map (copyOf (hereAt S t f fs) k met) met)
-    unfolding allCopied copyOf object
-    copies-same k t f fs is-count room =
-        let b = length (S .objects) in
-        let few : b + length met ≤ 256 = omega (arith, room, is-count, numbered .counted) in
-        rw (is-count, numbered .listed)
-        (ap (λ (xs : List Object). putObjects S (S .objects ++ xs))
-        (map-same _ _ met (every-time _ met λ x is-met.
-        ap (λ (vs : List Value). let o : Object = record { cap = k; kind = objectAt (S .objects) x .kind; creator = t; fields = vs } in o)
-        (values-same b numbered few (objectAt (S .objects) x .fields) (λ y held-there. walked-fields (S .objects) (met-walked (S .objects) (Obj n ∷ [])) x y is-met held-there)))))
+    -- what the code makes is what the rule makes, and it holds the same
+    module _ {first : ℕ} (is-count : first ≡ length (S .objects)) (room : first + total ≤ 256) where
+      met-renamed : Every (λ x. map (renamedBy places (length (S .objects))) (objectAt (S .objects) x .fields) ≡ map (renamed (length (S .objects)) met) (objectAt (S .objects) x .fields)) met
+      met-renamed =
+          let few : length (S .objects) + length met ≤ 256 = omega (arith, room, is-count, numbered .counted) in
+          every-time _ met λ x is-met.
+          values-same (length (S .objects)) numbered few (objectAt (S .objects) x .fields) (λ y held-there. walked-fields (S .objects) (met-walked (S .objects) (Obj n ∷ [])) x y is-met held-there)
+
+      copies-same : (k : Cap) (t : ℕ) (f : Frame) (fs : List Frame)
+          → allCopied k t places first (take total order) S ≡ putObjects S (S .objects ++ map (copyOf (hereAt S t f fs) k met) met)
+      unfolding allCopied copyOf object
+      copies-same k t f fs =
+          rw (is-count, numbered .listed)
+          (ap (λ (xs : List Object). putObjects S (S .objects ++ xs))
+          (map-same _ _ met (every-map (λ x same.
+          ap (λ (vs : List Value). let o : Object = record { cap = k; kind = objectAt (S .objects) x .kind; creator = t; fields = vs } in o) same) met met-renamed)))
+
+      gained-same : fieldsCopied places first (S .objects) (take total order) ≡ copiesGained (S .objects) (Obj n)
+      gained-same = rw (is-count, numbered .listed) (fields-same places met (S .objects) met met-renamed)
 
   module _ (t cap : ℕ) {far : Bool} {first : ℕ}
       (foreign : Sees s (AllMade (take total order)) (λ S. any (foreignIn t S) (take total order)) far) (counted : Sees s Any (λ S. length (S .objects)) first) where
@@ -135,7 +154,8 @@ module _ {s order₀ places order : List ℕ} {n total : ℕ}
             answers = λ P m S rest held fits there. let same = checks-same held fits there t foreign counted in ap stopNumber (rw (near, le-leb (first + total) 256 room) at same);
             copies = λ P m S f fs rest held fits there none k ranked.
                 let is-count : first ≡ length (S .objects) = counted .sees S rest held tt in
-                subst (λ (R : State). Held s₁ R rest) (copies-same held fits there k t f fs is-count room) (all .copies k ranked .becomes S rest held (can-copy-all held fits there is-count));
+                let made = all .copies k S rest ranked held (can-copy-all held fits there is-count) in
+                rw (copies-same held fits there is-count room k t f fs, gained-same held fits there is-count room) at made;
           }
 
 -- ---- The number of a stop tells the check
@@ -163,6 +183,13 @@ foreign-by-number false true n e other some = absurd (some e)
 foreign-by-number false false n e other some = absurd (other e)
 
 -- ---- The line, by what its slot holds
+
+-- the copies hold vs, and v is held after them: in whatever order, each is gained
+held-last : {s₁ rest : List ℕ} {S S₁ : State} {vs : List Value} {v : Value} → Counted s₁ (raised v (allRaised vs (holders S))) S₁ rest → Written s₁ S (v ∷ vs) [] S₁ rest
+unfolding allRaised count
+held-last {s₁} {rest} {S} {S₁} {vs} {v} held =
+    let last : Written s₁ S (vs ++ (v ∷ [])) [] S₁ rest = only-gained (vs ++ (v ∷ [])) (rw (raised-append vs (v ∷ []) (holders S)) held) in
+    record { counts = last .counts; held = last .held; tally = λ small n. let sum = last .tally small n in omega (arith, sum, count-append n vs (v ∷ [])) }
 
 module _ {s : List ℕ} {h : Here} (k : Cap) (i : ℕ) {x : Value} (target : SlotSeen s h (i % 16) x) where
   pub copy-no-source : x ≡ Absent → Performs Always s h (bind (copy k i)) NoValue s
@@ -208,11 +235,12 @@ module _ {s : List ℕ} {h : Here} (k : Cap) (i : ℕ) {x : Value} (target : Slo
           subst (λ (l : List ℕ). Performs Always s h (bind (copy k i)) (Forbidden Foreign) l) (sym (does .stops some))
           (line-halts (line-answers (λ t S e. sym (foreign-by-number _ _ r e room some))) refl)
 
-    -- the copies are made, and the first is given
-    module _ {s₂ : List ℕ} {count number : ℕ} (ranked : cap ≡ rank k) (none : r ≡ 0) (counted : Sees s Any (λ S. length (S .objects)) count) (is-next : number ≡ count % 256)
-        (gives-copy : Becomes s₁ (HasRoom (h .thread) (h .depth)) (given (h .thread) (h .depth) (Obj number)) s₂) where
+    -- the copies are made, and the first is given and held
+    module _ {s₂ s₃ : List ℕ} {count number : ℕ} (ranked : cap ≡ rank k) (none : r ≡ 0) (counted : Sees s Any (λ S. length (S .objects)) count) (is-next : number ≡ count % 256)
+        (gives-copy : Becomes s₁ (HasRoom (h .thread) (h .depth)) (given (h .thread) (h .depth) (Obj number)) s₂) (holds : Counts (raised (Obj number)) s₂ s₃) where
       copy-moved : {P : Program} {m : ℕ} {S S₁ : State} {f : Frame} {fs : List Frame} {rest : List ℕ} (st : Stand s h P m S f fs rest)
-          → lineAt P (f .block) (f .line) ≡ bind (copy k i) → Step mosts P (hereAt S (h .thread) f fs) (bind (copy k i)) S₁ → Held s₂ S₁ rest × Went (h .thread) f fs S₁ Next
+          → lineAt P (f .block) (f .line) ≡ bind (copy k i) → Step mosts P (hereAt S (h .thread) f fs) (bind (copy k i)) S₁
+          → Written s₃ S (Obj (length (S .objects)) ∷ copiesGained (S .objects) (slotAt (f .slots) i)) [] S₁ rest × Went (h .thread) f fs S₁ Next
       unfolding gives filled
       copy-moved {P} {m} {S} {S₁} {f} {fs} {rest} st at-line (by-copy c j o graph) =
           let H = hereAt S (h .thread) f fs in
@@ -222,15 +250,15 @@ module _ {s : List ℕ} {h : Here} (k : Cap) (i : ℕ) {x : Value} (target : Slo
           let is-number : number ≡ length (S .objects) = is-next ∙ ap (λ a. a % 256) (counted .sees S rest (st .held) tt) ∙ mod-eq-of-lt below in
           let R = putObjects S (withCopies H k n) in
           let here : Inside (h .thread) (h .depth) f fs R = inside-objects _ (inside st) in
-          let made : Held s₁ R rest = does .copies P m S f fs rest (st .held) (st .fits) (source-made st at-line) none k ranked in
-          let given-copy = gives-copy .becomes R rest made (has-room here (let-room st at-line) (line-few st)) in
-          rw same (
-            subst (λ (T : State). Held s₂ T rest) (given-inside here (Obj (length (S .objects)))) (subst (λ a. Held s₂ (given (h .thread) (h .depth) (Obj a) R) rest) is-number given-copy),
+          let made = does .copies P m S f fs rest (st .held) (st .fits) (source-made st at-line) none k ranked in
+          let held-copy = holds .counts _ rest (gives-copy .becomes R rest made (has-room here (let-room st at-line) (line-few st))) in
+          rw (same, source-read st at-line) (
+            held-last (rw (is-number, given-inside here (Obj (length (S .objects)))) at held-copy),
             to-next (stands-put R _ fs ready (here .thread)),
           )
 
-      pub copy-moves : Performs Always s h (bind (copy k i)) Next s₂
-      unfolding copyFrom
+      pub copy-moves : Performs Always s h (bind (copy k i)) Next s₃
+      unfolding copyFrom lineGained letGained lineLost
       copy-moves =
           line-moves {k = Next} (line-answers (λ t S e. sym (passes-by-number _ _ (sym none ∙ e)))) refl
           (record { writes = λ P m S f fs rest q st few at-line S₁ step. copy-moved st at-line step })

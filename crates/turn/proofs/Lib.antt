@@ -1,4 +1,6 @@
 -- Why a turn on the tables does what the rules say.
+-- the holder counts after a line's writes
+mod Settled
 -- a rule's result as the step taken; what a line says of the slots that are filled
 pub mod TurnSteps
 -- the frame where a thread stands, edited

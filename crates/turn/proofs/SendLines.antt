@@ -7,22 +7,26 @@ use Rattle.rules.specs.declared.Value.{Value}
 use Rattle.rules.specs.declared.Value.the-variants.{Obj, Chan}
 use Rattle.rules.specs.Mosts as Most
 use Rattle.rules.specs.Mosts.{mosts}
+use Rattle.rules.specs.Holders.{holders}
+use Rattle.rules.specs.HolderChanges.{operandGained, putGained, letGained, lineGained, lineLost}
 use Rattle.rules.specs.Script.{Operand, Line, Program, send, bind, lineAt}
-use Rattle.rules.specs.State.{Frame, Sender, ready, waiting, Thread, State, threadAt, channelAt, slotAt}
+use Rattle.rules.specs.State.{Frame, Sender, ready, waiting, Thread, State, threadAt, channelAt}
 use Rattle.rules.specs.Tables.{operandOf, senderWord}
 use Rattle.rules.specs.Turn.{isAbsent, leftBy, putThread, putChannel, filled, withSlots, gives, putLine, sentLine, sendLine, letLine, perform}
 use Rattle.rules.proofs.ListLaws.{impossible}
-use Rattle.rules.proofs.Moves.{Step, by-put, by-sent}
-use Rattle.rules.proofs.TableWords.{slot-of-word, sender-tells}
+use Rattle.rules.proofs.Moves.{left-was-there, Step, by-put, by-sent}
+use Rattle.rules.proofs.TableWords.{sender-tells}
 use Rattle.table.specs.declared.state.Here.{Here}
-use Rattle.table.specs.StateTable.{Held, Sees, Becomes, Any, HasSlot, HasRoom, frameAt, given, channelled, sending, Puts}
+use Rattle.table.specs.StateTable.{Counted, Held, Sees, Becomes, Any, HasRoom, given, channelled, sending, Puts}
 use Rattle.table.proofs.StateEdits.{thread-put, put-put}
 use Rattle.checks.specs.Checked.{outcomeOf, hereAt, Stand, Checks}
-use Rattle.checks.proofs.CheckLaws.{numberOf, left-was-there}
-use Rattle.checks.proofs.Standing.{TargetSeen, slot-channel, messages-few, slot-found, target-read}
+use Rattle.checks.proofs.CheckLaws.{numberOf}
+use Rattle.checks.proofs.Standing.{SlotSeen, TargetSeen, slot-channel, messages-few, slot-read, target-read}
 use Rattle.checks.specs.declared.form_checks.Step as C
 use Rattle.checks.specs.declared.form_checks.Step.the-variants.{Next, Stay}
-use Rattle.turn.specs.Performed.{emptied, Went, to-next, to-same, Performs, Always}
+use Rattle.turn.specs.Performed.{emptied, Leaves, Went, to-next, to-same, Performs, Always}
+use Rattle.turn.proofs.Settled.{Written, only-gained, nothing-gained}
+use Rattle.turn.proofs.SlotLines.{operand-kept, operand-gave}
 use Rattle.turn.proofs.TurnSteps.{Answers, Writes, always-performs, word-names, let-names, let-room, line-few}
 use Rattle.turn.proofs.Frames.{Inside, inside, has-room, has-slot, stands-put, inside-put, given-inside, emptied-inside}
 
@@ -66,14 +70,13 @@ module _ {s : List ℕ} {h : Here} (i w : ℕ) where
             ∙ ap (λ (x : Sender). outcomeOf (sendLine (hereAt S (h .thread) f fs) x i (operandOf w))) (sym q);
       }
 
-  -- the value of slot j is put, then the operand's slot is left
-  module _ {s₁ s₂ : List ℕ} {v : Value} {m j : ℕ} (target : TargetSeen s h i w v) (is : v ≡ Chan m) (place : j ≡ w / 2 % 16)
-      (puts : Becomes s (Puts (h .thread) m)
-      (λ S. sending (h .thread) (channelAt S m .number + 1) (channelled m (slotAt (frameAt S (h .thread) (h .depth) .slots) j) (channelAt S m .number + 1) S)) s₁)
-      (leaves : Becomes s₁ (λ S. (w / 2 < 16) × HasSlot (h .thread) (h .depth) (w / 2) S) (emptied (h .thread) (h .depth) (operandOf w)) s₂) where
+  -- the operand's value is put, then its slot is left
+  module _ {s₁ s₂ : List ℕ} {x v : Value} {m : ℕ} (target : TargetSeen s h i w x) (is : x ≡ Chan m) (read : SlotSeen s h (w / 2 % 16) v)
+      (puts : Becomes s (Puts (h .thread) m) (λ S. sending (h .thread) (channelAt S m .number + 1) (channelled m v (channelAt S m .number + 1) S)) s₁)
+      (leaves : Leaves (h .thread) (h .depth) w v s₁ s₂) where
     put-moved : {P : Program} {n : ℕ} {S : State} {f : Frame} {fs : List Frame} {rest : List ℕ} {S₁ : State} → Ready (h .thread) P S → Stand s h P n S f fs rest → n < Most.turns
         → lineAt P (f .block) (f .line) ≡ bind (send i (operandOf w)) → Step mosts P (hereAt S (h .thread) f fs) (bind (send i (operandOf w))) S₁
-        → Held s₂ S₁ rest × Went (h .thread) f fs S₁ Stay
+        → Written s₂ S (operandGained (f .slots) (operandOf w)) [] S₁ rest × Went (h .thread) f fs S₁ Stay
     unfolding channelled putChannel withSlots isAbsent
     put-moved {S = S} {f = f} {fs = fs} {rest = rest} q st few at-line (by-put _ _ c o vs put) =
         let t = h .thread in
@@ -85,22 +88,23 @@ module _ {s : List ℕ} {h : Here} (i w : ℕ) where
         let target-left = rw (put .gave .slots) at (put .target) in
         let is-channel = left-was-there (f .slots) (operandOf w) i refl target-left in
         let same : m ≡ c = ap numberOf (sym (target-read st i w target (names .0) ∙ is) ∙ target-left) in
-        let is-value : slotAt (frameAt S t k .slots) j ≡ Obj o = slot-found st (w / 2) j place named ∙ ap (slotAt (f .slots)) (sym (slot-of-word w)) ∙ put .gave .value in
+        let is-value : Obj o ≡ v = operand-gave st w read named (put .gave) in
         let next = channelAt S c .number + 1 in
         let few-messages : channelAt S c .number < Most.turns = omega (arith, messages-few st c, few) in
         let put-there : Puts t m S = record { thread = here .thread; channel = rw same (slot-channel st i c is-channel); number = rw same few-messages } in
-        let first : Held s₁ (sending t next (channelled c (slotAt (frameAt S t k .slots) j) next S)) rest =
-        subst (λ (d : ℕ). Held s₁ (sending t (channelAt S d .number + 1) (channelled d (slotAt (frameAt S t k .slots) j) (channelAt S d .number + 1) S)) rest) same
+        let first : Counted s₁ (holders S) (sending t next (channelled c v next S)) rest =
+        subst (λ (d : ℕ). Counted s₁ (holders S) (sending t (channelAt S d .number + 1) (channelled d v (channelAt S d .number + 1) S)) rest) same
         (puts .becomes S rest (st .held) put-there) in
-        let second : Held s₁ (sending t next (channelled c (Obj o) next S)) rest = subst (λ (x : Value). Held s₁ (sending t next (channelled c x next S)) rest) is-value first in
-        let third = leaves .becomes _ rest second (omega (arith, named, room), has-slot (inside-sending S here c (Obj o) next) (w / 2) named) in (
-          rw (put .gave .slots) (subst (λ (R : State). Held s₂ R rest) (sending-then-emptied S here c (Obj o) next (operandOf w)) third),
+        let last = leaves .leaves _ rest first (omega (arith, named, room)) (has-slot (inside-sending S here c v next) (w / 2) named) in (
+          rw (put .gave .slots, is-value) (only-gained (operandGained (f .slots) (operandOf w))
+              (rw (operand-kept st w read named, sending-then-emptied S here c v next (operandOf w)) at last)),
           to-same (stands-put (putChannel S c (record { message = Obj o; number = next })) (withSlots f vs) fs (waiting next) (here .thread)),
         )
     put-moved q st few at-line (by-sent _ _ d c taken) = let clash : ready ≡ waiting d = sym q ∙ taken .sender in impossible cc
 
     pub put-writes : Writes (Ready (h .thread)) s h (bind (send i (operandOf w))) Stay s₂
-    put-writes = record { writes = λ P n S f fs rest q st few at-line S₁ step. put-moved q st few at-line step }
+    unfolding lineGained letGained lineLost
+    put-writes = record { writes = λ P n S f fs rest q st few at-line S₁ step. rw q (put-moved q st few at-line step) }
 
 -- ---- send by a thread that waits as a sender, whose word is d
 
@@ -118,25 +122,26 @@ module _ {s : List ℕ} {h : Here} (i : ℕ) {d : ℕ} (some : 1 ≤ d) (w : Ope
             ∙ ap (λ (x : Sender). outcomeOf (sendLine (hereAt S (h .thread) f fs) x i w)) (sym (sender-tells (threadAt S (h .thread) .sender) (waiting (d - 1)) (omega (arith, q, some))));
       }
 
-  -- the channel's slot is given
-  module _ {s₁ : List ℕ}
-      (gives-slot : Becomes s (HasRoom (h .thread) (h .depth)) (λ S. given (h .thread) (h .depth) (slotAt (frameAt S (h .thread) (h .depth) .slots) (i % 16)) S) s₁) where
+  -- the channel is given
+  module _ {s₁ : List ℕ} {x : Value} (read : SlotSeen s h (i % 16) x)
+      (gives-channel : Becomes s (HasRoom (h .thread) (h .depth)) (given (h .thread) (h .depth) x) s₁) where
     sent-moved : {P : Program} {n : ℕ} {S : State} {f : Frame} {fs : List Frame} {rest : List ℕ} {S₁ : State} → Waiting (h .thread) d P S → Stand s h P n S f fs rest
-        → lineAt P (f .block) (f .line) ≡ bind (send i w) → Step mosts P (hereAt S (h .thread) f fs) (bind (send i w)) S₁ → Held s₁ S₁ rest × Went (h .thread) f fs S₁ Next
+        → lineAt P (f .block) (f .line) ≡ bind (send i w) → Step mosts P (hereAt S (h .thread) f fs) (bind (send i w)) S₁
+        → Written s₁ S (putGained (threadAt S (h .thread) .sender) (f .slots) w) [] S₁ rest × Went (h .thread) f fs S₁ Next
     unfolding gives filled
     sent-moved q st at-line (by-put _ _ c o vs put) = let clash : 0 ≡ d = ap senderWord (sym (put .sender)) ∙ q in absurd (omega arith)
-    sent-moved {S = S} {f = f} {fs = fs} {rest = rest} q st at-line (by-sent _ _ e c taken) =
-        let t = h .thread in
-        let k = h .depth in
+    sent-moved {S = S} {f = f} {fs = fs} {rest = rest} {S₁ = S₁} q st at-line (by-sent _ _ e c taken) =
         let here = inside st in
-        let room = let-room st at-line in
-        let named = let-names st at-line .0 in
-        let is-channel : slotAt (frameAt S t k .slots) (i % 16) ≡ Chan c = slot-found st i (i % 16) refl named ∙ taken .target in
-        let first : Held s₁ (given t k (Chan c) S) rest =
-        subst (λ (v : Value). Held s₁ (given t k v S) rest) is-channel (gives-slot .becomes S rest (st .held) (has-room here room (line-few st))) in
-        (subst (λ (R : State). Held s₁ R rest) (given-inside here (Chan c)) first, to-next (stands-put S _ fs ready (here .thread)))
+        let is-channel : Chan c ≡ x = sym (taken .target) ∙ slot-read st i (i % 16) refl read (let-names st at-line .0) in
+        let held = gives-channel .becomes S rest (st .held) (has-room here (let-room st at-line) (line-few st)) in
+        let T : State = putThread S (h .thread) (filled f (f .slots) (Chan c) ∷ fs) ready in
+        let gave : Counted s₁ (holders S) T rest = rw is-channel (rw (given-inside here x) at held) in (
+          subst (λ (y : Sender). Written s₁ S (putGained y (f .slots) w) [] T rest) (sym (taken .sender)) (nothing-gained gave),
+          to-next (stands-put S _ fs ready (here .thread)),
+        )
 
     pub sent-writes : Writes (Waiting (h .thread) d) s h (bind (send i w)) Next s₁
+    unfolding lineGained letGained lineLost
     sent-writes = record { writes = λ P n S f fs rest q st few at-line S₁ step. sent-moved q st at-line step }
 
 -- ---- send, by the sender's word d

@@ -1,5 +1,5 @@
 -- A rule's result as the step taken: where the check waits or stops the table is as it was; where it passes the rule has moved.
-use Prim.Native.Nat.{ℕ, _/_, _<_}
+use Prim.Native.Nat.{ℕ, suc, _/_, _<_}
 use native.Mathlib.Omega.{arith}
 use mathlib.Core.Path.{_≡_, refl, ap}
 use mathlib.Core.Bool.{true, false}
@@ -18,7 +18,10 @@ use Rattle.rules.specs.Turn.{Res, ok, wait, stop}
 use Rattle.rules.specs.Fits.{FrameFits}
 use Rattle.rules.proofs.ListLaws.{impossible}
 use Rattle.rules.proofs.Moves.{Step, stepped}
-use Rattle.rules.proofs.Keeps.{let-below, let-ok, give-ok, block-ok}
+use Rattle.rules.specs.Holders.{holders}
+use Rattle.rules.specs.HolderChanges.{lineGained, lineLost}
+use Rattle.rules.proofs.Keeps.{let-below, let-ok, give-ok, block-ok, step-fits}
+use Rattle.rules.proofs.HolderLaws.{step-changes, holders-few}
 use Rattle.rules.proofs.TableWords.{slot-of-word}
 use Rattle.table.specs.declared.state.Here.{Here}
 use Rattle.table.specs.StateTable.{Held}
@@ -27,6 +30,7 @@ use Rattle.checks.specs.declared.form_checks.Step.the-variants.{Next, Stay, Tur
 use Rattle.checks.specs.Checked.{resultOf, outcomeOf, passed, isPass, hereAt, Stand}
 use Rattle.checks.proofs.CheckLaws.{no-both}
 use Rattle.checks.proofs.Standing.{fits-here}
+use Rattle.turn.proofs.Settled.{InWords, Written, settled}
 use Rattle.turn.specs.Performed.{Went, Performed, moved, waited, stopped, Performs, Always}
 
 -- ---- A result
@@ -67,7 +71,8 @@ pub record Answers (Q : Program → State → Type 0) (s : List ℕ) (h : Here) 
 -- each way to move is one that the writes make
 pub record Writes (Q : Program → State → Type 0) (s : List ℕ) (h : Here) (x : Line) (r : C.Step) (s₁ : List ℕ) : Type 0 where
   pub writes : (P : Program) (n : ℕ) (S : State) (f : Frame) (fs : List Frame) (rest : List ℕ) → Q P S → Stand s h P n S f fs rest → n < Most.turns
-      → lineAt P (f .block) (f .line) ≡ x → (S₁ : State) → Step mosts P (hereAt S (h .thread) f fs) x S₁ → Held s₁ S₁ rest × Went (h .thread) f fs S₁ r
+      → lineAt P (f .block) (f .line) ≡ x → (S₁ : State) → Step mosts P (hereAt S (h .thread) f fs) x S₁
+      → Written s₁ S (lineGained (hereAt S (h .thread) f fs) x) (lineLost (hereAt S (h .thread) f fs) x) S₁ rest × Went (h .thread) f fs S₁ r
 
 module _ {Q : Program → State → Type 0} {s : List ℕ} {h : Here} {x : Line} {k : C.Step} (told : Answers Q s h x k) where
   pub line-halts : isPass k ≡ false → Performs Q s h x k s
@@ -79,7 +84,13 @@ module _ {Q : Program → State → Type 0} {s : List ℕ} {h : Here} {x : Line}
         performs = λ P n S f fs rest q st few at-line.
             let H = hereAt S (h .thread) f fs in
             performed-pass (R.perform mosts P H x) k (told .answers P n S f fs rest q st at-line) passes
-            λ S₁ e. let done = does .writes P n S f fs rest q st few at-line S₁ (stepped mosts P H x S₁ e) in moved (done .0) (done .1);
+            λ S₁ e.
+            let step = stepped mosts P H x S₁ e in
+            let done = does .writes P n S f fs rest q st few at-line S₁ step in
+            let fits₁ = step-fits mosts P n H (fits-here st) (st .valid) x S₁ at-line step in
+            let small : InWords (holders S) = record { few = holders-few P n S (st .fits) } in
+            let small₁ : InWords (holders S₁) = record { few = holders-few P (suc n) S₁ fits₁ } in
+            moved (settled (done .0) small small₁ (step-changes (st .fits) (st .frames) step)) (done .1);
       }
 
 -- where Q holds of each state that the table holds, it need not be asked

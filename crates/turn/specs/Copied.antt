@@ -15,8 +15,10 @@ use Rattle.rules.specs.Script.{Program, rank}
 use Rattle.rules.specs.State.{Object, Frame, State, objectAt}
 use Rattle.rules.specs.Walk.{metFrom}
 use Rattle.rules.specs.Turn.{Res, _>>=_, _>>_, check, permit, isForeign, putObjects, copyOf}
+use Rattle.rules.specs.Holders.{holders}
+use Rattle.rules.specs.HolderChanges.{copiesGained}
 use Rattle.rules.specs.Fits.{Fits}
-use Rattle.table.specs.StateTable.{Held, Becomes, made}
+use Rattle.table.specs.StateTable.{Counted, Held, made, allRaised}
 use Rattle.checks.specs.Checked.{stopNumber, Made, Fielded, hereAt}
 
 -- these objects are there, and so each has a place in the table
@@ -43,6 +45,11 @@ oneCopied k t places b o S = made (copiedBy k t places b (objectAt (S .objects) 
 unfoldable pub allCopied : Cap → (t : ℕ) → (places : List ℕ) → (b : ℕ) → (ms : List ℕ) → State → State
 allCopied k t places b ms S = putObjects S (S .objects ++ map (λ o. copiedBy k t places b (objectAt (S .objects) o)) ms)
 
+-- the fields of their copies, each of which gets a holder more
+unfoldable pub fieldsCopied : (places : List ℕ) → (b : ℕ) → List Object → (ms : List ℕ) → List Value
+fieldsCopied places b os [] = []
+fieldsCopied places b os (o ∷ ms) = map (renamedBy places b) (objectAt os o .fields) ++ fieldsCopied places b os ms
+
 -- n is the next object, and o can be copied; and all these can
 pub record CanCopy (n o : ℕ) (S : State) : Type 0 where
   pub next : n ≡ length (S .objects)
@@ -54,10 +61,12 @@ pub record CanCopyAll (n : ℕ) (ms : List ℕ) (S : State) : Type 0 where
 
 -- by thread t, with the capability whose word is cap
 pub record CopiesOne (t cap : ℕ) (places : List ℕ) (b n o : ℕ) (e e₁ : List ℕ) : Type 0 where
-  pub copies : (k : Cap) → cap ≡ rank k → Becomes e (CanCopy n o) (oneCopied k t places b o) e₁
+  pub copies : {N : ℕ → ℕ} (k : Cap) (S : State) (rest : List ℕ) → cap ≡ rank k → Counted e N S rest → CanCopy n o S
+      → Counted e₁ (allRaised (map (renamedBy places b) (objectAt (S .objects) o .fields)) N) (oneCopied k t places b o S) rest
 
 pub record CopiesAll (t cap : ℕ) (places : List ℕ) (b : ℕ) (ms : List ℕ) (e e₁ : List ℕ) : Type 0 where
-  pub copies : (k : Cap) → cap ≡ rank k → Becomes e (CanCopyAll b ms) (allCopied k t places b ms) e₁
+  pub copies : {N : ℕ → ℕ} (k : Cap) (S : State) (rest : List ℕ) → cap ≡ rank k → Counted e N S rest → CanCopyAll b ms S
+      → Counted e₁ (allRaised (fieldsCopied places b (S .objects) ms) N) (allCopied k t places b ms S) rest
 
 -- ---- From the object in the slot
 
@@ -73,4 +82,5 @@ pub record CopiesFrom (t cap n : ℕ) (e : List ℕ) (r : ℕ) (e₁ : List ℕ)
   pub stops : (r ≡ 0 → ⊥) → e₁ ≡ e
   pub answers : (P : Program) (m : ℕ) (S : State) (rest : List ℕ) → Held e S rest → Fits mosts P m S → Made n S → r ≡ stopNumber (copyFrom t n S)
   pub copies : (P : Program) (m : ℕ) (S : State) (f : Frame) (fs : List Frame) (rest : List ℕ) → Held e S rest → Fits mosts P m S → Made n S → r ≡ 0 → (k : Cap) → cap ≡ rank k
-      → (let met = metFrom (S .objects) (Obj n ∷ []) in Held e₁ (putObjects S (S .objects ++ map (copyOf (hereAt S t f fs) k met) met)) rest)
+      → (let met = metFrom (S .objects) (Obj n ∷ []) in
+      Counted e₁ (allRaised (copiesGained (S .objects) (Obj n)) (holders S)) (putObjects S (S .objects ++ map (copyOf (hereAt S t f fs) k met) met)) rest)

@@ -1,14 +1,15 @@
 -- What a turn on the tables does: the rule's own result, and where the thread stands then.
-use Prim.Native.Nat.{ℕ, zero, suc, _+_, _<_}
+use Prim.Native.Nat.{ℕ, zero, suc, _+_, _/_, _<_}
 use mathlib.Core.Path.{_≡_}
 use mathlib.Core.Bool.{Bool}
-use mathlib.Core.List.{List, _∷_, map}
+use mathlib.Core.List.{List, [], _∷_, map}
 use lib.ListN.{length}
 use Rattle.rules.specs.declared.Cap.{Cap}
+use Rattle.rules.specs.declared.Value.{Value}
 use Rattle.rules.specs.Mosts as Most
 use Rattle.rules.specs.Mosts.{mosts}
-use Rattle.rules.specs.Lists.{pad}
-use Rattle.rules.specs.Script.{Operand, Line, bind, new, send, Program, linesOf, lineAt}
+use Rattle.rules.specs.Lists.{pad, Every}
+use Rattle.rules.specs.Script.{Operand, reads, takes, Line, bind, new, send, Program, linesOf, lineAt}
 use Rattle.rules.specs.Valid.{Valid}
 use Rattle.rules.specs.State.{Frame, State, threadAt}
 use Rattle.rules.specs.Tables.{operandItem, operandOf, senderWord}
@@ -18,10 +19,11 @@ use Rattle.rules.specs.Run.{waits}
 use Rattle.rules.specs.Fits.{Fits}
 use Rattle.table.specs.declared.state.Here.{Here}
 use Rattle.table.specs.ProgramTable.{Filled}
-use Rattle.table.specs.StateTable.{Held, OnLine, editFrame}
+use Rattle.table.specs.StateTable.{Counted, Held, OnLine, HasSlot, editFrame, allRaised}
 use Rattle.checks.specs.declared.form_checks.Step.{Step}
 use Rattle.checks.specs.declared.form_checks.Step.the-variants.{Next, Stay, Turned, Waits}
 use Rattle.checks.specs.Checked.{resultOf, hereAt, Stand}
+use Rattle.checks.specs.NewItems.{itemSlots}
 
 -- ---- What operands leave
 
@@ -33,6 +35,23 @@ emptied t k w S = editFrame S t k (λ f. withSlots f (leftBy (f .slots) w)) (thr
 unfoldable pub itemEmptied : ℕ → ℕ → ℕ → State → State
 itemEmptied t k zero S = S
 itemEmptied t k (suc w) S = emptied t k (operandOf w) S
+
+-- what gets a holder more once the value v of an operand stands elsewhere too: a read leaves it in its slot, a take moves it
+abbrev pub keptBy : Operand → Value → List Value
+keptBy (reads s) v = v ∷ []
+keptBy (takes s) v = []
+
+abbrev pub itemKept : ℕ → Value → List Value
+itemKept zero v = []
+itemKept (suc w) v = keptBy (operandOf w) v
+
+pub record Leaves (t k w : ℕ) (v : Value) (e e₁ : List ℕ) : Type 0 where
+  pub leaves : {N : ℕ → ℕ} (S : State) (rest : List ℕ) → Counted e N S rest → w / 2 < Most.slots → HasSlot t k (w / 2) S
+      → Counted e₁ (allRaised (keptBy (operandOf w) v) N) (emptied t k (operandOf w) S) rest
+
+pub record LeavesItem (t k i : ℕ) (v : Value) (e e₁ : List ℕ) : Type 0 where
+  pub leaves : {N : ℕ → ℕ} (S : State) (rest : List ℕ) → Counted e N S rest → Every (λ j. (j < Most.slots) × HasSlot t k j S) (itemSlots i)
+      → Counted e₁ (allRaised (itemKept i v) N) (itemEmptied t k i S) rest
 
 -- ---- Where the thread stands afterwards
 

@@ -1,17 +1,19 @@
-// A copy: the objects met are numbered and checked, then each is copied, then the let gives the first copy. A copy that stops has written nothing.
+// A copy: the objects met are numbered and checked, then each is copied, and what the copy holds gets a holder more; then the let gives the first copy. A
+// copy that stops has written nothing.
 use checks::Step;
 use rules::Cap;
 use rules::Ground;
 use rules::Value;
 use table::Here;
 ghost use mathlib.Core.Path.{_≡_};
+ghost use mathlib.Core.List.{[], _∷_};
 ghost use Prim.Native.Nat.{_+_, _≤_, _<_};
 ghost use lib.ListN.{length, take};
 ghost use Rattle.rules.specs.Lists.{any};
 ghost use Rattle.rules.specs.Script.{copy, bind};
 ghost use Rattle.rules.specs.State.{objectAt, slotAt};
 ghost use Rattle.rules.specs.Turn.{isForeign};
-ghost use Rattle.table.specs.StateTable.{InTable, Sees, Placed, FieldIn};
+ghost use Rattle.table.specs.StateTable.{InTable, Sees, Placed, FieldIn, allRaised, Counts};
 ghost use Rattle.turn.specs.Performed.{Always, Performs};
 ghost use Rattle.turn.specs.Copied.{AllMade, renamedBy, CopiesOne, CopiesAll, CopiesFrom};
 
@@ -55,7 +57,18 @@ fn copied_field(s: &[u16], places: &[u16], first: usize, o: u16, j: u16) -> Valu
     renamed_value(places, first, table::field(s, o, j))
 }
 
-// The copy of object o is made, with number n.
+// Each value gets a holder more.
+fn hold_all(s: &mut [u16], a: Value, b: Value, c: Value, d: Value)
+    requires { ⌜ (8192 ≤ length (now s)) × InTable a × InTable b × InTable c × InTable d ⌝ }
+    ensures { λ _. ⌜ Counts (allRaised (a ∷ b ∷ c ∷ d ∷ [])) (now (s .entry)) (now (s .exit)) ⌝ }
+{
+    table::hold(s, a);
+    table::hold(s, b);
+    table::hold(s, c);
+    table::hold(s, d);
+}
+
+// The copy of object o is made, with number n, and each of its fields is held.
 fn add_copy_of(s: &mut [u16], t: u16, cap: u16, places: &[u16], first: usize, n: u16, o: u16)
     requires { ⌜ (8192 ≤ length (now s)) × (256 ≤ length (now places)) × (first ≤ 256) × (n < 256) × (o < 256) ⌝ }
     ensures { λ _. ⌜ CopiesOne t cap (now (places .entry)) first n o (now (s .entry)) (now (s .exit)) ⌝ }
@@ -65,7 +78,8 @@ fn add_copy_of(s: &mut [u16], t: u16, cap: u16, places: &[u16], first: usize, n:
     let b = copied_field(s, places, first, o, 1);
     let c = copied_field(s, places, first, o, 2);
     let d = copied_field(s, places, first, o, 3);
-    table::add_copy(s, t, n, cap, kind, a, b, c, d);
+    table::add_object(s, t, n, cap, kind, a, b, c, d);
+    hold_all(s, a, b, c, d);
 }
 
 // The first j objects met are copied, in order.
@@ -130,6 +144,7 @@ pub fn copy_line(s: &mut [u16], h: Here, k: Cap, i: u16) -> Step
                 return Step::Forbidden(Ground::Foreign);
             }
             table::give_value(s, h, Value::Obj(first));
+            table::hold(s, Value::Obj(first));
             Step::Next
         }
     }

@@ -1,4 +1,5 @@
-// Each line form: its checks in document 01's order, then its writes. A line that waits or stops has written nothing.
+// Each line form: its checks in document 01's order, then its writes, and a holder more or less for each value that gains or loses one. A line that
+// waits or stops has written nothing.
 use checks::Step;
 use checks::slot_of;
 use rules::Cap;
@@ -6,35 +7,36 @@ use rules::Value;
 use table::Here;
 ghost use mathlib.Core.Path.{_≡_};
 ghost use mathlib.Core.List.{[], _∷_};
-ghost use Prim.Native.Nat.{_/_, _≤_, _<_};
+ghost use Prim.Native.Nat.{_≤_, _<_};
 ghost use lib.ListN.{length};
-ghost use Rattle.rules.specs.Lists.{Every};
 ghost use Rattle.rules.specs.Script.{value, field, swap, call, cast, spawn, send, recv, bind, give};
 ghost use Rattle.rules.specs.State.{ready, threadAt};
 ghost use Rattle.rules.specs.Tables.{operandOf};
-ghost use Rattle.table.specs.StateTable.{Becomes, HasSlot, Placed};
-ghost use Rattle.checks.specs.NewItems.{itemSlots};
-ghost use Rattle.turn.specs.Performed.{emptied, itemEmptied, Always, Loaded, Performs, PerformsNew, PerformsSent};
+ghost use Rattle.table.specs.StateTable.{InTable, Placed};
+ghost use Rattle.turn.specs.Performed.{Leaves, LeavesItem, Always, Loaded, Performs, PerformsNew, PerformsSent};
 
 // ---- Operands
 
-// The slot of a taken operand is made absent.
-fn leave(s: &mut [u16], h: Here, w: u16)
-    requires { ⌜ (8192 ≤ length (now s)) × Placed h ⌝ }
-    ensures { λ _. ⌜ Becomes (now (s .entry)) (λ S. (w / 2 < 16) × HasSlot (h .thread) (h .depth) (w / 2) S) (emptied (h .thread) (h .depth) (operandOf w)) (now (s .exit)) ⌝ }
+// What an operand does to its slot, once its value v stands elsewhere too: a take makes the slot absent, so that v has moved; a read leaves v there, held
+// once more.
+fn leave(s: &mut [u16], h: Here, w: u16, v: Value)
+    requires { ⌜ (8192 ≤ length (now s)) × Placed h × InTable v ⌝ }
+    ensures { λ _. ⌜ Leaves (h .thread) (h .depth) w v (now (s .entry)) (now (s .exit)) ⌝ }
 {
     if w % 2 == 1 {
         table::clear_slot(s, h, slot_of(w));
+        return;
     }
+    table::hold(s, v);
 }
 
 // The same of an item of a new.
-fn leave_item(s: &mut [u16], h: Here, e: u16)
-    requires { ⌜ (8192 ≤ length (now s)) × Placed h ⌝ }
-    ensures { λ _. ⌜ Becomes (now (s .entry)) (λ S. Every (λ i. (i < 16) × HasSlot (h .thread) (h .depth) i S) (itemSlots e)) (itemEmptied (h .thread) (h .depth) e) (now (s .exit)) ⌝ }
+fn leave_item(s: &mut [u16], h: Here, e: u16, v: Value)
+    requires { ⌜ (8192 ≤ length (now s)) × Placed h × InTable v ⌝ }
+    ensures { λ _. ⌜ LeavesItem (h .thread) (h .depth) e v (now (s .entry)) (now (s .exit)) ⌝ }
 {
     if e != 0 {
-        leave(s, h, e - 1);
+        leave(s, h, e - 1, v);
     }
 }
 
@@ -48,8 +50,9 @@ pub fn value_line(s: &mut [u16], h: Here, w: u16) -> Step
     if !checks::passes(k) {
         return k;
     }
-    table::give_slot(s, h, slot_of(w));
-    leave(s, h, w);
+    let v = checks::operand(s, h, w);
+    table::give_value(s, h, v);
+    leave(s, h, w, v);
     Step::Next
 }
 
@@ -64,17 +67,21 @@ pub fn field_line(s: &mut [u16], h: Here, i: u16, j: u16) -> Step
         Value::Chan(_) => Step::WrongThing,
         Value::Obj(n) => {
             let v = table::field(s, n, j);
-            if checks::is_absent(v) {
-                return Step::NoField;
+            match v {
+                Value::Absent => Step::NoField,
+                Value::Chan(_) => Step::NoField, // no field holds a channel
+                Value::Obj(_) => {
+                    let foreign = checks::is_foreign(s, h.thread, n);
+                    let alias = checks::is_iso_object(s, v);
+                    let k = checks::permission_check(foreign, alias, false);
+                    if !checks::passes(k) {
+                        return k;
+                    }
+                    table::give_value(s, h, v);
+                    table::hold(s, v);
+                    Step::Next
+                }
             }
-            let foreign = checks::is_foreign(s, h.thread, n);
-            let alias = checks::is_iso_object(s, v);
-            let k = checks::permission_check(foreign, alias, false);
-            if !checks::passes(k) {
-                return k;
-            }
-            table::give_field(s, h, n, j % 4);
-            Step::Next
         }
     }
 }
@@ -88,7 +95,7 @@ pub fn swap_line(s: &mut [u16], h: Here, i: u16, j: u16, w: u16) -> Step
     if !checks::passes(first) {
         return first;
     }
-    let v = table::slot(s, h, slot_of(w));
+    let v = checks::operand(s, h, w);
     let x = checks::seen(s, h, i, w);
     match x {
         Value::Absent => Step::NoValue,
@@ -98,10 +105,17 @@ pub fn swap_line(s: &mut [u16], h: Here, i: u16, j: u16, w: u16) -> Step
             if !checks::passes(k) {
                 return k;
             }
-            table::give_field(s, h, n, j % 4); // the old value
-            table::store_field(s, h, n, j % 4, slot_of(w));
-            leave(s, h, w);
-            Step::Next
+            let old = table::field(s, n, j);
+            match old {
+                Value::Absent => Step::NoField, // the check has passed
+                Value::Chan(_) => Step::NoField, // no field holds a channel
+                Value::Obj(_) => {
+                    table::give_value(s, h, old); // it moves from the field to the slot
+                    table::store_field(s, n, j % 4, v);
+                    leave(s, h, w, v);
+                    Step::Next
+                }
+            }
         }
     }
 }
@@ -132,8 +146,10 @@ pub fn call_line(p: &[u16], s: &mut [u16], h: Here, i: u16, j: u16, w: u16) -> S
             if 15 <= h.depth {
                 return Step::UsedUp;
             }
-            table::push_frame(s, h, m - 1, i as usize % 16, slot_of(w));
-            leave(s, h, w); // the caller's slot keeps the target
+            let v = checks::operand(s, h, w);
+            table::push_frame(s, h, m - 1, Value::Obj(n), v);
+            table::hold(s, Value::Obj(n)); // the caller's slot keeps the target
+            leave(s, h, w, v);
             Step::Turned
         }
     }
@@ -143,17 +159,36 @@ pub fn new_line(s: &mut [u16], h: Here, k: Cap, kind: u16, a: u16, b: u16, c: u1
     requires { ⌜ (8192 ≤ length (now s)) × Placed h ⌝ }
     ensures { λ r. ⌜ PerformsNew (now (s .entry)) h k kind (a ∷ b ∷ c ∷ d ∷ []) r (now (s .exit)) ⌝ }
 {
-    let check = checks::new_check(s, h, k, a, b, c, d);
+    let first = checks::items_check(s, h, a, b, c, d);
+    if !checks::passes(first) {
+        return first;
+    }
+    let va = checks::item_value(s, h, a);
+    let vb = checks::item_value(s, h, b);
+    let vc = checks::item_value(s, h, c);
+    let vd = checks::item_value(s, h, d);
+    let check = checks::hold_check(s, h.thread, k, va, vb, vc, vd);
     if !checks::passes(check) {
         return check;
     }
     let n = table::object_count(s) % 256;
-    table::add_object(s, h, n, rules::cap_rank(k) as u16, kind, a, b, c, d);
+    table::add_object(
+        s,
+        h.thread as u16,
+        n,
+        rules::cap_rank(k) as u16,
+        kind,
+        va,
+        vb,
+        vc,
+        vd,
+    );
     table::give_value(s, h, Value::Obj(n));
-    leave_item(s, h, a);
-    leave_item(s, h, b);
-    leave_item(s, h, c);
-    leave_item(s, h, d);
+    table::hold(s, Value::Obj(n)); // in that slot
+    leave_item(s, h, a, va);
+    leave_item(s, h, b, vb);
+    leave_item(s, h, c, vc);
+    leave_item(s, h, d, vd);
     Step::Next
 }
 
@@ -165,8 +200,9 @@ pub fn cast_line(s: &mut [u16], h: Here, k: Cap, w: u16) -> Step
     if !checks::passes(check) {
         return check;
     }
-    table::give_slot(s, h, slot_of(w));
-    leave(s, h, w);
+    let v = checks::operand(s, h, w);
+    table::give_value(s, h, v);
+    leave(s, h, w, v);
     Step::Next
 }
 
@@ -194,7 +230,7 @@ fn put_line(s: &mut [u16], h: Here, i: u16, w: u16) -> Step
     if !checks::passes(first) {
         return first;
     }
-    let v = table::slot(s, h, slot_of(w));
+    let v = checks::operand(s, h, w);
     let x = checks::seen(s, h, i, w);
     match x {
         Value::Absent => Step::NoValue,
@@ -204,8 +240,8 @@ fn put_line(s: &mut [u16], h: Here, i: u16, w: u16) -> Step
             if !checks::passes(k) {
                 return k;
             }
-            table::put_message(s, h, c, slot_of(w));
-            leave(s, h, w);
+            table::put_message(s, h, c, v);
+            leave(s, h, w, v);
             Step::Stay
         }
     }
@@ -220,7 +256,8 @@ fn sent_line(s: &mut [u16], h: Here, i: u16, d: u16) -> Step
     if !checks::passes(k) {
         return k;
     }
-    table::give_slot(s, h, i as usize % 16);
+    let x = table::slot(s, h, i as usize % 16);
+    table::give_value(s, h, x); // the channel
     Step::Next
 }
 
@@ -245,10 +282,11 @@ pub fn recv_line(s: &mut [u16], h: Here, i: u16) -> Step
         Value::Absent => Step::NoValue,
         Value::Obj(_) => Step::WrongThing,
         Value::Chan(c) => {
-            if checks::is_absent(table::message(s, c)) {
+            let v = table::message(s, c);
+            if checks::is_absent(v) {
                 return Step::Waits;
             }
-            table::give_message(s, h, c);
+            table::give_value(s, h, v); // it moves from the channel to the slot
             table::empty_channel(s, c);
             Step::Next
         }
@@ -268,7 +306,9 @@ pub fn give_line(s: &mut [u16], h: Here, w: u16) -> Step
         table::drop_frame(s, h);
         return Step::Turned;
     }
-    table::return_slot(s, h, slot_of(w));
+    let v = checks::operand(s, h, w);
+    table::return_value(s, h, v);
+    table::hold(s, v);
     table::drop_frame(s, h);
     Step::Turned
 }

@@ -1,5 +1,5 @@
 -- `checks::form_checks::put_check` meets its contract: an operand that does not pass ends the rule; past the target the answer is `put_into`'s.
-use mathlib.Core.Path.{sym, _∙_}
+use mathlib.Core.Path.{refl, sym, _∙_}
 use borrow.Author.Tests.{not-true, not-false}
 use Rattle.table.proofs.StateReads.{channel-in-table}
 use Rattle.checks.proofs.ChannelChecks.{put-no-operand, put-no-target, put-of-object, put-to-channel}
@@ -16,11 +16,8 @@ passes-requires c κs = search needs
 returns : tie.Need-returns
 returns c = put-no-operand _ _ (c .before .before .operand-check .ensures) (sym (c .before .passes .ensures) ∙ not-true _ (c .if1 .taken))
 
-slot-of-requires : tie.Need-slot-of-requires
-slot-of-requires c κs = search needs
-
-slot-requires : tie.Need-slot-requires
-slot-requires c κs = search needs
+operand-requires : tie.Need-operand-requires
+operand-requires c κs = search needs
 
 seen-requires : tie.Need-seen-requires
 seen-requires c κs = search needs
@@ -35,31 +32,31 @@ enum-known-x : tie.Need-enum-known-x
 enum-known-x c = search needs
 
 put-into-requires : tie.Need-put-into-requires
-put-into-requires c κs = (search needs, channel-in-table _ _ (c .before .x .given .1) (c .before .before .before .seen .ensures .0), c .before .before .before .before .slot .ensures .0 .1)
+put-into-requires c κs = (search needs, channel-in-table _ _ (c .before .x .given .1) (c .before .before .before .seen .ensures .0), c .before .before .before .before .operand .ensures .0)
 
 returns-2 : tie.Need-returns-2
 returns-2 c =
     let target = c .before .before in
     put-no-target _ _
-    (target .before .before .before .before .before .operand-check .ensures)
-    (sym (target .before .before .before .before .passes .ensures) ∙ not-false _ (target .before .before .before .if1 .left)) (target .seen .ensures .1)
+    (target .before .before .before .before .operand-check .ensures)
+    (sym (target .before .before .before .passes .ensures) ∙ not-false _ (target .before .before .if1 .left)) (target .seen .ensures .1)
     (c .enum-told .given .1)
 
 returns-3 : tie.Need-returns-3
 returns-3 c =
     let target = c .before .before in
     put-of-object _ _
-    (target .before .before .before .before .before .operand-check .ensures)
-    (sym (target .before .before .before .before .passes .ensures) ∙ not-false _ (target .before .before .before .if1 .left)) (target .seen .ensures .1)
+    (target .before .before .before .before .operand-check .ensures)
+    (sym (target .before .before .before .passes .ensures) ∙ not-false _ (target .before .before .if1 .left)) (target .seen .ensures .1)
     (c .enum-told2 .given .1)
 
 returns-4 : tie.Need-returns-4
 returns-4 c =
     let target = c .before .before .before .before in
     put-to-channel _ _
-    (target .before .before .before .before .before .operand-check .ensures)
-    (sym (target .before .before .before .before .passes .ensures) ∙ not-false _ (target .before .before .before .if1 .left)) (target .seen .ensures .1)
-    (c .before .before .x .given .1) (target .before .before .slot-of .ensures .0) (target .before .slot .ensures .1) (c .put-into .ensures)
+    (target .before .before .before .before .operand-check .ensures)
+    (sym (target .before .before .before .passes .ensures) ∙ not-false _ (target .before .before .if1 .left)) (target .seen .ensures .1)
+    (c .before .before .x .given .1) refl (target .before .operand .ensures .1) (c .put-into .ensures)
 
 pub put-check-spec : {M : Type 1} → statement M
 put-check-spec =
@@ -68,8 +65,7 @@ put-check-spec =
     operand-check-requires
     passes-requires
     returns
-    slot-of-requires
-    slot-requires
+    operand-requires
     seen-requires
     enum-told
     enum-told-2

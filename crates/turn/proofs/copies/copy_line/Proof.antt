@@ -53,6 +53,9 @@ returns-2 c =
 give-value-requires : tie.Need-give-value-requires
 give-value-requires c κs = search needs
 
+hold-requires : tie.Need-hold-requires
+hold-requires c κs = search needs
+
 same-length-3 : tie.Need-same-length-3
 same-length-3 c = search needs
 
@@ -70,11 +73,12 @@ same-length-5 c = search needs
 
 returns-5 : tie.Need-returns-5
 returns-5 c =
-    let at-copies = c .before .before .before .before .before .before .before .before in
+    let at-gives = c .before .before .before .before .before .before in
+    let at-copies = at-gives .before .before .before .before .before .before in
     let at-count = at-copies .before .before .before in
     let at-x = at-count .before .before .before in
     copy-moves _ _ (at-x .before .before .slot .ensures .1) (at-x .x .given .1) (at-copies .copy-from .ensures) (at-copies .before .cap-rank .ensures .0)
-    (c .before .before .before .before .if2 .left) (at-count .object-count .ensures .1) refl (c .before .before .give-value .ensures)
+    (at-gives .before .before .if2 .left) (at-count .object-count .ensures .1) refl (at-gives .give-value .ensures) (c .before .before .hold .ensures .1)
 
 pub copy-line-spec : {M : Type 1} → statement M
 copy-line-spec =
@@ -93,6 +97,7 @@ copy-line-spec =
     same-length-2
     returns-2
     give-value-requires
+    hold-requires
     same-length-3
     returns-3
     same-length-4

@@ -1,4 +1,5 @@
--- `turn::form_moves::call_line` meets its contract: each way out is one of the rule's; where it passes the frame is pushed, then the operand's slot is left.
+-- `turn::form_moves::call_line` meets its contract: past its operand and its target the method, the permission and the room are looked at in turn; a frame is pushed, its target is held, then the
+-- operand's slot is left.
 use native.Mathlib.Omega.{arith}
 use borrow.Author.Tests.{not-true, not-false}
 use mathlib.Core.Path.{refl, sym, _∙_}
@@ -21,8 +22,7 @@ same-length : tie.Need-same-length
 same-length c = search needs
 
 returns : tie.Need-returns
-returns c =
-    let fails = sym (c .before .passes .ensures) ∙ not-true _ (c .if1 .taken) in
+returns c = let fails = sym (c .before .passes .ensures) ∙ not-true _ (c .if1 .taken) in
     line-halts (call-answers _ _ _ (call-no-operand _ _ _ (c .before .before .operand-check .ensures) fails)) fails
 
 seen-requires : tie.Need-seen-requires
@@ -38,7 +38,9 @@ enum-known-x : tie.Need-enum-known-x
 enum-known-x c = search needs
 
 method-item-requires : tie.Need-method-item-requires
-method-item-requires c κs = (search needs, search needs, object-in-table _ _ (c .before .before .x .given .1) (c .before .before .before .before .seen .ensures .0))
+method-item-requires c κs =
+    let at-seen = c .before .before .before .before in
+    (search needs, search needs, object-in-table _ _ (c .before .before .x .given .1) (at-seen .seen .ensures .0))
 
 same-length-2 : tie.Need-same-length-2
 same-length-2 c = search needs
@@ -46,12 +48,18 @@ same-length-2 c = search needs
 returns-2 : tie.Need-returns-2
 returns-2 c =
     let at-x = c .before .before .before .before in
-    let at-if1 = at-x .before .before .before .before in
-    line-halts (call-answers _ _ _ (call-no-method _ _ _ (at-if1 .before .before .operand-check .ensures) (sym (at-if1 .before .passes .ensures) ∙ not-false _ (at-if1 .if1 .left))
-    (at-x .before .before .seen .ensures .1) (at-x .x .given .1) (c .before .method-item .ensures) (c .if2 .taken))) refl
+    let at-seen = at-x .before .before in
+    let at-if1 = at-seen .before .before in
+    let at-passes = at-if1 .before in
+    let at-operand-check = at-passes .before in
+    line-halts (call-answers _ _ _ (call-no-method _ _ _ (at-operand-check .operand-check .ensures) (sym (at-passes .passes .ensures) ∙ not-false _ (at-if1 .if1 .left))
+    (at-seen .seen .ensures .1) (at-x .x .given .1) (c .before .method-item .ensures) (c .if2 .taken))) refl
 
 is-foreign-requires : tie.Need-is-foreign-requires
-is-foreign-requires c κs = (search needs, object-in-table _ _ (c .before .before .before .before .before .x .given .1) (c .before .before .before .before .before .before .before .seen .ensures .0))
+is-foreign-requires c κs =
+    let at-x = c .before .before .before .before .before in
+    let at-seen = at-x .before .before in
+    (search needs, object-in-table _ _ (at-x .x .given .1) (at-seen .seen .ensures .0))
 
 permission-check-requires : tie.Need-permission-check-requires
 permission-check-requires c κs = search needs
@@ -64,13 +72,17 @@ same-length-3 c = search needs
 
 returns-3 : tie.Need-returns-3
 returns-3 c =
-    let asked = c .before .before in
-    let at-if2 = asked .before .before .before in
-    let at-x = at-if2 .before .before .before .before in
-    let at-if1 = at-x .before .before .before .before in
+    let at-is-foreign = c .before .before .before in
+    let at-if2 = at-is-foreign .before .before in
+    let at-method-item = at-if2 .before in
+    let at-x = at-method-item .before .before .before in
+    let at-seen = at-x .before .before in
+    let at-if1 = at-seen .before .before in
+    let at-passes = at-if1 .before in
+    let at-operand-check = at-passes .before in
     let fails = sym (c .before .passes2 .ensures) ∙ not-true _ (c .if3 .taken) in
-    line-halts (call-answers _ _ _ (call-forbidden _ _ _ (at-if1 .before .before .operand-check .ensures) (sym (at-if1 .before .passes .ensures) ∙ not-false _ (at-if1 .if1 .left))
-    (at-x .before .before .seen .ensures .1) (at-x .x .given .1) (at-if2 .before .method-item .ensures) (at-if2 .if2 .left) (asked .before .is-foreign .ensures) (asked .permission-check .ensures)
+    line-halts (call-answers _ _ _ (call-forbidden _ _ _ (at-operand-check .operand-check .ensures) (sym (at-passes .passes .ensures) ∙ not-false _ (at-if1 .if1 .left))
+    (at-seen .seen .ensures .1) (at-x .x .given .1) (at-method-item .method-item .ensures) (at-if2 .if2 .left) (at-is-foreign .is-foreign .ensures) (c .before .before .permission-check .ensures)
     fails)) fails
 
 same-length-4 : tie.Need-same-length-4
@@ -78,32 +90,49 @@ same-length-4 c = search needs
 
 returns-4 : tie.Need-returns-4
 returns-4 c =
-    let at-if3 = c .before .before in
-    let asked = at-if3 .before .before in
-    let at-is-foreign = asked .before in
-    let at-method-item = at-is-foreign .before .before .before in
+    let at-passes2 = c .before .before .before in
+    let at-permission-check = at-passes2 .before in
+    let at-is-foreign = at-permission-check .before in
+    let at-if2 = at-is-foreign .before .before in
+    let at-method-item = at-if2 .before in
     let at-x = at-method-item .before .before .before in
-    let at-if1 = at-x .before .before .before .before in
-    line-halts (call-answers _ _ _ (call-used-up _ _ _ (at-if1 .before .before .operand-check .ensures) (sym (at-if1 .before .passes .ensures) ∙ not-false _ (at-if1 .if1 .left))
-    (at-x .before .before .seen .ensures .1) (at-x .x .given .1) (at-method-item .method-item .ensures) (at-is-foreign .before .before .if2 .left) (at-is-foreign .is-foreign .ensures)
-    (passed-is-ok _ (asked .permission-check .ensures) (sym (at-if3 .before .passes2 .ensures) ∙ not-false _ (at-if3 .if3 .left))) (c .if4 .taken))) refl
+    let at-seen = at-x .before .before in
+    let at-if1 = at-seen .before .before in
+    let at-passes = at-if1 .before in
+    let at-operand-check = at-passes .before in
+    line-halts (call-answers _ _ _ (call-used-up _ _ _ (at-operand-check .operand-check .ensures) (sym (at-passes .passes .ensures) ∙ not-false _ (at-if1 .if1 .left))
+    (at-seen .seen .ensures .1) (at-x .x .given .1) (at-method-item .method-item .ensures) (at-if2 .if2 .left) (at-is-foreign .is-foreign .ensures)
+    (passed-is-ok _ (at-permission-check .permission-check .ensures) (sym (at-passes2 .passes2 .ensures) ∙ not-false _ (c .before .before .if3 .left))) (c .if4 .taken))) refl
+
+operand-requires : tie.Need-operand-requires
+operand-requires c κs = search needs
 
 sub-push-frame : tie.Need-sub-push-frame
 sub-push-frame c = search needs
 
-slot-of-requires : tie.Need-slot-of-requires
-slot-of-requires c κs = search needs
-
 push-frame-requires : tie.Need-push-frame-requires
 push-frame-requires c κs =
-    let at-pre = c .before .before .before .before .before .before .before .before .before .before .before .before .before .before .before .before .before .before .before .before .before .before .before in
-    (at-pre .pre .1, at-pre .pre .2, omega (arith, c .before .before .if4 .left), search needs, search needs)
+    let at-if4 = c .before .before .before in
+    let at-x = at-if4 .before .before .before .before .before .before .before .before .before .before .before in
+    let at-seen = at-x .before .before in
+    let start = at-seen .before .before .before .before .before .before .before .before in
+    (start .pre .1, start .pre .2, omega (arith, at-if4 .if4 .left), object-in-table _ _ (at-x .x .given .1) (at-seen .seen .ensures .0), c .before .operand .ensures .0)
+
+hold-requires : tie.Need-hold-requires
+hold-requires c κs =
+    let at-push-frame = c .before .before .before in
+    let at-x = at-push-frame .before .before .before .before .before .before .before .before .before .before .before .before .before .before .before in
+    let at-seen = at-x .before .before in
+    let start = at-seen .before .before .before .before .before .before .before .before in
+    (omega (arith, at-push-frame .push-frame .kept .0, start .pre .1), object-in-table _ _ (at-x .x .given .1) (at-seen .seen .ensures .0))
 
 leave-requires : tie.Need-leave-requires
 leave-requires c κs =
-    let at-push-frame = c .before .before .before in
-    let at-pre = at-push-frame .before .before .before .before .before .before .before .before .before .before .before .before .before .before .before .before .before .before .before .before .before .before .before .before in
-    (omega (arith, at-push-frame .push-frame .kept .0, at-pre .pre .1), at-pre .pre .2)
+    let at-hold = c .before .before .before in
+    let at-push-frame = at-hold .before .before .before .before in
+    let at-operand = at-push-frame .before .before in
+    let start = at-operand .before .before .before .before .before .before .before .before .before .before .before .before .before .before .before .before .before .before .before .before .before .before .before in
+    (omega (arith, at-hold .hold .kept .0, at-push-frame .push-frame .kept .0, start .pre .1), start .pre .2, at-operand .operand .ensures .0)
 
 same-length-5 : tie.Need-same-length-5
 same-length-5 c = search needs
@@ -111,7 +140,9 @@ same-length-5 c = search needs
 returns-5 : tie.Need-returns-5
 returns-5 c =
     let at-if1 = c .before .before .before .before in
-    line-halts (call-answers _ _ _ (call-no-target _ _ _ (at-if1 .before .before .operand-check .ensures) (sym (at-if1 .before .passes .ensures) ∙ not-false _ (at-if1 .if1 .left))
+    let at-passes = at-if1 .before in
+    let at-operand-check = at-passes .before in
+    line-halts (call-answers _ _ _ (call-no-target _ _ _ (at-operand-check .operand-check .ensures) (sym (at-passes .passes .ensures) ∙ not-false _ (at-if1 .if1 .left))
     (c .before .before .seen .ensures .1) (c .enum-told .given .1))) refl
 
 same-length-6 : tie.Need-same-length-6
@@ -120,7 +151,9 @@ same-length-6 c = search needs
 returns-6 : tie.Need-returns-6
 returns-6 c =
     let at-if1 = c .before .before .before .before in
-    line-halts (call-answers _ _ _ (call-of-channel _ _ _ (at-if1 .before .before .operand-check .ensures) (sym (at-if1 .before .passes .ensures) ∙ not-false _ (at-if1 .if1 .left))
+    let at-passes = at-if1 .before in
+    let at-operand-check = at-passes .before in
+    line-halts (call-answers _ _ _ (call-of-channel _ _ _ (at-operand-check .operand-check .ensures) (sym (at-passes .passes .ensures) ∙ not-false _ (at-if1 .if1 .left))
     (c .before .before .seen .ensures .1) (c .enum-told2 .given .1))) refl
 
 same-length-7 : tie.Need-same-length-7
@@ -128,19 +161,26 @@ same-length-7 c = search needs
 
 returns-7 : tie.Need-returns-7
 returns-7 c =
-    let at-push-frame = c .before .before .before .before .before .before in
-    let at-if4 = at-push-frame .before .before .before in
+    let at-hold = c .before .before .before .before .before .before in
+    let at-push-frame = at-hold .before .before .before .before in
+    let at-operand = at-push-frame .before .before in
+    let at-if4 = at-operand .before .before in
     let at-if3 = at-if4 .before .before in
-    let asked = at-if3 .before .before in
-    let at-is-foreign = asked .before in
-    let at-method-item = at-is-foreign .before .before .before in
+    let at-passes2 = at-if3 .before in
+    let at-permission-check = at-passes2 .before in
+    let at-is-foreign = at-permission-check .before in
+    let at-if2 = at-is-foreign .before .before in
+    let at-method-item = at-if2 .before in
     let at-x = at-method-item .before .before .before in
-    let at-if1 = at-x .before .before .before .before in
-    line-moves (call-answers _ _ _ (call-passes _ _ _ (at-if1 .before .before .operand-check .ensures) (sym (at-if1 .before .passes .ensures) ∙ not-false _ (at-if1 .if1 .left))
-    (at-x .before .before .seen .ensures .1) (at-x .x .given .1) (at-method-item .method-item .ensures) (at-is-foreign .before .before .if2 .left) (at-is-foreign .is-foreign .ensures)
-    (passed-is-ok _ (asked .permission-check .ensures) (sym (at-if3 .before .passes2 .ensures) ∙ not-false _ (at-if3 .if3 .left))) (at-if4 .if4 .left))) refl
-    (call-writes _ _ _ (at-x .before .before .seen .ensures .1) (at-x .x .given .1) (at-method-item .method-item .ensures) (at-push-frame .before .slot-of .ensures .0)
-    (at-push-frame .push-frame .ensures) (c .before .before .leave .ensures))
+    let at-seen = at-x .before .before in
+    let at-if1 = at-seen .before .before in
+    let at-passes = at-if1 .before in
+    let at-operand-check = at-passes .before in
+    line-moves (call-answers _ _ _ (call-passes _ _ _ (at-operand-check .operand-check .ensures) (sym (at-passes .passes .ensures) ∙ not-false _ (at-if1 .if1 .left))
+    (at-seen .seen .ensures .1) (at-x .x .given .1) (at-method-item .method-item .ensures) (at-if2 .if2 .left) (at-is-foreign .is-foreign .ensures)
+    (passed-is-ok _ (at-permission-check .permission-check .ensures) (sym (at-passes2 .passes2 .ensures) ∙ not-false _ (at-if3 .if3 .left))) (at-if4 .if4 .left))) refl
+    (call-writes _ _ _ (at-seen .seen .ensures .1) (at-x .x .given .1) (at-method-item .method-item .ensures) (at-operand .operand .ensures .1)
+    (at-push-frame .push-frame .ensures) (at-hold .hold .ensures .1) (c .before .before .leave .ensures))
 
 pub call-line-spec : {M : Type 1} → statement M
 call-line-spec =
@@ -164,9 +204,10 @@ call-line-spec =
     returns-3
     same-length-4
     returns-4
+    operand-requires
     sub-push-frame
-    slot-of-requires
     push-frame-requires
+    hold-requires
     leave-requires
     same-length-5
     returns-5

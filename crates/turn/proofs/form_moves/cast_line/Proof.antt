@@ -1,4 +1,4 @@
--- `turn::form_moves::cast_line` meets its contract: the check is the line's; the slot's value is given, then the slot is left.
+-- `turn::form_moves::cast_line` meets its contract: its check is the line's; the operand's value is given, then its slot is left.
 use borrow.Author.Tests.{not-true, not-false}
 use mathlib.Core.Path.{sym, _∙_}
 use Rattle.turn.proofs.TurnSteps.{line-halts, line-moves}
@@ -19,11 +19,11 @@ same-length c = search needs
 returns : tie.Need-returns
 returns c = line-halts (cast-answers _ _ (c .before .before .cast-check .ensures)) (sym (c .before .passes .ensures) ∙ not-true _ (c .if1 .taken))
 
-slot-of-requires : tie.Need-slot-of-requires
-slot-of-requires c κs = search needs
+operand-requires : tie.Need-operand-requires
+operand-requires c κs = search needs
 
-give-slot-requires : tie.Need-give-slot-requires
-give-slot-requires c κs = search needs
+give-value-requires : tie.Need-give-value-requires
+give-value-requires c κs = search needs
 
 leave-requires : tie.Need-leave-requires
 leave-requires c κs = search needs
@@ -33,10 +33,13 @@ same-length-2 c = search needs
 
 returns-2 : tie.Need-returns-2
 returns-2 c =
-    let at-give-slot = c .before .before .before .before .before .before in
-    let at-if1 = at-give-slot .before .before .before in
-    line-moves (cast-answers _ _ (at-if1 .before .before .cast-check .ensures)) (sym (at-if1 .before .passes .ensures) ∙ not-false _ (at-if1 .if1 .left))
-    (cast-writes _ (at-give-slot .before .slot-of .ensures .0) (at-give-slot .give-slot .ensures) (c .before .before .leave .ensures) _)
+    let at-give-value = c .before .before .before .before .before .before in
+    let at-operand = at-give-value .before .before in
+    let at-if1 = at-operand .before .before in
+    let at-passes = at-if1 .before in
+    let at-cast-check = at-passes .before in
+    line-moves (cast-answers _ _ (at-cast-check .cast-check .ensures)) (sym (at-passes .passes .ensures) ∙ not-false _ (at-if1 .if1 .left))
+    (cast-writes _ (at-operand .operand .ensures .1) (at-give-value .give-value .ensures) (c .before .before .leave .ensures) _)
 
 pub cast-line-spec : {M : Type 1} → statement M
 cast-line-spec =
@@ -46,8 +49,8 @@ cast-line-spec =
     passes-requires
     same-length
     returns
-    slot-of-requires
-    give-slot-requires
+    operand-requires
+    give-value-requires
     leave-requires
     same-length-2
     returns-2)

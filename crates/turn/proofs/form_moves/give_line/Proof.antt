@@ -1,4 +1,4 @@
--- `turn::form_moves::give_line` meets its contract: the operand's check is the line's; the caller, if there is one, is given the slot's value, then the frame ends.
+-- `turn::form_moves::give_line` meets its contract: the operand's check is the line's; the caller, if there is one, is given the operand's value, which it then holds; then the frame ends.
 use borrow.Author.Tests.{not-true, not-false}
 use mathlib.Core.Path.{sym, _∙_}
 use Rattle.turn.proofs.TurnSteps.{line-halts, line-moves}
@@ -28,15 +28,20 @@ same-length-2 c = search needs
 returns-2 : tie.Need-returns-2
 returns-2 c =
     let at-if2 = c .before .before .before .before in
-    let at-passes = at-if2 .before .before .before in
-    line-moves (give-answers _ (at-passes .before .operand-check .ensures)) (sym (at-passes .passes .ensures) ∙ not-false _ (at-if2 .before .before .if1 .left))
+    let at-if1 = at-if2 .before .before in
+    let at-passes = at-if1 .before in
+    let at-operand-check = at-passes .before in
+    line-moves (give-answers _ (at-operand-check .operand-check .ensures)) (sym (at-passes .passes .ensures) ∙ not-false _ (at-if1 .if1 .left))
     (finish-writes (at-if2 .if2 .taken) (c .before .before .drop-frame .ensures))
 
-slot-of-requires : tie.Need-slot-of-requires
-slot-of-requires c κs = search needs
+operand-requires : tie.Need-operand-requires
+operand-requires c κs = search needs
 
-return-slot-requires : tie.Need-return-slot-requires
-return-slot-requires c κs = search needs
+return-value-requires : tie.Need-return-value-requires
+return-value-requires c κs = search needs
+
+hold-requires : tie.Need-hold-requires
+hold-requires c κs = search needs
 
 drop-frame-requires-2 : tie.Need-drop-frame-requires-2
 drop-frame-requires-2 c κs = search needs
@@ -46,11 +51,15 @@ same-length-3 c = search needs
 
 returns-3 : tie.Need-returns-3
 returns-3 c =
-    let at-return-slot = c .before .before .before .before .before .before in
-    let at-if2 = at-return-slot .before .before .before in
-    let at-passes = at-if2 .before .before .before in
-    line-moves (give-answers _ (at-passes .before .operand-check .ensures)) (sym (at-passes .passes .ensures) ∙ not-false _ (at-if2 .before .before .if1 .left))
-    (return-writes _ (at-if2 .if2 .left) (at-return-slot .before .slot-of .ensures .0) (at-return-slot .return-slot .ensures) (c .before .before .drop-frame2 .ensures))
+    let at-hold = c .before .before .before .before .before .before in
+    let at-return-value = at-hold .before .before .before .before in
+    let at-operand = at-return-value .before .before in
+    let at-if2 = at-operand .before .before in
+    let at-if1 = at-if2 .before .before in
+    let at-passes = at-if1 .before in
+    let at-operand-check = at-passes .before in
+    line-moves (give-answers _ (at-operand-check .operand-check .ensures)) (sym (at-passes .passes .ensures) ∙ not-false _ (at-if1 .if1 .left))
+    (return-writes _ (at-if2 .if2 .left) (at-operand .operand .ensures .1) (at-return-value .return-value .ensures) (at-hold .hold .ensures .1) (c .before .before .drop-frame2 .ensures))
 
 pub give-line-spec : {M : Type 1} → statement M
 give-line-spec =
@@ -63,8 +72,9 @@ give-line-spec =
     drop-frame-requires
     same-length-2
     returns-2
-    slot-of-requires
-    return-slot-requires
+    operand-requires
+    return-value-requires
+    hold-requires
     drop-frame-requires-2
     same-length-3
     returns-3)

@@ -1,4 +1,4 @@
--- `turn::form_moves::put_line` meets its contract: past its operand and its target the check is `put_into`'s; the message is put, then the operand's slot is left.
+-- `turn::form_moves::put_line` meets its contract: past its operand and its target the check is `put_into`'s; the operand's value is put as the message, then its slot is left.
 use borrow.Author.Tests.{not-true, not-false}
 use mathlib.Core.Path.{refl, sym, _∙_}
 use Rattle.table.proofs.StateReads.{channel-in-table}
@@ -19,15 +19,11 @@ same-length : tie.Need-same-length
 same-length c = search needs
 
 returns : tie.Need-returns
-returns c =
-    let fails = sym (c .before .passes .ensures) ∙ not-true _ (c .if1 .taken) in
+returns c = let fails = sym (c .before .passes .ensures) ∙ not-true _ (c .if1 .taken) in
     line-halts (put-answers _ _ (put-no-operand _ _ (c .before .before .operand-check .ensures) fails)) fails
 
-slot-of-requires : tie.Need-slot-of-requires
-slot-of-requires c κs = search needs
-
-slot-requires : tie.Need-slot-requires
-slot-requires c κs = search needs
+operand-requires : tie.Need-operand-requires
+operand-requires c κs = search needs
 
 seen-requires : tie.Need-seen-requires
 seen-requires c κs = search needs
@@ -44,7 +40,8 @@ enum-known-x c = search needs
 put-into-requires : tie.Need-put-into-requires
 put-into-requires c κs =
     let at-seen = c .before .before .before .before in
-    (search needs, channel-in-table _ _ (c .before .before .x .given .1) (at-seen .seen .ensures .0), at-seen .before .before .slot .ensures .0 .1)
+    let at-operand = at-seen .before .before in
+    (search needs, channel-in-table _ _ (c .before .before .x .given .1) (at-seen .seen .ensures .0), at-operand .operand .ensures .0)
 
 passes-requires-2 : tie.Need-passes-requires-2
 passes-requires-2 c κs = search needs
@@ -55,19 +52,22 @@ same-length-2 c = search needs
 returns-2 : tie.Need-returns-2
 returns-2 c =
     let at-x = c .before .before .before .before .before in
-    let at-slot = at-x .before .before .before .before in
-    let at-if1 = at-slot .before .before .before in
-    line-halts (put-answers _ _ (put-to-channel _ _ (at-if1 .before .before .operand-check .ensures) (sym (at-if1 .before .passes .ensures) ∙ not-false _ (at-if1 .if1 .left))
-    (at-x .before .before .seen .ensures .1) (at-x .x .given .1) (at-slot .before .slot-of .ensures .0) (at-slot .slot .ensures .1) (c .before .before .put-into .ensures)))
+    let at-seen = at-x .before .before in
+    let at-operand = at-seen .before .before in
+    let at-if1 = at-operand .before .before in
+    let at-passes = at-if1 .before in
+    let at-operand-check = at-passes .before in
+    line-halts (put-answers _ _ (put-to-channel _ _ (at-operand-check .operand-check .ensures) (sym (at-passes .passes .ensures) ∙ not-false _ (at-if1 .if1 .left))
+    (at-seen .seen .ensures .1) (at-x .x .given .1) refl (at-operand .operand .ensures .1) (c .before .before .put-into .ensures)))
     (sym (c .before .passes2 .ensures) ∙ not-true _ (c .if2 .taken))
-
-slot-of-requires-2 : tie.Need-slot-of-requires-2
-slot-of-requires-2 c κs = search needs
 
 put-message-requires : tie.Need-put-message-requires
 put-message-requires c κs =
-    let at-x = c .before .before .before .before .before .before .before in
-    (search needs, search needs, channel-in-table _ _ (at-x .x .given .1) (at-x .before .before .seen .ensures .0), c .slot-of2 .ensures .1)
+    let at-x = c .before .before .before .before .before .before in
+    let at-seen = at-x .before .before in
+    let at-operand = at-seen .before .before in
+    let start = at-operand .before .before .before .before .before .before .before in
+    (start .pre .0, start .pre .1, channel-in-table _ _ (at-x .x .given .1) (at-seen .seen .ensures .0), at-operand .operand .ensures .0)
 
 leave-requires : tie.Need-leave-requires
 leave-requires c κs = search needs
@@ -77,18 +77,20 @@ same-length-3 c = search needs
 
 returns-3 : tie.Need-returns-3
 returns-3 c =
-    let at-if1 = c .before .before .before .before .before .before .before in
-    line-halts (put-answers _ _ (put-no-target _ _ (at-if1 .before .before .operand-check .ensures) (sym (at-if1 .before .passes .ensures) ∙ not-false _ (at-if1 .if1 .left))
-    (c .before .before .seen .ensures .1) (c .enum-told .given .1))) refl
+    let at-if1 = c .before .before .before .before .before .before in
+    let at-passes = at-if1 .before in
+    let at-operand-check = at-passes .before in
+    line-halts (put-answers _ _ (put-no-target _ _ (at-operand-check .operand-check .ensures) (sym (at-passes .passes .ensures) ∙ not-false _ (at-if1 .if1 .left)) (c .before .before .seen .ensures .1) (c .enum-told .given .1))) refl
 
 same-length-4 : tie.Need-same-length-4
 same-length-4 c = search needs
 
 returns-4 : tie.Need-returns-4
 returns-4 c =
-    let at-if1 = c .before .before .before .before .before .before .before in
-    line-halts (put-answers _ _ (put-of-object _ _ (at-if1 .before .before .operand-check .ensures) (sym (at-if1 .before .passes .ensures) ∙ not-false _ (at-if1 .if1 .left))
-    (c .before .before .seen .ensures .1) (c .enum-told2 .given .1))) refl
+    let at-if1 = c .before .before .before .before .before .before in
+    let at-passes = at-if1 .before in
+    let at-operand-check = at-passes .before in
+    line-halts (put-answers _ _ (put-of-object _ _ (at-operand-check .operand-check .ensures) (sym (at-passes .passes .ensures) ∙ not-false _ (at-if1 .if1 .left)) (c .before .before .seen .ensures .1) (c .enum-told2 .given .1))) refl
 
 same-length-5 : tie.Need-same-length-5
 same-length-5 c = search needs
@@ -96,16 +98,19 @@ same-length-5 c = search needs
 returns-5 : tie.Need-returns-5
 returns-5 c =
     let at-put-message = c .before .before .before .before .before .before in
-    let at-if2 = at-put-message .before .before .before in
-    let at-x = at-if2 .before .before .before .before .before in
-    let at-slot = at-x .before .before .before .before in
-    let at-if1 = at-slot .before .before .before in
-    line-moves {k = at-if2 .before .before .put-into .result} (put-answers _ _
-    (put-to-channel _ _ (at-if1 .before .before .operand-check .ensures) (sym (at-if1 .before .passes .ensures) ∙ not-false _ (at-if1 .if1 .left)) (at-x .before .before .seen .ensures .1)
-    (at-x .x .given .1) (at-slot .before .slot-of .ensures .0) (at-slot .slot .ensures .1) (at-if2 .before .before .put-into .ensures)))
-    (sym (at-if2 .before .passes2 .ensures) ∙ not-false _ (at-if2 .if2 .left))
-    (put-writes _ _ (at-x .before .before .seen .ensures .1) (at-x .x .given .1) (at-put-message .before .slot-of2 .ensures .0) (at-put-message .put-message .ensures)
-    (c .before .before .leave .ensures))
+    let at-if2 = at-put-message .before .before in
+    let at-passes2 = at-if2 .before in
+    let at-put-into = at-passes2 .before in
+    let at-x = at-put-into .before .before .before in
+    let at-seen = at-x .before .before in
+    let at-operand = at-seen .before .before in
+    let at-if1 = at-operand .before .before in
+    let at-passes = at-if1 .before in
+    let at-operand-check = at-passes .before in
+    line-moves {k = at-put-into .put-into .result} (put-answers _ _ (put-to-channel _ _ (at-operand-check .operand-check .ensures) (sym (at-passes .passes .ensures) ∙ not-false _ (at-if1 .if1 .left))
+    (at-seen .seen .ensures .1) (at-x .x .given .1) refl (at-operand .operand .ensures .1) (at-put-into .put-into .ensures)))
+    (sym (at-passes2 .passes2 .ensures) ∙ not-false _ (at-if2 .if2 .left))
+    (put-writes _ _ (at-seen .seen .ensures .1) (at-x .x .given .1) (at-operand .operand .ensures .1) (at-put-message .put-message .ensures) (c .before .before .leave .ensures))
 
 pub put-line-spec : {M : Type 1} → statement M
 put-line-spec =
@@ -115,8 +120,7 @@ put-line-spec =
     passes-requires
     same-length
     returns
-    slot-of-requires
-    slot-requires
+    operand-requires
     seen-requires
     enum-told
     enum-told-2
@@ -125,7 +129,6 @@ put-line-spec =
     passes-requires-2
     same-length-2
     returns-2
-    slot-of-requires-2
     put-message-requires
     leave-requires
     same-length-3

@@ -21,7 +21,9 @@ enum-known-x : tie.Need-enum-known-x
 enum-known-x c = search needs
 
 message-requires : tie.Need-message-requires
-message-requires c κs = (search needs, channel-in-table _ _ (c .before .before .x .given .1) (c .before .before .before .before .slot .ensures .0 .1))
+message-requires c κs =
+    let at-slot = c .before .before .before .before in
+    (search needs, channel-in-table _ _ (c .before .before .x .given .1) (at-slot .slot .ensures .0 .1))
 
 is-absent-requires : tie.Need-is-absent-requires
 is-absent-requires c κs = search needs
@@ -32,18 +34,18 @@ same-length c = search needs
 returns : tie.Need-returns
 returns c =
     let at-x = c .before .before .before .before .before in
-    line-halts (recv-answers _ (recv-empty _ (at-x .before .before .slot .ensures .1) (at-x .x .given .1) (c .before .before .message .ensures .1)
+    let at-slot = at-x .before .before in
+    line-halts (recv-answers _ (recv-empty _ (at-slot .slot .ensures .1) (at-x .x .given .1) (c .before .before .message .ensures .1)
     (sym (c .before .is-absent .ensures) ∙ c .if1 .taken))) refl
 
-give-message-requires : tie.Need-give-message-requires
-give-message-requires c κs =
-    let at-x = c .before .before .before .before .before .before in
-    (search needs, search needs, channel-in-table _ _ (at-x .x .given .1) (at-x .before .before .slot .ensures .0 .1))
+give-value-requires : tie.Need-give-value-requires
+give-value-requires c κs = search needs
 
 empty-channel-requires : tie.Need-empty-channel-requires
 empty-channel-requires c κs =
     let at-x = c .before .before .before .before .before .before .before .before .before .before in
-    (search needs, channel-in-table _ _ (at-x .x .given .1) (at-x .before .before .slot .ensures .0 .1))
+    let at-slot = at-x .before .before in
+    (search needs, channel-in-table _ _ (at-x .x .given .1) (at-slot .slot .ensures .0 .1))
 
 same-length-2 : tie.Need-same-length-2
 same-length-2 c = search needs
@@ -62,12 +64,14 @@ same-length-4 c = search needs
 
 returns-4 : tie.Need-returns-4
 returns-4 c =
-    let at-give-message = c .before .before .before .before .before .before in
-    let at-is-absent = at-give-message .before .before .before in
-    let at-x = at-is-absent .before .before .before .before in
-    line-moves (recv-answers _ (recv-full _ (at-x .before .before .slot .ensures .1) (at-x .x .given .1) (at-is-absent .before .message .ensures .1)
-    (sym (at-is-absent .is-absent .ensures) ∙ at-give-message .before .before .if1 .left))) refl
-    (recv-writes _ (at-x .before .before .slot .ensures .1) (at-x .x .given .1) (at-give-message .give-message .ensures) (c .before .before .empty-channel .ensures .1))
+    let at-give-value = c .before .before .before .before .before .before in
+    let at-if1 = at-give-value .before .before in
+    let at-is-absent = at-if1 .before in
+    let at-message = at-is-absent .before in
+    let at-x = at-message .before .before .before in
+    let at-slot = at-x .before .before in
+    line-moves (recv-answers _ (recv-full _ (at-slot .slot .ensures .1) (at-x .x .given .1) (at-message .message .ensures .1) (sym (at-is-absent .is-absent .ensures) ∙ at-if1 .if1 .left))) refl
+    (recv-writes _ (at-slot .slot .ensures .1) (at-x .x .given .1) (at-message .message .ensures .1) (at-give-value .give-value .ensures) (c .before .before .empty-channel .ensures .1))
 
 pub recv-line-spec : {M : Type 1} → statement M
 recv-line-spec =
@@ -81,7 +85,7 @@ recv-line-spec =
     is-absent-requires
     same-length
     returns
-    give-message-requires
+    give-value-requires
     empty-channel-requires
     same-length-2
     returns-2

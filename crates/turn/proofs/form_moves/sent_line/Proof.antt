@@ -1,4 +1,4 @@
--- `turn::form_moves::sent_line` meets its contract: its check, for the message whose number is one less than the sender's word, is the line's; the channel is given.
+-- `turn::form_moves::sent_line` meets its contract: its check is the line's; the channel in the slot is given.
 use borrow.Author.Tests.{not-true, not-false}
 use mathlib.Core.Path.{sym, _∙_}
 use Rattle.turn.proofs.TurnSteps.{line-halts, line-moves}
@@ -18,22 +18,28 @@ same-length c = search needs
 
 returns : tie.Need-returns
 returns c =
-    let at-pre = c .before .before .before .before .before in
-    record { performs = λ w. line-halts (sent-answers _ (at-pre .pre .2) w (c .before .before .sent-check .ensures)) (sym (c .before .passes .ensures) ∙ not-true _ (c .if1 .taken)) }
+    let start = c .before .before .before .before .before in
+    record { performs = λ w. line-halts (sent-answers _ (start .pre .2) w (c .before .before .sent-check .ensures)) (sym (c .before .passes .ensures) ∙ not-true _ (c .if1 .taken)) }
 
-give-slot-requires : tie.Need-give-slot-requires
-give-slot-requires c κs = search needs
+slot-requires : tie.Need-slot-requires
+slot-requires c κs = search needs
+
+give-value-requires : tie.Need-give-value-requires
+give-value-requires c κs = search needs
 
 same-length-2 : tie.Need-same-length-2
 same-length-2 c = search needs
 
 returns-2 : tie.Need-returns-2
 returns-2 c =
-    let at-if1 = c .before .before .before .before in
-    let at-pre = at-if1 .before .before .before .before .before in
+    let at-slot = c .before .before .before .before in
+    let at-if1 = at-slot .before .before in
+    let at-passes = at-if1 .before in
+    let at-sent-check = at-passes .before in
+    let start = at-sent-check .before .before .before in
     record {
-      performs = λ w. line-moves (sent-answers _ (at-pre .pre .2) w (at-if1 .before .before .sent-check .ensures))
-          (sym (at-if1 .before .passes .ensures) ∙ not-false _ (at-if1 .if1 .left)) (sent-writes _ (at-pre .pre .2) w (c .before .before .give-slot .ensures));
+      performs = λ w. line-moves (sent-answers _ (start .pre .2) w (at-sent-check .sent-check .ensures)) (sym (at-passes .passes .ensures) ∙ not-false _ (at-if1 .if1 .left))
+          (sent-writes _ (start .pre .2) w (at-slot .slot .ensures .1) (c .before .before .give-value .ensures));
     }
 
 pub sent-line-spec : {M : Type 1} → statement M
@@ -44,6 +50,7 @@ sent-line-spec =
     passes-requires
     same-length
     returns
-    give-slot-requires
+    slot-requires
+    give-value-requires
     same-length-2
     returns-2)
