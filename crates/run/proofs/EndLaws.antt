@@ -18,7 +18,7 @@ use Rattle.rules.specs.Turn.{turn}
 use Rattle.rules.specs.Run.{isFinished, allFinished, waits, upTo, allWait, endOf}
 use Rattle.rules.specs.Fits.{Fits}
 use Rattle.rules.proofs.ListLaws.{by-bool, of-not, all-snoc, all-from}
-use Rattle.table.specs.StateTable.{Held, Sees, Any}
+use Rattle.table.specs.StateTable.{Counted, Held, Sees, Any}
 use Rattle.turn.specs.Performed.{Loaded, WouldWait}
 use Rattle.run.specs.Played.{AllWait, Ends}
 use Rattle.run.specs.declared.Answer.the-variants.{Finished, Stuck, Open}
@@ -27,7 +27,7 @@ use Rattle.run.specs.declared.Answer.the-variants.{Finished, Stuck, Open
 
 -- the threads before t are finished: the others decide
 pub record FinishedTo (s : List ℕ) (t : ℕ) : Type 0 where
-  pub is : (S : State) (rest : List ℕ) → Held s S rest → allFinished S ≡ all isFinished (drop t (S .threads))
+  pub is : {N : ℕ → ℕ} (S : State) (rest : List ℕ) → Counted s N S rest → allFinished S ≡ all isFinished (drop t (S .threads))
 
 pub before-the-first : (s : List ℕ) → FinishedTo s 0
 unfolding allFinished
@@ -40,7 +40,7 @@ finished-by-count (f ∷ fs) d = sym (ne-eqb (suc (length fs)) 0 (λ e. omega ar
 
 module _ {s : List ℕ} {t : ℕ} (so-far : FinishedTo s t) {r : ℕ} (count : Sees s Any (λ S. length (threadAt S t .frames)) r) where
   -- thread t, and those after it
-  next-decides : (S : State) (rest : List ℕ) → Held s S rest → allFinished S ≡ (eqb r 0 && all isFinished (drop (suc t) (S .threads)))
+  next-decides : {N : ℕ → ℕ} (S : State) (rest : List ℕ) → Counted s N S rest → allFinished S ≡ (eqb r 0 && all isFinished (drop (suc t) (S .threads)))
   unfolding threadAt isFinished
   next-decides S rest h =
       so-far .is S rest h ∙ all-from isFinished noThread refl (S .threads) t

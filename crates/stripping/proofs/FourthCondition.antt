@@ -17,12 +17,15 @@ use Rattle.rules.specs.Turn.{Res, ok, wait, stop, turn}
 use Rattle.rules.specs.Run.{none, stopped, Run, after, advance, runFrom, run, isFinished}
 use Rattle.rules.specs.Stripped.{strip, erase, guarded, stripped}
 use Rattle.rules.specs.Tables.{stateWords}
+use Rattle.rules.specs.Holders.{holders}
 use Rattle.rules.proofs.ListLaws.{by-bool}
 use Rattle.rules.proofs.Demand3.{stripped-matches}
+use Rattle.rules.proofs.HolderLaws.{erased-holders}
 use Rattle.rules.proofs.TableWords.{state-words-length}
 use Rattle.table.specs.ProgramTable.{Same, sameWords}
-use Rattle.table.specs.StateTable.{Becomes}
+use Rattle.table.specs.StateTable.{Held, Becomes}
 use Rattle.table.proofs.ProgramTable.{same-words-same, same-is}
+use Rattle.table.proofs.StateTable.{recounted}
 use Rattle.run.specs.declared.Answer.{Answer}
 use Rattle.run.specs.Made.{Holds}
 use Rattle.run.specs.Reached.{going}
@@ -100,6 +103,7 @@ pub condition-told : {P : Program} {turns p s p₁ s₁ erased : List ℕ} {a b 
 unfolding guardsChangeNothing
 condition-told {P} {turns} {erased = erased} first second becomes same =
     let S = run mosts P turns .state in
-    let words : erased ≡ stateWords (erase S) = becomes .becomes S [] (first .held) (first .fits .few-objects) .words ∙ append-nil (stateWords (erase S)) in
+    let held : Held erased (erase S) [] = recounted (becomes .becomes S [] (first .held) (first .fits .few-objects)) (holders (erase S)) λ n. sym (erased-holders S n) in
+    let words : erased ≡ stateWords (erase S) = held .words ∙ append-nil (stateWords (erase S)) in
     let long : length erased ≤ Most.words = omega (arith, ap length words, state-words-length (erase S)) in
     same-is same ∙ ap₂ sameWords (take-all Most.words erased long ∙ words) (second .state-words)
