@@ -17,6 +17,8 @@ mod Copies
 -- a message is its sender's until it is received
 mod LaterStates
 mod InFlight
+-- an iso object has at most one holder
+mod OneHolders
 -- capabilities play no part in a report
 mod ReportLaws
 -- the stripped script's text is accepted unless it is too long

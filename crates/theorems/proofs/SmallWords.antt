@@ -14,10 +14,12 @@ use Rattle.rules.specs.Script.{Operand, reads, takes, Expr, value, field, swap,
 use Rattle.rules.specs.State.{Object, Frame, Sender, ready, waiting, Thread, noThread, Channel, emptyChannel, State}
 use Rattle.rules.specs.Valid.{OperandOk, ExprOk, LetsOk, BlockOk, KindOk, Valid}
 use Rattle.rules.specs.Fits.{InRange, ObjectFits, FrameFits, SenderFits, ThreadFits, ChannelFits, Fits}
-use Rattle.rules.specs.Tables.{operandWord, operandItem, lineWords, editionWord, row, firstLines, usedProgramWords, programWords, word, unmade, noFrame, objectWords, frameWords, senderWord, outermostFirst, threadWords, channelWords, usedStateWords, stateWords}
+use Rattle.rules.specs.Tables.{operandWord, operandItem, lineWords, editionWord, row, firstLines, usedProgramWords, programWords, word, unmade, noFrame, objectWords, objectCells, frameWords, senderWord, outermostFirst, threadWords, channelWords, usedStateWords, countedWords, stateWords}
+use Rattle.rules.specs.Holders.{holders}
 use Rattle.rules.proofs.ListLaws.{every-map, every-append, every-image, every-pad, length-pad, length-cells}
 use Rattle.rules.proofs.Accepted.{line-count, table-lines}
 use Rattle.rules.proofs.Keeps.{object-in-range, each-frame}
+use Rattle.rules.proofs.HolderLaws.{holders-few}
 use Rattle.rules.proofs.TableWords.{every-outermost}
 
 used-program-words-length : (P : Program) → length (usedProgramWords P) ≡ 72 + length (linesOf P) * 8
@@ -62,9 +64,18 @@ rank-small Iso = omega arith
 rank-small Local = omega arith
 rank-small Unsafe = omega arith
 
-unmade-small : AllIn16Bits (objectWords unmade)
+-- an object's words, however many places hold it
+record ObjectSmall (x : Object) : Type 0 where
+  with-count : (held : ℕ) → In16Bits held → AllIn16Bits (objectWords held x)
+
+objects-small : (c : ℕ → ℕ) → ((i : ℕ) → In16Bits (c i)) → (n : ℕ) (xs : List Object) → Every ObjectSmall xs → AllIn16Bits (objectCells c n xs)
+unfolding objectCells
+objects-small c few n [] h = words-small [] tt
+objects-small c few n (x ∷ xs) h = h .0 .with-count (c n) (few n) then objects-small c few (suc n) xs (h .1)
+
+unmade-small : ObjectSmall unmade
 unfolding objectWords pad
-unmade-small = omega arith
+unmade-small = record { with-count = λ held few. omega arith }
 
 no-frame-small : AllIn16Bits (frameWords noFrame)
 unfolding frameWords pad
@@ -81,11 +92,14 @@ module _ (P : Program) (valid : Valid Most.mosts P) (n o c : ℕ) (moves : n ≤
   values-small k vs h =
       words-small _ (every-image In16Bits word (pad k Absent vs) (every-pad (λ v. In16Bits (word v)) k Absent vs (omega arith) (every-map value-small vs h)))
 
-  object-small : (x : Object) → ObjectFits P o c x → AllIn16Bits (objectWords x)
+  object-small : (x : Object) → ObjectFits P o c x → ObjectSmall x
   unfolding objectWords
   object-small x h =
-      words-small (rank (x .cap) ∷ x .kind ∷ x .creator ∷ 0 ∷ []) (omega (arith, rank-small (x .cap), h .kind, valid .few-kinds, h .creator))
-      then values-small _ (x .fields) (every-map (object-in-range o c) (x .fields) (h .fields))
+      record {
+        with-count = λ held few.
+            words-small (rank (x .cap) ∷ x .kind ∷ x .creator ∷ held ∷ []) (omega (arith, rank-small (x .cap), h .kind, valid .few-kinds, h .creator))
+            then values-small _ (x .fields) (every-map (object-in-range o c) (x .fields) (h .fields));
+      }
 
   frame-small : (f : Frame) → FrameFits P o c f → AllIn16Bits (frameWords f)
   unfolding frameWords
@@ -115,15 +129,16 @@ module _ (P : Program) (valid : Valid Most.mosts P) (n o c : ℕ) (moves : n ≤
   empty-channel-small = channel-small emptyChannel (record { message = tt; number = omega arith })
 
 pub state-words-small : {P : Program} {n : ℕ} {S : State} → Fits Most.mosts P n S → n ≤ Most.turns → Valid Most.mosts P → Every In16Bits (stateWords S)
-unfolding stateWords usedStateWords
-state-words-small {P} {n} {S} fits moves valid = padded-small Most.words (usedStateWords S) (used .each) .each
+unfolding countedWords usedStateWords
+state-words-small {P} {n} {S} fits moves valid = padded-small Most.words (usedStateWords (holders S) S) (used .each) .each
   where
-    used : AllIn16Bits (usedStateWords S)
+    used : AllIn16Bits (usedStateWords (holders S) S)
     used =
         let o = fits .few-objects in
         let c = fits .few-threads in
         padded-small _ (length (S .objects) ∷ length (S .threads) ∷ []) (omega arith)
-        then records-small objectWords _ unmade (S .objects) unmade-small (every-map (object-small P valid n _ _ moves o c) (S .objects) (fits .objects))
+        then objects-small (holders S) (holders-few P n S fits) 0 (pad (Most.mosts .objects) unmade (S .objects))
+        (every-pad ObjectSmall _ unmade (S .objects) unmade-small (every-map (object-small P valid n _ _ moves o c) (S .objects) (fits .objects)))
         then records-small threadWords _ noThread (S .threads) (no-thread-small P valid n _ _ moves o c) (every-map (thread-small P valid n _ _ moves o c) (S .threads) (fits .threads))
         then records-small channelWords _ emptyChannel (S .channels) (empty-channel-small P valid n _ _ moves o c) (every-map (channel-small P valid n _ _ moves o c) (S .channels) (fits .channels))
 

@@ -1,9 +1,9 @@
 -- What is proved of every accepted script, gathered: each is a corollary of the file that proves it.
-use Prim.Native.Nat.{ℕ, _≤_, _<_}
+use Prim.Native.Nat.{ℕ, _+_, _*_, _≤_, _<_}
 use native.Mathlib.Omega.{arith}
-use mathlib.Core.Path.{_≡_}
-use mathlib.Core.List.{List, _++_, map}
-use lib.ListN.{length}
+use mathlib.Core.Path.{_≡_, refl, sym}
+use mathlib.Core.List.{List, [], _++_, map, append-nil}
+use lib.ListN.{length, getD}
 use Rattle.rules.specs.declared.Cap.{Cap}
 use Rattle.rules.specs.Mosts as Most
 use Rattle.rules.specs.Mosts.{mosts}
@@ -13,24 +13,32 @@ use Rattle.rules.specs.Script.{Program, linesOf}
 use Rattle.rules.specs.Templates.{show, headOf}
 use Rattle.rules.specs.Reading.{accepted, script}
 use Rattle.rules.specs.State.{Frame, State}
+use Rattle.rules.specs.Turn.{ok, turn}
 use Rattle.rules.specs.Run.{run}
 use Rattle.rules.specs.Tables.{programWords, stateWords}
 use Rattle.rules.specs.Stripped.{strip, Matches}
 use Rattle.rules.specs.Valid.{Valid}
 use Rattle.rules.specs.Fits.{Fits}
-use Rattle.rules.specs.Reach.{roots, OneList, reachList}
+use Rattle.rules.specs.Reach.{count, roots, OneList, reachList}
+use Rattle.rules.specs.Holders.{holders}
+use Rattle.rules.specs.HolderChanges.{gained, lost}
+use Rattle.table.specs.StateTable.{Held}
 use Rattle.theorems.specs.Copies.{AtCopy, CopyTurn}
 use Rattle.theorems.specs.InFlight.{SendersKeep}
+use Rattle.theorems.specs.OneHolder.{OneHolder}
 use Rattle.theorems.specs.StrippedScripts.{strippedScript}
 use Rattle.rules.specs.Writer.{ReadsTo, NoneReadsTo, ComesBack}
 use Rattle.rules.proofs.Accepted.{accepted-valid, accepted-prints}
 use Rattle.rules.proofs.Keeps.{keeps-run, moves-few, fits-run}
+use Rattle.rules.proofs.HolderLaws.{turn-changes, unmade-unheld}
 use Rattle.rules.proofs.Demand3.{stripped-matches}
 use Rattle.rules.proofs.Reports.{reach-few, reach-lists}
 use Rattle.rules.proofs.Writer.{comes-back}
+use Rattle.table.proofs.StateReads.{count-word}
 use Rattle.theorems.proofs.SmallWords.{In16Bits, program-words-small, state-words-small}
 use Rattle.theorems.proofs.Copies.{copy-turn}
 use Rattle.theorems.proofs.InFlight.{senders-keep}
+use Rattle.theorems.proofs.OneHolders.{one-holder}
 use Rattle.theorems.proofs.StrippedReads.{stripped-reads, none-is-long}
 
 module _ (text : List ℕ) (P : Program) (is-accepted : script mosts text ≡ accepted P) where
@@ -79,6 +87,26 @@ module _ (text : List ℕ) (P : Program) (is-accepted : script mosts text ≡ ac
 
     pub reports-fit : (t : ℕ) → let S = run mosts P ts .state in length (reachList (S .objects) (roots P S t)) ≤ Most.reachList
     reports-fit t = let S = run mosts P ts .state in omega (arith, reach-few (S .objects) (roots P S t), state-fits .few-objects)
+
+    -- Document 02, L7: "the stored count equals the count taken afresh": the fourth word of an object's record is the number of places that hold it,
+    -- of an object that was never made too, which none holds
+    pub counts-are-stored : (n : ℕ) → n < mosts .objects → let S = run mosts P ts .state in getD (stateWords S) (11 + n * 8) 0 ≡ holders S n
+    counts-are-stored n has-place =
+        let S = run mosts P ts .state in
+        let held : Held (stateWords S) S [] = record { words = sym (append-nil (stateWords S)) } in
+        count-word held n (11 + n * 8) has-place refl
+
+    pub unmade-has-no-holder : (n : ℕ) → let S = run mosts P ts .state in length (S .objects) ≤ n → holders S n ≡ 0
+    unmade-has-no-holder n unmade = unmade-unheld (run mosts P ts .state) state-fits n unmade
+
+    -- "once, over all line forms": a turn that moves changes the count by what its line gains and loses
+    pub counts-change : (t : ℕ) (S₁ : State) → let S = run mosts P ts .state in turn mosts P S t ≡ ok S₁
+        → (n : ℕ) → holders S₁ n + count n (lost P S t) ≡ holders S n + count n (gained P S t)
+    counts-change t S₁ goes n = turn-changes mosts P (run mosts P ts .moves) (run mosts P ts .state) S₁ t state-fits goes n
+
+    -- "and that an iso object never has more than one holder when self slots are left out"
+    pub iso-has-one-holder : OneHolder P (run mosts P ts .state)
+    iso-has-one-holder = one-holder mosts P ts valid (omega arith)
 
 -- Document 02, L2: "Every text that the reader accepts comes back byte for byte from its table."
 pub every-text-comes-back : ComesBack mosts

@@ -14,10 +14,11 @@ use Rattle.rules.specs.Lists.{Every, pad, cells}
 use Rattle.rules.specs.Script.{kind, line, Program}
 use Rattle.rules.specs.State.{Object, Frame, Thread, noThread, Channel, emptyChannel, State}
 use Rattle.rules.specs.Fits.{InRange, IsObject, ObjectFits, FrameFits, ThreadFits, ChannelFits, Fits}
-use Rattle.rules.specs.Tables.{capOf, word, unmade, noFrame, objectWords, frameWords, outermostFirst, threadWords, channelWords, usedStateWords, stateWords}
+use Rattle.rules.specs.Tables.{capOf, word, unmade, noFrame, objectWords, objectCells, frameWords, outermostFirst, threadWords, channelWords, usedStateWords, countedWords, stateWords}
+use Rattle.rules.specs.Holders.{holders}
 use Rattle.rules.proofs.ListLaws.{every-map, pad-front, length-records}
 use Rattle.rules.proofs.Keeps.{object-in-range, each-frame}
-use Rattle.rules.proofs.TableWords.{object-words-length, frame-words-length, thread-words-length, channel-words-length, used-state-words-length, every-outermost, cap-of-rank, sender-tells, outermost-reverse, length-outermost}
+use Rattle.rules.proofs.TableWords.{object-words-length, objects-length, frame-words-length, thread-words-length, channel-words-length, used-state-words-length, every-outermost, cap-of-rank, sender-tells, outermost-reverse, length-outermost}
 
 append-cut : {A : Type 0} (xs ys us vs : List A) → length xs ≡ length ys → xs ++ us ≡ ys ++ vs → (xs ≡ ys) × (us ≡ vs)
 append-cut xs ys us vs l e = (
@@ -103,9 +104,9 @@ module _ (P P′ : Program) (o c o′ c′ : ℕ) (few : o ≤ Most.mosts .objec
       singles [] = refl
       singles (u ∷ us) = ap (λ (ws : List ℕ). word u ∷ ws) (singles us)
 
-  object-tells : (x x′ : Object) → ObjectFits P o c x → ObjectFits P′ o′ c′ x′ → objectWords x ≡ objectWords x′ → x ≡ x′
+  object-tells : (held held′ : ℕ) (x x′ : Object) → ObjectFits P o c x → ObjectFits P′ o′ c′ x′ → objectWords held x ≡ objectWords held′ x′ → x ≡ x′
   unfolding objectWords
-  object-tells x x′ h h′ e = λ i. record { cap = caps i; kind = word-at 1 e i; creator = word-at 2 e i; fields = fields i }
+  object-tells held held′ x x′ h h′ e = λ i. record { cap = caps i; kind = word-at 1 e i; creator = word-at 2 e i; fields = fields i }
     where
       caps : x .cap ≡ x′ .cap
       caps = sym (cap-of-rank (x .cap)) ∙ ap capOf (word-at 0 e) ∙ cap-of-rank (x′ .cap)
@@ -117,6 +118,29 @@ module _ (P P′ : Program) (o c o′ c′ : ℕ) (few : o ≤ Most.mosts .objec
       fields =
           values-tell _ (x .fields) (x′ .fields) (h .few) count (every-map (object-in-range o c) (x .fields) (h .fields))
           (every-map (object-in-range o′ c′) (x′ .fields) (h′ .fields)) (ap (drop 4) e)
+
+  -- whatever the counts of holders are
+  objects-tell : (r r′ : ℕ → ℕ) (n : ℕ) (xs ys zs us : List Object) → length xs ≡ length ys → Every (ObjectFits P o c) xs → Every (ObjectFits P′ o′ c′) ys
+      → objectCells r n (xs ++ zs) ≡ objectCells r′ n (ys ++ us) → xs ≡ ys
+  unfolding objectCells
+  objects-tell r r′ n [] [] zs us l h k e = refl
+  objects-tell r r′ n [] (y ∷ ys) zs us l h k e = absurd (omega arith)
+  objects-tell r r′ n (x ∷ xs) [] zs us l h k e = absurd (omega arith)
+  objects-tell r r′ n (x ∷ xs) (y ∷ ys) zs us l h k e =
+      let cut =
+      append-cut (objectWords (r n) x) (objectWords (r′ n) y) (objectCells r (suc n) (xs ++ zs)) (objectCells r′ (suc n) (ys ++ us))
+      (object-words-length (r n) x ∙ sym (object-words-length (r′ n) y)) e in
+      ap₂ _∷_ (object-tells (r n) (r′ n) x y (h .0) (k .0) (cut .0)) (objects-tell r r′ (suc n) xs ys zs us (omega arith) (h .1) (k .1) (cut .1))
+
+  -- and what comes after them
+  object-region-tells : (r r′ : ℕ → ℕ) (n : ℕ) (xs ys : List Object) (us vs : List ℕ) → length xs ≤ n → length xs ≡ length ys
+      → Every (ObjectFits P o c) xs → Every (ObjectFits P′ o′ c′) ys
+      → objectCells r 0 (pad n unmade xs) ++ us ≡ objectCells r′ 0 (pad n unmade ys) ++ vs → (xs ≡ ys) × (us ≡ vs)
+  object-region-tells r r′ n xs ys us vs few l h k e =
+      let cut = append-cut _ _ us vs (objects-length r 0 n unmade xs ∙ sym (objects-length r′ 0 n unmade ys)) e in (
+        objects-tell r r′ 0 xs ys _ _ l h k (ap (objectCells r 0) (sym (pad-front n unmade xs few)) ∙ cut .0 ∙ ap (objectCells r′ 0) (pad-front n unmade ys (omega arith))),
+        cut .1,
+      )
 
   frame-tells : (f f′ : Frame) → FrameFits P o c f → FrameFits P′ o′ c′ f′ → frameWords f ≡ frameWords f′ → f ≡ f′
   unfolding frameWords
@@ -146,14 +170,14 @@ counts-tell a b a′ b′ us vs e = (word-at 0 e, word-at 1 e, ap (drop 8) e)
 
 -- so equal tables are equal states
 module _ {m : Mosts} {P P′ : Program} {n n′ : ℕ} {S S′ : State} (fits : Fits m P n S) (fits′ : Fits m P′ n′ S′) where
-  used-words-tell : m .objects ≤ Most.mosts .objects → m .threads ≤ Most.mosts .threads → usedStateWords S ≡ usedStateWords S′ → S ≡ S′
+  used-words-tell : m .objects ≤ Most.mosts .objects → m .threads ≤ Most.mosts .threads → usedStateWords (holders S) S ≡ usedStateWords (holders S′) S′ → S ≡ S′
   unfolding usedStateWords
   used-words-tell os ts e =
       let few : length (S .objects) ≤ Most.mosts .objects = omega (arith, fits .few-objects) in
       let few′ : length (S′ .objects) ≤ Most.mosts .objects = omega (arith, fits′ .few-objects) in
       let counts = counts-tell _ _ _ _ _ _ e in
       let objects =
-      region-tells objectWords _ object-words-length _ _ (object-tells P P′ _ _ _ _ few few′) _ unmade (S .objects) (S′ .objects) _ _
+      object-region-tells P P′ _ _ _ _ few few′ (holders S) (holders S′) _ (S .objects) (S′ .objects) _ _
       few (counts .0) (fits .objects) (fits′ .objects) (counts .2) in
       let threads =
       region-tells threadWords _ thread-words-length _ _ (thread-tells P P′ _ _ _ _ few few′ n n′) _ noThread (S .threads) (S′ .threads) _ _
@@ -164,7 +188,8 @@ module _ {m : Mosts} {P P′ : Program} {n n′ : ℕ} {S S′ : State} (fits : 
       λ i. record { objects = objects .0 i; threads = threads .0 i; channels = channels i }
 
   pub state-words-tell : m .objects ≤ Most.mosts .objects → m .threads ≤ Most.mosts .threads → stateWords S ≡ stateWords S′ → S ≡ S′
-  unfolding stateWords
+  unfolding countedWords
   state-words-tell os ts e =
       used-words-tell os ts
-      (pad-tells Most.words 0 (usedStateWords S) (usedStateWords S′) (used-state-words-length S ∙ sym (used-state-words-length S′)) (omega (arith, used-state-words-length S)) e)
+      (pad-tells Most.words 0 (usedStateWords (holders S) S) (usedStateWords (holders S′) S′)
+      (used-state-words-length (holders S) S ∙ sym (used-state-words-length (holders S′) S′)) (omega (arith, used-state-words-length (holders S) S)) e)

@@ -6,5 +6,7 @@ pub mod Readings
 -- what a copy comes to; messages that are sent and not yet received
 pub mod Copies
 pub mod InFlight
+-- an iso object's one holder
+pub mod OneHolder
 -- the text of a stripped script
 pub mod StrippedScripts
