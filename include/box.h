@@ -27,7 +27,7 @@ extern "C" {
 /* The version of this header. The minor number counts the requests that have landed since the base, the patch number any other change; in one
  * number each has two digits. Header and library belong together where box_version() is BOX_VERSION. */
 #define BOX_VERSION_MAJOR 1
-#define BOX_VERSION_MINOR 6
+#define BOX_VERSION_MINOR 7
 #define BOX_VERSION_PATCH 0
 #define BOX_VERSION (10000 * BOX_VERSION_MAJOR + 100 * BOX_VERSION_MINOR + BOX_VERSION_PATCH)
 
@@ -71,13 +71,14 @@ extern "C" {
 #define BOX_ALIAS 19       /* a second reference to an iso: a read of one, or of a field that holds one */
 #define BOX_FOREIGN 20     /* something local to another thread: the target, a value for a new object or for a local, an object that a copy meets */
 
-/* A refusal of the report alone; the run was made. */
+/* Refusals of a report alone; the run was made. */
 #define BOX_NO_THREAD 17 /* report on a thread never started */
+#define BOX_NO_OBJECT 21 /* holders of an object never made */
 
 /* A refusal of box_write alone. */
 #define BOX_NO_SCRIPT 18 /* no accepted text reads to this table */
 
-/* The word of a number, 1 to 20, as box_run and the others tell it; "" for what is none of them. It stands here and not in the library. */
+/* The word of a number, 1 to 21, as box_run and the others tell it; "" for what is none of them. It stands here and not in the library. */
 static inline const char *box_word(uint16_t number)
 {
     switch (number) {
@@ -101,6 +102,7 @@ static inline const char *box_word(uint16_t number)
     case BOX_NO_SCRIPT: return "no script";
     case BOX_ALIAS: return "alias";
     case BOX_FOREIGN: return "foreign";
+    case BOX_NO_OBJECT: return "no object";
     default: return "";
     }
 }
@@ -170,6 +172,23 @@ uint16_t box_reach(const uint8_t *text, size_t text_len,
                    size_t thread,
                    uint8_t *list, size_t list_len,
                    size_t *count, size_t *line);
+
+/* Runs a script as box_run does, then tells how many places hold an object: slots of all frames of all threads, slot 0 of a method's frame too,
+ * fields of all objects, and messages in channels. The run keeps the count in the object's record; nothing is counted for the answer.
+ *
+ *   text, turns, program, state   as for box_run
+ *   object    the number of the object
+ *   count     gets how many places hold it
+ *   line      gets the refusal's line, as box_read says it; for BOX_NO_OBJECT 0
+ *
+ * Answers 0 where it told, also on a run that stopped; else the refusal's number. After 1 to 9 the tables keep every byte; after BOX_NO_OBJECT
+ * the tables hold the run. */
+uint16_t box_holders(const uint8_t *text, size_t text_len,
+                     const uint8_t *turns, size_t turns_len,
+                     uint8_t *program, size_t program_len,
+                     uint8_t *state, size_t state_len,
+                     size_t object,
+                     size_t *count, size_t *line);
 
 /* Finds line n of a text, of any bytes and any length.
  *

@@ -165,7 +165,7 @@ fn explain_number(number: usize) -> u8 {
             if m == 0 {
                 io::write_all(
                     libc::STDERR_FILENO,
-                    b"box: explain: there are the numbers 1 to 20\n",
+                    b"box: explain: there are the numbers 1 to 21\n",
                 );
                 return REFUSED;
             }
@@ -195,7 +195,7 @@ fn perform(i: usize) -> u8
         Command::Check => check(i + 1),
         Command::Reach => reach(i + 1),
         Command::Explain => explain_argument(i + 1),
-        Command::Version => write_out(b"box 1.6.0\n", WELL),
+        Command::Version => write_out(b"box 1.7.0\n", WELL),
         Command::Help => write_out(&USAGE, WELL),
         Command::Unknown => usage(),
     }

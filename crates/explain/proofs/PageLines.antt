@@ -30,7 +30,7 @@ a-page (suc n) some =
     rw (five, before, all-lines) refl
 
 -- past the last page there is none
-pub past-pages : (n : ℕ) → 20 < n → [] ≡ page n
+pub past-pages : (n : ℕ) → 21 < n → [] ≡ page n
 unfolding page pages join
 past-pages zero past = refl
 past-pages (suc n) past = rw (drop-of-length-le (map lineOf pages) {i = 5 * n} (omega arith)) refl

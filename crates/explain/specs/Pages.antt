@@ -1,4 +1,4 @@
--- What is said of a number: its word, what it means and what an author can do. A page of five lines for each number, 1 to 20.
+-- What is said of a number: its word, what it means and what an author can do. A page of five lines for each number, 1 to 21.
 use Prim.Native.Nat.{ℕ, zero, suc, _*_}
 use Prim.Native.String as S
 use mathlib.Core.List.{List, [], _∷_, _++_, map}
@@ -107,6 +107,11 @@ pages =
     "held by a new object or a local, or what a copy meets." ∷
     "What to do: work on it in the thread that made it. What goes between threads is" ∷
     "imm or iso; before it is sent, that thread can copy a local as imm." ∷
+    "21 no object" ∷
+    "Not reported: the object whose holders were asked for was never made. The run" ∷
+    "itself was made." ∷
+    "What to do: objects are numbered from 0 as they are made, copies too. Ask for" ∷
+    "one that the printed run lists, or add turns to make it." ∷
     []
 
 abbrev pub lineOf : S.String → List ℕ

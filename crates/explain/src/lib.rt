@@ -10,7 +10,7 @@ ghost use Rattle.listing.specs.Outputs.{printedOf, outputAfter};
 ghost use Rattle.explain.specs.Pages.{page};
 
 // A page of five lines for each number: its word, what it means, what to do.
-const PAGES: [u8; 5747] = *b"\
+const PAGES: [u8; 5990] = *b"\
 1 overlong\n\
 Refused: too long. A script has at most 16,384 bytes and a list at most 32,768\n\
 turns; an input, which is both together, has at most 65,536 bytes.\n\
@@ -111,6 +111,11 @@ Stopped: something is local to another thread: what is worked on, what is to be\
 held by a new object or a local, or what a copy meets.\n\
 What to do: work on it in the thread that made it. What goes between threads is\n\
 imm or iso; before it is sent, that thread can copy a local as imm.\n\
+21 no object\n\
+Not reported: the object whose holders were asked for was never made. The run\n\
+itself was made.\n\
+What to do: objects are numbered from 0 as they are made, copies too. Ask for\n\
+one that the printed run lists, or add turns to make it.\n\
 ";
 
 // Some lines of a text.
@@ -125,7 +130,7 @@ fn put_lines(output: &mut [u8], text: &[u8], from: usize, to: usize) -> usize
 
 // The page of a number.
 fn put_page(output: &mut [u8], n: usize) -> usize
-    requires { ⌜ (n ≤ 20) × (32768 ≤ length (now output)) ⌝ }
+    requires { ⌜ (n ≤ 21) × (32768 ≤ length (now output)) ⌝ }
     ensures { λ r. ⌜ Wrote 32768 (now (output .entry)) (now (output .exit)) 0 r (page n) ⌝ }
 {
     if n == 0 {
@@ -134,7 +139,7 @@ fn put_page(output: &mut [u8], n: usize) -> usize
     put_lines(output, &PAGES, 5 * (n - 1), 5 * n)
 }
 
-// Prints what is said of a number, and nothing for one that is none of 1 to 20. An output under 32,768 bytes is refused with 9 and stays as it
+// Prints what is said of a number, and nothing for one that is none of 1 to 21. An output under 32,768 bytes is refused with 9 and stays as it
 // was.
 pub fn print_explained(number: usize, output: &mut [u8]) -> Printed
     ensures { λ r. ⌜ r ≡ printedOf (page number) (now (output .entry)) ⌝ }
@@ -143,7 +148,7 @@ pub fn print_explained(number: usize, output: &mut [u8]) -> Printed
     if output.len() < 32768 {
         return Printed::Refused(rules::numbers::SHORT_TABLE, 0);
     }
-    if 20 < number {
+    if 21 < number {
         return Printed::Written(0);
     }
     Printed::Written(put_page(output, number))

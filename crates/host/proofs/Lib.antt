@@ -3,5 +3,6 @@
 mod Stored
 mod Loaded
 mod Crossing
+mod CountsCross
 -- a script that is loaded and saved comes back
 mod RoundTrip

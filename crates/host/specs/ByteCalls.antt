@@ -13,7 +13,7 @@ use Rattle.rules.specs.Run as R
 use Rattle.rules.specs.Run.{run, answer}
 use Rattle.rules.specs.Stripped.{Matches}
 use Rattle.rules.specs.Tables.{programWords, stateWords}
-use Rattle.rules.specs.Calls.{longText, inputs, runAnswer, Report, unreported, reached, reachReport, listWords}
+use Rattle.rules.specs.Calls.{longText, inputs, runAnswer, Report, unreported, reached, reachReport, listWords, Count, uncounted, counted, holderCount}
 use Rattle.rules.specs.Writer as Writer
 use Rattle.rules.specs.Writer.{refused, wrote, WriteCall}
 use Rattle.reader.specs.ReadAnswers.{numberOf, lineOf}
@@ -128,6 +128,35 @@ pub record HasReported (C : Reading) (turns : List ℕ) (thread : ℕ) (program 
 abbrev pub ReachesBytes : (text turns program state : List ℕ) → (thread : ℕ) → (list : List ℕ) → (number count line : ℕ) → (program₁ state₁ list₁ : List ℕ) → Type 0
 ReachesBytes text turns program state thread list number count line program₁ state₁ list₁ =
     HasReported (reachBytes text turns program state list) turns thread program state list number count line program₁ state₁ list₁
+
+-- ---- document 02, L7: "takes a run's inputs and an object number and gives the stored count"; its inputs are those of runBytes
+
+-- the answer as numbers: that of the refusal, 0 for none; its line; how many places hold the object, 0 where none is told
+abbrev pub countNumber : Count → ℕ
+countNumber (uncounted k n) = k
+countNumber (counted places) = 0
+
+abbrev pub countLine : Count → ℕ
+countLine (uncounted k n) = n
+countLine (counted places) = 0
+
+abbrev pub countPlaces : Count → ℕ
+countPlaces (uncounted k n) = 0
+countPlaces (counted places) = places
+
+pub record TellsCount (N : Count) (number count line : ℕ) : Type 0 where
+  pub number-is : number ≡ countNumber N
+  pub count-is : count ≡ countPlaces N
+  pub line-is : line ≡ countLine N
+
+pub record HasCounted (C : Reading) (turns : List ℕ) (object : ℕ) (program state : List ℕ) (number count line : ℕ) (program₁ state₁ : List ℕ) : Type 0 where
+  pub told : TellsCount (holderCount mosts turns object C) number count line
+  pub program-is : program₁ ≡ tableAfter programWords C program
+  pub state-is : state₁ ≡ tableAfter (ranWords turns) C state
+
+abbrev pub CountsBytes : (text turns program state : List ℕ) → (object number count line : ℕ) → (program₁ state₁ : List ℕ) → Type 0
+CountsBytes text turns program state object number count line program₁ state₁ =
+    HasCounted (runBytes text turns program state) turns object program state number count line program₁ state₁
 
 -- ---- document 02, L2: "write a script back out"
 

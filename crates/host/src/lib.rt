@@ -8,7 +8,7 @@ ghost use Rattle.rules.specs.Lists.{pad};
 ghost use Rattle.rules.specs.Text.{lines, findLine, startOf};
 ghost use Rattle.table.specs.ProgramTable.{freshTable};
 ghost use Rattle.host.specs.Bytes.{bytesAfter, wordsOf};
-ghost use Rattle.host.specs.ByteCalls.{ReadsBytes, MakesBytes, TellsAnswer, RunsBytes, ReachesBytes, WritesBytes};
+ghost use Rattle.host.specs.ByteCalls.{ReadsBytes, MakesBytes, TellsAnswer, RunsBytes, ReachesBytes, CountsBytes, WritesBytes};
 ghost use Rattle.host.specs.Version.{version};
 
 const TABLE: usize = 16384; // bytes of a table
@@ -17,7 +17,7 @@ const LIST: usize = 512; // bytes of the reach list
 
 const MAJOR: u32 = 1;
 
-const MINOR: u32 = 6; // requests of document 02 that have landed
+const MINOR: u32 = 7; // requests of document 02 that have landed
 
 const PATCH: u32 = 0;
 
@@ -187,7 +187,7 @@ pub extern "C" fn box_reach(
 ) -> u16
     ensures { λ r. ⌜ ReachesBytes (now (text .entry)) (now (turns .entry)) (now (program .entry)) (now (state .entry)) thread (now (list .entry)) r (now (count .exit)) (now (line .exit)) (now (program .exit)) (now (state .exit)) (now (list .exit)) ⌝ }
 {
-    *count = 0;
+    *count = 0; // objects
     *line = 0;
     let mut p = [0u16; 8192];
     let mut s = [0u16; 8192];
@@ -213,6 +213,43 @@ pub extern "C" fn box_reach(
                 reach::Report::Reached(reached) => {
                     *count = reached;
                     store(list, &objects);
+                    0
+                }
+            }
+        }
+    }
+}
+
+// Runs, then tells how many places hold an object, as its record has it: 0 and the count, or the refusal's number and its line. A refusal by 1
+// to 9 changes no byte of the tables; 21 leaves the run in them.
+#[no_mangle]
+pub extern "C" fn box_holders(
+    text: &[u8],
+    turns: &[u8],
+    program: &mut [u8],
+    state: &mut [u8],
+    object: usize,
+    count: &mut usize,
+    line: &mut usize,
+) -> u16
+    ensures { λ r. ⌜ CountsBytes (now (text .entry)) (now (turns .entry)) (now (program .entry)) (now (state .entry)) object r (now (count .exit)) (now (line .exit)) (now (program .exit)) (now (state .exit)) ⌝ }
+{
+    *count = 0; // places
+    *line = 0;
+    let mut p = [0u16; 8192];
+    let mut s = [0u16; 8192];
+    let answer = make(text, turns, false, program, state, &mut p, &mut s);
+    match answer {
+        Answer::Refused(number, at) => {
+            *line = at;
+            number
+        }
+        _ => {
+            let told = holders::count_on(&s, object);
+            match told {
+                holders::Count::Refused(number, _) => number,
+                holders::Count::Counted(places) => {
+                    *count = places as usize;
                     0
                 }
             }

@@ -1,0 +1,2 @@
+-- Why the count told is the stored one.
+mod Asked

@@ -1,0 +1,2 @@
+-- What the holder count answers.
+pub mod StoredCounts
