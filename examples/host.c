@@ -1,6 +1,6 @@
 /*
- * A small host of the box: runs a script on a list of turns, tells what came of it, and which objects each thread still reaches; then loads the
- * script and saves it again, as an editor does.
+ * A small host of the box: runs a script on a list of turns, tells what came of it, which objects each thread still reaches, and how many places
+ * hold each object; then loads the script and saves it again, as an editor does.
  *
  *     cc -std=c11 -O2 -o host examples/host.c $(pkg-config --cflags --libs freezerbox)     where the box is installed
  *     cc -std=c11 -O2 -Iinclude -o host examples/host.c target/staticlib/libfreezerbox.a   in the box's own folder, after `make`
@@ -120,6 +120,20 @@ static void reports(void)
     }
 }
 
+static uint16_t holders(size_t object, size_t *count)
+{
+    size_t line;
+    return box_holders(text, text_len, turns, turns_len, program, sizeof program, state, sizeof state, object, count, &line);
+}
+
+/* How many places hold each object that was made; the first that was not made answers 21. */
+static void held(void)
+{
+    size_t count;
+    for (size_t object = 0; holders(object, &count) == 0; object++)
+        tell("object %zu has %zu holder%s\n", object, count, count == 1 ? "" : "s");
+}
+
 /* The script is read into a table and written from it. What is written is the text that was read, byte for byte. */
 static int save(void)
 {
@@ -180,6 +194,7 @@ int main(int argc, char **argv)
     int status = REFUSED;
     if (run() != BOX_REFUSED) {
         reports();
+        held();
         status = save();
     }
     return all_told() ? status : FAILED;

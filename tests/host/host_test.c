@@ -66,6 +66,13 @@ static uint16_t reach(struct lent l, size_t thread, size_t *count, size_t *line)
                      l.state.length, thread, l.list.bytes, l.list.length, count, line);
 }
 
+static uint16_t holders_of(struct lent l, size_t object, size_t *count, size_t *line)
+{
+    *count = *line = UNSET;
+    return box_holders(l.text.bytes, l.text.length, l.turns.bytes, l.turns.length, l.program.bytes, l.program.length, l.state.bytes,
+                       l.state.length, object, count, line);
+}
+
 static int same(struct answer a, struct answer b)
 {
     return a.end == b.end && a.number == b.number && a.thread == b.thread && a.block == b.block && a.line == b.line && a.moves == b.moves;
@@ -89,11 +96,11 @@ static void constants(void)
     static const int numbers[] = {
         BOX_OVERLONG, BOX_STRAY_BYTE, BOX_MALFORMED, BOX_OVER_COUNT, BOX_UNBOUND, BOX_SELF_TAKEN, BOX_UNFINISHED, BOX_DANGLING, BOX_SHORT_TABLE,
         BOX_ABSENT, BOX_NO_FIELD, BOX_NO_METHOD, BOX_WRONG_THING, BOX_PERMISSION, BOX_CAST, BOX_USED_UP, BOX_NO_THREAD,
-        BOX_NO_SCRIPT, BOX_ALIAS, BOX_FOREIGN,
+        BOX_NO_SCRIPT, BOX_ALIAS, BOX_FOREIGN, BOX_NO_OBJECT,
     };
     for (int n = 0; n < 5; n++)
         check(ends[n] == n, "the header's end %d", n);
-    for (int n = 0; n < 20; n++)
+    for (int n = 0; n < 21; n++)
         check(numbers[n] == n + 1, "the header's number %d", n + 1);
     check(BOX_TABLE_BYTES == TABLE && BOX_LIST_BYTES == LIST && BOX_SCRIPT_BYTES == SCRIPT, "the header's lengths");
     check(BOX_TEXT_MOST == MOST_TEXT && BOX_TURNS_MOST == MOST_TURNS, "the header's mosts");
@@ -111,11 +118,11 @@ static void versions(void)
 static void words(void)
 {
     unsigned alike = 0, others = 0;
-    for (unsigned n = 1; n <= 20; n++)
+    for (unsigned n = 1; n <= 21; n++)
         for (unsigned m = 0; m < n; m++)
             alike += strcmp(box_word((uint16_t)n), box_word((uint16_t)m)) == 0;
     for (unsigned n = 0; n <= UINT16_MAX; n++)
-        others += (n == 0 || n > 20) && box_word((uint16_t)n)[0] != '\0';
+        others += (n == 0 || n > 21) && box_word((uint16_t)n)[0] != '\0';
     check(alike == 0 && others == 0, "words: %u alike, %u of no number", alike, others);
 }
 
@@ -175,7 +182,7 @@ static void editions(void)
 
 static void runs(void)
 {
-    static const unsigned object[] = {1, 0, 0, 0, 0, 0, 0, 0};
+    static const unsigned object[] = {1, 0, 0, 1, 0, 0, 0, 0};
     static const unsigned first[] = {1, 0, 0, 3, 4, 0, 258, 0, 258}, second[] = {1, 0, 1, 1, 2, 258, 1};
     struct lent lent = lend_run(CASE_A, "\0\0\0\1\0", 5);
     struct answer a = run(lent);
@@ -355,13 +362,108 @@ static void reports(void)
     give_all_back(lent);
 }
 
+/* ---- Holders ---- */
+
+/* So many places hold each object, as the call tells it and as word 3 of the object's record has it; the object after these was never made. */
+static void held(const char *name, struct lent lent, size_t objects, const unsigned *counts)
+{
+    size_t count, line;
+    for (size_t n = 0; n < objects; n++) {
+        uint16_t number = holders_of(lent, n, &count, &line);
+        check(number == 0 && line == 0 && count == counts[n], "%s, object %zu: %u, %zu holders", name, n, number, count);
+        check(word(lent.state, 8 + 8 * n + 3) == counts[n], "%s, object %zu: its record has %u", name, n, word(lent.state, 8 + 8 * n + 3));
+    }
+    uint16_t number = holders_of(lent, objects, &count, &line);
+    check(number == 21 && line == 0 && count == 0, "%s, object %zu was never made: %u, %zu holders", name, objects, number, count);
+    check(word(lent.state, 0) == objects && zeros(lent.state, 8 + 8 * objects, 2056), "%s: %u objects", name, word(lent.state, 0));
+}
+
+/* In slot 2, in the channel, in thread 1's slot, and nowhere once thread 1 has finished. */
+static void holders(void)
+{
+    static const unsigned one[] = {1}, none[] = {0};
+    static const char turns[] = "\0\0\0\1\0\1";
+    for (size_t made = 0; made < sizeof turns; made++) {
+        struct lent lent = lend_run(CASE_A, turns, made);
+        held("case A", lent, made > 1, made < 6 ? one : none);
+        give_all_back(lent);
+    }
+    struct lent lent = lend_run(SHEETS, SHEETS_TURNS);
+    held("the sheets", lent, OBJECTS(4, 2, 4, 2, 3, 1, 1, 2));
+    give_all_back(lent);
+    lent = lend_run(KIND "(kind (fields 1) (does))\n(thread)\n(let (new iso 0))\n(let (new imm 1 (take 1)))\n(give (read 2))\n", "\0\0", 2);
+    held("a stopped run", lent, OBJECTS(1));
+    give_all_back(lent);
+}
+
+/* A method on iso object 0, with imm object 1 for its argument, that calls itself. */
+#define CALLING "(kind (fields 0) (does 1))\n(thread)\n(let (new iso 0))\n(let (new imm 0))\n(let (call 1 0 (read 2)))\n(give (take 1))\n" \
+    "(method)\n(let (call 0 0 (read 1)))\n(give (read 1))\n"
+
+/* Slot 0 of a method's frame is a place like any other. */
+static void self_slots(void)
+{
+    for (unsigned calls = 0; calls < 16; calls++) {
+        struct lent lent = lend_run(CALLING, zero_turns, 2 + calls);
+        held("self slots", lent, OBJECTS(1 + calls, 1 + calls));
+        give_all_back(lent);
+    }
+    struct lent lent = lend_run("(kind (fields 0) (does 1))\n(thread)\n(let (new iso 0))\n(let (new imm 0))\n(let (call 1 0 (read 2)))\n(give (take 1))\n"
+                                "(method)\n(give (read 1))\n", zero_turns, 4);
+    held("a method that has ended", lent, OBJECTS(1, 2));
+    give_all_back(lent);
+}
+
+/* Each of two threads has the object in fifteen slots of each of fifteen frames, and in one slot more: more than a byte has room for. */
+static void many_holders(void)
+{
+    static struct text text;
+    static char turns[5 + 2 * 15 * 14] = "\0\0\0\1";
+    add(&text, "(kind (fields 0) (does 2))\n(thread)\n(let (new imm 0))\n(let (spawn 1))\n(let (send 2 (read 1)))\n(let (call 1 0 (read 1)))\n"
+               "(give (read 1))\n(thread)\n(let (recv 0))\n(let (call 1 0 (read 1)))\n(give (read 1))\n(method)\n");
+    for (int n = 0; n < 13; n++)
+        add(&text, "(let (read 1))\n");
+    add(&text, "(let (call 0 0 (read 1)))\n(give (read 1))\n");
+    memset(turns + 5 + 15 * 14, 1, 15 * 14);
+    struct lent lent = lend_run(text.bytes, turns, sizeof turns);
+    held("many holders", lent, OBJECTS(452));
+    give_all_back(lent);
+}
+
+/* 21 comes after all other refusals, whatever the number, and leaves the run's tables. */
+static void no_object(void)
+{
+    static const size_t never[] = {1, 2, 255, 256, 257, 65535, 65536, (size_t)1 << 32, SIZE_MAX};
+    size_t count, line;
+    for (size_t n = 0; n < sizeof never / sizeof never[0]; n++) {
+        struct lent lent = lend_run(CASE_A, "\0\0\0\1\0", 5), ran = lend_run(CASE_A, "\0\0\0\1\0", 5);
+        uint16_t number = holders_of(lent, never[n], &count, &line);
+        run(ran);
+        check(number == 21 && line == 0 && count == 0, "object %zu was never made: %u", never[n], number);
+        check(memcmp(lent.program.bytes, ran.program.bytes, TABLE) == 0 && memcmp(lent.state.bytes, ran.state.bytes, TABLE) == 0,
+              "21, object %zu: the tables hold the run", never[n]);
+        give_all_back(lent);
+        give_all_back(ran);
+
+        lent = lend_all(CASE_A, strlen(CASE_A), "", 0, TABLE, TABLE - 1, 0);
+        number = holders_of(lent, never[n], &count, &line);
+        check(number == 9 && line == 0 && count == 0 && kept(lent.program, 0) && kept(lent.state, 0), "9 before 21, object %zu: %u", never[n], number);
+        give_all_back(lent);
+
+        lent = lend_run("(thread)\n(let (spawn 1))\n(give (read 0))\n", "", 0);
+        number = holders_of(lent, never[n], &count, &line);
+        check(number == 8 && line == 1 && count == 0 && kept(lent.program, 0) && kept(lent.state, 0), "8 before 21, object %zu: %u", never[n], number);
+        give_all_back(lent);
+    }
+}
+
 /* ---- Copies ---- */
 
 /* The objects are met as 2, 3, 1, 0, and their copies are 4 to 7. The sheets themselves stay. */
 static void copies(void)
 {
-    static const unsigned objects[] = {0, 0, 0, 0, 0, 0, 0, 0,  0, 0, 0, 0, 0, 0, 0, 0,  3, 1, 0, 0, 4, 1, 1, 0,  3, 1, 0, 0, 3, 3, 2, 0,
-                                       2, 1, 1, 0, 6, 8, 8, 0,  2, 1, 1, 0, 5, 5, 7, 0,  2, 0, 1, 0, 0, 0, 0, 0,  2, 0, 1, 0, 0, 0, 0, 0};
+    static const unsigned objects[] = {0, 0, 0, 4, 0, 0, 0, 0,  0, 0, 0, 2, 0, 0, 0, 0,  3, 1, 0, 4, 4, 1, 1, 0,  3, 1, 0, 2, 3, 3, 2, 0,
+                                       2, 1, 1, 3, 6, 8, 8, 0,  2, 1, 1, 1, 5, 5, 7, 0,  2, 0, 1, 1, 0, 0, 0, 0,  2, 0, 1, 2, 0, 0, 0, 0};
     static const unsigned first[] = {1, 2, 0, 6, 7, 0, 258, 1, 2, 3, 4, 1}, second[] = {1, 0, 1, 2, 3, 258, 3, 5};
     struct lent lent = lend_all(SHEETS, strlen(SHEETS), SHEETS_TURNS, TABLE + 1, TABLE + 3, LIST);
     struct answer a = run(lent);
@@ -377,7 +479,7 @@ static void copies(void)
     reaches("thread 1 reaches the sheets and the copies", lent, 1, OBJECTS(0, 1, 2, 3, 4, 5, 6, 7));
     give_all_back(lent);
 
-    static const unsigned iso[] = {1, 0, 0, 0, 0, 0, 0, 0,  0, 0, 0, 0, 0, 0, 0, 0}, slots[] = {1, 0, 0, 2, 3, 0, 1, 2};
+    static const unsigned iso[] = {1, 0, 0, 1, 0, 0, 0, 0,  0, 0, 0, 1, 0, 0, 0, 0}, slots[] = {1, 0, 0, 2, 3, 0, 1, 2};
     lent = lend_run(COPY_OF_ISO, "\0\0", 2);
     a = run(lent);
     check(same(a, (struct answer){OPEN, 0, 0, 0, 0, 2}), "a copy of an iso: end %u, %zu moves", a.end, a.moves);
@@ -414,7 +516,7 @@ static void copy_of_half(void)
     check(same(a, (struct answer){OPEN, 0, 0, 0, 0, turns + 1}), "a copy of 128 objects: end %u, number %zu, %zu moves", a.end, a.number, a.moves);
     check(word(lent.state, 0) == 256 && word(lent.state, 2064) == 129, "256 objects, and slot 3 holds the first copy");
     for (unsigned n = 128; n < 256; n++) {
-        const unsigned words[] = {2, n < 255, 0, 0, n < 255 ? n + 2 : 0, 0, 0, 0};
+        const unsigned words[] = {2, n < 255, 0, 1, n < 255 ? n + 2 : 0, 0, 0, 0};
         wrong += !words_are(lent.state, 8 + 8 * n, 8, words);
     }
     check(wrong == 0, "%zu of 128 copies are wrong", wrong);
@@ -689,6 +791,10 @@ int main(void)
     messages();
     rising();
     reports();
+    holders();
+    self_slots();
+    many_holders();
+    no_object();
     copies();
     copies_stop();
     copy_of_half();

@@ -11,7 +11,7 @@ use second::script::Program;
 
 use crate::lent::Part;
 use crate::library::bytes;
-use crate::{agree, finder, reports, runs};
+use crate::{agree, finder, holders, reports, runs};
 
 /// What the calls came to.
 #[derive(Clone, Debug, Default)]
@@ -19,6 +19,7 @@ pub struct Counts {
     pub read: agree::Counts,
     pub run: runs::Answers,
     pub reach: reports::Counts,
+    pub holders: holders::Counts,
     pub line: finder::Counts,
 }
 
@@ -28,6 +29,7 @@ impl Counts {
             ("read", self.read.rows()),
             ("run", self.run.rows()),
             ("reach", self.reach.rows()),
+            ("holders", self.holders.rows()),
             ("line", self.line.rows()),
         ];
         let mut rows = Vec::new();
@@ -41,7 +43,8 @@ impl Counts {
     }
 
     pub fn missing(&self) -> Vec<String> {
-        let rest = [self.run.rows(), self.reach.rows(), self.line.rows()].concat();
+        let (reach, holders) = (self.reach.rows(), self.holders.rows());
+        let rest = [self.run.rows(), reach, holders, self.line.rows()].concat();
         [self.read.missing(), runs::zeros(rest)].concat()
     }
 }
@@ -58,7 +61,8 @@ impl Tables {
         (self.program.words(), self.state.words())
     }
 
-    fn after(&self, (program, run): &(Program, Run)) -> Tables {
+    /// As a run leaves them.
+    pub fn after(&self, (program, run): &(Program, Run)) -> Tables {
         Tables {
             program: self.program.with(&layout::program(program)),
             state: self.state.with(&layout::state(&run.state)),
@@ -72,6 +76,7 @@ impl Tables {
 }
 
 /// What is lent to a report, and so to a run and to a reading.
+#[derive(Clone, Debug)]
 pub struct Lent {
     pub text: Vec<u8>,
     pub turns: Vec<u8>,
@@ -142,6 +147,7 @@ fn one(random: &mut Random, lent: &Lent, counts: &mut Counts) -> Result<(), Stri
     read(lent, &mut counts.read).map_err(|fault| format!("box_read: {}", fault))?;
     let after = run(lent, &mut counts.run).map_err(|fault| format!("box_run: {}", fault))?;
     reports::of_all_threads(lent, &after, &mut counts.reach)?;
+    holders::of_all_objects(lent, &mut counts.holders)?;
     finder::lines(random, &lent.text, &mut counts.line)
 }
 

@@ -7,6 +7,7 @@ pub mod corpus;
 pub mod finder;
 pub mod full;
 pub mod graph;
+pub mod holders;
 pub mod host;
 pub mod lent;
 pub mod library;

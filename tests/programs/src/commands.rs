@@ -8,7 +8,7 @@ use crate::started::{ended, Ended, Start};
 use crate::tally::Tally;
 use crate::{file, printed, prints, INPUT, REFUSED};
 
-const NUMBERS: &str = "box: explain: there are the numbers 1 to 20\n";
+const NUMBERS: &str = "box: explain: there are the numbers 1 to 21\n";
 
 fn boxed(wrapper: &str, words: &[&str], input: &str) -> Ended {
     Start::of(&[&[wrapper], words].concat())
@@ -138,13 +138,13 @@ fn others(tally: &mut Tally, wrapper: &str) {
     let none = ended(1, "", NUMBERS);
     let wrong = ended(2, "", &usage);
     let mut cases = vec![
-        (vec!["--version"], ended(0, "box 1.6.0\n", "")),
+        (vec!["--version"], ended(0, "box 1.7.0\n", "")),
         (vec!["--help"], ended(0, &usage, "")),
         (vec!["help"], ended(0, &usage, "")),
     ];
     for word in [
         "0",
-        "21",
+        "22",
         "05",
         "1x",
         " 1",
@@ -219,7 +219,7 @@ fn installed(tally: &mut Tally, room: &Path, folder: &str, wrapper: &str) {
         got.status == Ok(2) && got.out.is_empty() && got.err.contains("box_tool is neither in");
     tally.holds(alone, || format!("without its program: {}", got));
     fs::copy(format!("{}/box_tool", folder), lib.join("box_tool")).expect("a copy of the program");
-    let wanted = ended(0, "box 1.6.0\n", "");
+    let wanted = ended(0, "box 1.7.0\n", "");
     tally.same("installed", &boxed(&path, &["--version"], ""), &wanted);
     let link = room.join("link").display().to_string();
     symlink(&path, &link).expect("a link");

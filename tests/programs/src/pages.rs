@@ -4,15 +4,16 @@ use crate::started::Start;
 use crate::tally::Tally;
 
 #[rustfmt::skip]
-const WORDS: [&str; 20] = [
+const WORDS: [&str; 21] = [
     "overlong", "stray byte", "malformed", "over count", "unbound", "self taken", "unfinished", "dangling", "short table", "absent", "no field",
     "no method", "wrong thing", "permission", "cast", "used up", "no thread", "no script", "alias", "foreign",
+    "no object",
 ];
 
 /// What kind of number it is.
 fn kind(number: usize) -> &'static str {
     match number {
-        17 => "Not reported: ",
+        17 | 21 => "Not reported: ",
         18 => "Not written: ",
         1..=9 => "Refused: ",
         _ => "Stopped: ",

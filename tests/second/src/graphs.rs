@@ -1,5 +1,6 @@
 //! Shapes of many objects: methods make nodes that hold each other, in chains, webs and rings, so
-//! that a thread reaches far and through many frames. In the second edition they copy some too.
+//! that a thread reaches far and through many frames. In the second edition they copy some too. And
+//! one object that hundreds of places hold.
 
 use crate::numbers::{MOST_FIELDS, MOST_FRAMES};
 use crate::random::Random;
@@ -128,4 +129,38 @@ pub fn deep(random: &mut Random) -> Shape {
     );
     let turns = rounds(1, random.between(3, (lines + 1) * MOST_FRAMES + 6));
     ([nodes.head("1"), first, method].concat(), turns)
+}
+
+/// Two threads hold one object in slots of methods and in fields of nodes, hundreds of them; a swap
+/// puts another object in its place, and back.
+pub fn crowded(random: &mut Random) -> Shape {
+    let cap = ["unsafe", "imm"][random.weighted(&[70, 30])];
+    let fields = random.between(1, MOST_FIELDS);
+    let held = " (read 1)".repeat(fields);
+    let (mut lines, mut made) = (String::new(), Vec::new());
+    for slot in 2..2 + random.between(3, 14) {
+        let node = random.pick(&made).filter(|_| cap == "unsafe");
+        let line = match (random.weighted(&[60, 20, 20]), node) {
+            (1, _) => "(read 1)".to_string(),
+            (2, Some(node)) => {
+                let value = random.between(0, slot - 1);
+                format!("(swap {} {} (read {}))", node, random.below(fields), value)
+            }
+            _ => {
+                made.push(slot);
+                format!("(new {} 1{})", cap, held)
+            }
+        };
+        lines.push_str(&format!("(let {})\n", line));
+    }
+    let calls = "(let (call 0 1 (read 1)))\n".repeat(random.between(1, 14));
+    let text = format!(
+        "(kind (fields 0) (does 2 3))\n(kind (fields {}) (does))\n\
+         (thread)\n(let (new {} 0))\n(let (spawn 1))\n(let (send 2 (read 1)))\n\
+         (let (call 1 0 (read 1)))\n(give (take 4))\n\
+         (thread)\n(let (recv 0))\n(let (call 1 0 (read 1)))\n(give (read 0))\n\
+         (method)\n{}(give (read 1))\n(method)\n{}(give (read 1))\n",
+        fields, cap, calls, lines
+    );
+    (text, rounds(2, random.between(40, 600)))
 }

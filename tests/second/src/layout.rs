@@ -1,5 +1,6 @@
 //! The words of both tables, once more, from docs/LAYOUT.md alone.
 
+use crate::holders::holders;
 use crate::numbers::TABLE_WORDS;
 use crate::script::{Block, Cap, Edition, Expr, Kind, Mode, Operand, Program, Sort};
 use crate::state::{Channel, Frame, Object, State, Thread, Value};
@@ -116,12 +117,12 @@ fn value(value: &Value) -> u16 {
     }
 }
 
-fn object(value: &Object) -> Vec<u16> {
+fn object(value: &Object, holders: usize) -> Vec<u16> {
     let mut words = vec![
         cap(value.cap),
         u16::from(value.kind),
         u16::from(value.creator),
-        0,
+        holders as u16,
     ];
     words.extend(value.fields.iter().map(self::value));
     words
@@ -158,7 +159,8 @@ pub fn state(value: &State) -> Vec<u16> {
     place(0, vec![value.objects.len() as u16]);
     place(1, vec![value.threads.len() as u16]);
     for (number, made) in value.objects.iter().enumerate() {
-        place(OBJECTS + number * OBJECT, object(made));
+        let held = holders(value, number as u16);
+        place(OBJECTS + number * OBJECT, object(made, held));
     }
     for (number, started) in value.threads.iter().enumerate() {
         place(THREADS + number * THREAD, thread(started));

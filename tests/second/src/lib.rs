@@ -17,6 +17,7 @@ pub mod state;
 pub mod layout;
 pub mod writing;
 
+pub mod holders;
 pub mod lines;
 pub mod listing;
 pub mod reach;

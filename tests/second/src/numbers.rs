@@ -20,6 +20,7 @@ pub const NO_THREAD: u8 = 17;
 pub const NO_SCRIPT: u8 = 18;
 pub const ALIAS: u8 = 19;
 pub const FOREIGN: u8 = 20;
+pub const NO_OBJECT: u8 = 21;
 
 /// The numbers of stops.
 pub const STOPS: [u8; 9] = [
@@ -69,7 +70,7 @@ pub struct Refusal {
     pub line: usize,
 }
 
-/// The refusals 1, 9 and 17, whose place is always zero.
+/// The refusals 1, 9, 17 and 21, whose place is always zero.
 pub fn refused_at_zero(number: u8) -> Refusal {
     Refusal { number, line: 0 }
 }

@@ -13,7 +13,7 @@ use crate::turns::{list, rounds};
 pub type Shape = (String, Vec<u8>);
 
 pub fn shape(random: &mut Random) -> Shape {
-    match random.weighted(&[5, 5, 6, 3, 6, 4, 4, 8, 12, 16, 5, 8, 8, 10, 12, 8, 36]) {
+    match random.weighted(&[5, 5, 6, 3, 6, 4, 4, 8, 14, 16, 5, 8, 8, 10, 12, 8, 9, 36]) {
         0 => many_kinds(random),
         1 => many_blocks(random),
         2 => many_slots(random),
@@ -30,6 +30,7 @@ pub fn shape(random: &mut Random) -> Shape {
         13 => local_to_a_full_channel(random),
         14 => graphs::woven(random),
         15 => graphs::deep(random),
+        16 => graphs::crowded(random),
         _ => copy_shapes::shape(random),
     }
 }

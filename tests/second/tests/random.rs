@@ -1,5 +1,6 @@
 //! Random inputs of fixed seeds: they reach everything, only moves change a state, a message in
-//! flight is its sender's, and demand 3 holds; and the check of demand 3 itself can fail.
+//! flight is its sender's, an iso object has one holder beside its self slots, and demand 3 holds; and
+//! the check of demand 3 itself can fail.
 
 mod common;
 
@@ -7,9 +8,11 @@ use common::*;
 use second::checks::{decide, Decision};
 use second::demand3::{check, check_many, check_pair};
 use second::generate;
-use second::graphs::{deep, woven};
+use second::graphs::{crowded, deep, woven};
 use second::histogram::Histogram;
-use second::input::{accepted, boxrun, boxrun_stripped};
+use second::holders::{holder_count, holders, holders_but_self, holders_of};
+use second::input::{accepted, boxrun, boxrun_stripped, parts};
+use second::layout;
 use second::machine::{run, End, Machine, Outcome};
 use second::random::Random;
 use second::reach::reach;
@@ -219,6 +222,91 @@ fn a_message_in_flight_counts_as_if_it_were_in_a_slot() {
     assert!(in_flight > 500 && gone > 100 && replaced > 20);
 }
 
+/// "An iso object never has more than one holder when self slots are left out." With them it has.
+#[test]
+fn an_iso_has_at_most_one_holder_beside_its_self_slots() {
+    let (mut held, mut loose, mut by_selves) = (0, 0, 0);
+    each_state(|program, state| {
+        for (number, object) in state.objects.iter().enumerate() {
+            if object.cap == Cap::Iso {
+                let others = holders_but_self(program, state, number as u16);
+                assert!(others <= 1, "object {} of {:?}", number, state);
+                held += others;
+                loose += 1 - others;
+                by_selves += holders(state, number as u16) - others;
+            }
+        }
+    });
+    assert!(held > 5_000 && loose > 500 && by_selves > 500);
+}
+
+/// The words of a state table in which a value stands: fields, slots and messages.
+fn places(words: &[u16]) -> impl Iterator<Item = u16> + '_ {
+    let fields = words[8..2056].chunks(8).flat_map(|object| &object[4..]);
+    let slots = words[2056..6952].chunks(306).flat_map(|thread| {
+        let frames = thread[2..].chunks(19);
+        frames.flat_map(|frame| &frame[3..])
+    });
+    let messages = words[6952..6984].iter().step_by(2);
+    fields.chain(slots).chain(messages).copied()
+}
+
+/// Each object's count is how often its number stands as a value in the table around it; all counts
+/// together are the values that are objects.
+#[test]
+fn the_counts_of_a_table_are_those_of_its_other_words() {
+    let mut most = 0;
+    each_state(|_, state| {
+        let words = layout::state(state);
+        let mut fresh = [0; 256];
+        for value in places(&words).filter(|value| (1..=256).contains(value)) {
+            fresh[usize::from(value) - 1] += 1;
+        }
+        let stored: Vec<u16> = words[8..2056].chunks(8).map(|object| object[3]).collect();
+        assert_eq!(stored, fresh);
+        most = most.max(*stored.iter().max().unwrap());
+    });
+    assert!(most > 60, "at most {}", most);
+}
+
+/// One object has more holders than a byte could count.
+#[test]
+fn crowded_shapes_hold_one_object_in_many_places() {
+    let most = (0..200).map(|n| {
+        let (script, turns) = crowded(&mut Random::of(SEED, n));
+        holders(&run_of(&script, &turns).state, 0)
+    });
+    assert!(most.max().unwrap() > 600);
+}
+
+/// The entry on every prefix of the short lists: the count of the state that these turns leave, and
+/// 21 for the first object that is not there.
+#[test]
+fn counts_after_every_prefix_of_short_lists() {
+    let mut counted = 0;
+    for n in 0..2_000 {
+        let input = generate::input(SEED, n);
+        let (program, turns) = match accepted(&input) {
+            Ok((program, turns)) if turns.len() <= 24 => (program, turns),
+            _ => continue,
+        };
+        let script = parts(&input).unwrap().script;
+        let mut machine = Machine::fresh(&program);
+        for made in 0..=turns.len() {
+            for object in 0..=machine.state.objects.len() {
+                let count = holder_count(script, &turns[..made], 8_192, 8_192, object).unwrap();
+                assert_eq!(count.run.state, machine.state);
+                assert_eq!(count.holders, holders_of(&machine.state, object));
+                counted += usize::from(count.holders.is_ok());
+            }
+            if let Some(thread) = turns.get(made) {
+                machine.turn(*thread);
+            }
+        }
+    }
+    assert!(counted > 500);
+}
+
 /// The slot that a copy's line names, if the thread stands on one.
 fn slot_to_copy(program: &Program, state: &State, thread: u8) -> Option<usize> {
     let frame = state.threads.get(usize::from(thread))?.frames.last()?;
@@ -366,7 +454,7 @@ fn a_stripped_text_reads_as_the_stripped_program() {
     for n in 0..400 {
         let input = generate::input(SEED, n);
         if let Ok((program, _)) = accepted(&input) {
-            let script = second::input::parts(&input).unwrap().script.to_vec();
+            let script = parts(&input).unwrap().script.to_vec();
             assert_eq!(read_lines(&strip_text(&script)), Ok(strip(&program)));
             read += 1;
         }

@@ -50,6 +50,21 @@ pub fn reach(
     }
 }
 
+/// Runs a script and tells how many places hold an object: so many, or the refusal with its line.
+pub fn holders(
+    text: &[u8],
+    turns: &[u8],
+    program: &mut [u8],
+    state: &mut [u8],
+    object: usize,
+) -> Result<usize, Refusal> {
+    match calls::holders(text, turns, program, state, object) {
+        (0, [count, 0]) => Ok(count),
+        (number @ 1.., [0, line]) => Err(refused(number.into(), line)),
+        answer => panic!("no answer of a count: {:?}", answer),
+    }
+}
+
 /// Finds a line of a text: where it starts and how long it is.
 pub fn line(text: &[u8], n: usize) -> (usize, usize) {
     let (length, [start]) = calls::line(text, n);
