@@ -27,6 +27,7 @@ pub mod Stripped
 pub mod Reach
 pub mod Calls
 pub mod Writer
--- "The printed run": the listing, and boxrun's own input
+-- "The printed run": the listing, and boxrun's own input; the objects drawn as a graph
 pub mod Listing
 pub mod Input
+pub mod Drawing

@@ -45,3 +45,7 @@ reachList = 256
 -- "at most 65,536 bytes": the input of boxrun
 abbrev pub input : ℕ
 input = 65536
+
+-- document 02, L8: "a lent buffer of 65,536 bytes"
+abbrev pub drawing : ℕ
+drawing = 65536
