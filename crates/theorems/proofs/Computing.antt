@@ -5,11 +5,12 @@ use Rattle.rules.specs.Run.{blockOf, lineNow, after, advance, runFrom, run, isF
 use Rattle.rules.specs.Stripped.{strip, stripExpr, stripBlock}
 use Rattle.rules.specs.Lists.{placeOf, any, all, rising}
 use Rattle.rules.specs.Script.{kindsOf, letsOf, resultOf, blocksOf, programOf, kindAt, blockAt, lineOf, lineAt}
-use Rattle.rules.specs.Templates.{_>>=_ as _⟫=_, orElse, literal, digitsAt, isNumber, decimalValue, number, decimal, operandBy, operand as operand′, capBy, capability, many, printMany, fit, firstFit, decode}
+use Rattle.rules.specs.Templates.{_>>=_ as _⟫=_, orElse, literal, digitsAt, isNumber, decimalValue, number, decimal, operandBy, operand as operand′, capBy, capability, many, printMany, print, fit, firstFit, decode}
 use Rattle.rules.specs.State.{objectAt, threadAt, channelAt, slotAt, start}
 use Rattle.rules.specs.Turn.{_>>=_, _>>_, check, waitUnless, permit, isImm, isIso, isLocal, sameCap, mayHold, isForeign, isAbsent, isIsoObject, present, asObject, asChannel, operand, operands, allObjects, object, putThread, putObjects, putChannel, filled, withSlots, gives, valueLine, fieldLine, areApart, permitSwap, setField, swapLine, callLine, newLine, castLine, started, spawnLine, putLine, sentLine, sendLine, recvLine, renamed, copyOf, copyLine, returned, giveLine, letLine, perform, turnOf, turn}
 use Rattle.rules.specs.Reach.{slotsOf, messageOf, messageOn, sendTarget, putBy, inFlight, roots, reachList}
 use Rattle.rules.specs.Walk.{walk, visit, visits, metFrom}
+use Rattle.rules.specs.Drawing.{nodeLine, edgeLine, edgeLines, drawing}
 use Rattle.rules.specs.Listing.{bracket, aLine, endWord, answerLine, valueText, objectLine, messageText, channelLine, senderText, threadParts, threadLine, numbered, stateLines, listing}
 
 -- opens what reads a text
@@ -31,3 +32,8 @@ prints-runs = tt
 unfoldable pub reaches-objects : Unit {0}
 unfolding slotsOf messageOf messageOn sendTarget putBy inFlight roots walk visit visits metFrom rising reachList
 reaches-objects = tt
+
+-- opens what draws them
+unfoldable pub draws-objects : Unit {0}
+unfolding print numbered nodeLine edgeLine edgeLines drawing
+draws-objects = tt

@@ -19,6 +19,8 @@ mod LaterStates
 mod InFlight
 -- an iso object has at most one holder
 mod OneHolders
+-- how long a drawing can be
+mod DrawingLengths
 -- capabilities play no part in a report
 mod ReportLaws
 -- the stripped script's text is accepted unless it is too long

@@ -1,8 +1,8 @@
 -- Every case of an order or a reading comes out as stated, computed as the starred ones are.
 use mathlib.Core.Path.{refl}
 use Rattle.theorems.specs.Cases.{AllHold}
-use Rattle.theorems.specs.Readings.{refusals, cases, grounds, editions, foreignWithin, copies, copyWithin, ForeignBeforeRoom, reachedIn, AllReached, echo, reports}
-use Rattle.theorems.proofs.Computing.{reaches-objects}
+use Rattle.theorems.specs.Readings.{refusals, cases, grounds, editions, foreignWithin, copies, copyWithin, ForeignBeforeRoom, reachedIn, AllReached, echo, reports, drawnFrom, drawnScript, DrawsExample}
+use Rattle.theorems.proofs.Computing.{reaches-objects, draws-objects}
 use Rattle.theorems.proofs.Cases.{computed}
 
 every-refusal : AllHold refusals
@@ -32,3 +32,7 @@ every-room = (refl, refl)
 every-report : AllReached reports
 unfolding echo reports reachedIn computed reaches-objects
 every-report = refl
+
+every-drawing : DrawsExample
+unfolding drawnScript drawnFrom computed draws-objects
+every-drawing = refl

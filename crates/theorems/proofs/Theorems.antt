@@ -22,6 +22,7 @@ use Rattle.rules.specs.Fits.{Fits}
 use Rattle.rules.specs.Reach.{count, roots, OneList, reachList}
 use Rattle.rules.specs.Holders.{holders}
 use Rattle.rules.specs.HolderChanges.{gained, lost}
+use Rattle.rules.specs.Drawing.{drawing}
 use Rattle.table.specs.StateTable.{Held}
 use Rattle.theorems.specs.Copies.{AtCopy, CopyTurn}
 use Rattle.theorems.specs.InFlight.{SendersKeep}
@@ -39,6 +40,7 @@ use Rattle.theorems.proofs.SmallWords.{In16Bits, program-words-small, s
 use Rattle.theorems.proofs.Copies.{copy-turn}
 use Rattle.theorems.proofs.InFlight.{senders-keep}
 use Rattle.theorems.proofs.OneHolders.{one-holder}
+use Rattle.theorems.proofs.DrawingLengths.{drawing-length}
 use Rattle.theorems.proofs.StrippedReads.{stripped-reads, none-is-long}
 
 module _ (text : List ℕ) (P : Program) (is-accepted : script mosts text ≡ accepted P) where
@@ -107,6 +109,13 @@ module _ (text : List ℕ) (P : Program) (is-accepted : script mosts text ≡ ac
     -- "and that an iso object never has more than one holder when self slots are left out"
     pub iso-has-one-holder : OneHolder P (run mosts P ts .state)
     iso-has-one-holder = one-holder mosts P ts valid (omega arith)
+
+    -- Document 02, L8: "Bound the length and show that the buffer always suffices."
+    pub drawing-is-short : length (drawing (run mosts P ts .state)) ≤ 42283
+    drawing-is-short = drawing-length state-fits
+
+    pub drawing-fits : length (drawing (run mosts P ts .state)) ≤ Most.drawing
+    drawing-fits = omega (arith, drawing-is-short)
 
 -- Document 02, L2: "Every text that the reader accepts comes back byte for byte from its table."
 pub every-text-comes-back : ComesBack mosts

@@ -1,5 +1,5 @@
 -- What the orders of refusals and checks and the four "Readings that sound reasonable" come to: cases in which another order or reading
--- would give something else; what copies give; and what messages in flight add to the reports.
+-- would give something else; what copies give; what messages in flight add to the reports; and a drawing.
 use Prim.Native.Nat.{ℕ}
 use Prim.Native.String as S
 use mathlib.Core.Path.{_≡_}
@@ -14,6 +14,7 @@ use Rattle.rules.specs.State.{ready, State}
 use Rattle.rules.specs.Turn.{Res, stop, copyLine}
 use Rattle.rules.specs.Run.{run, refused, ended, halted, finished, stuck, openEnd}
 use Rattle.rules.specs.Reach.{roots, reachList}
+use Rattle.rules.specs.Drawing.{drawing}
 use Rattle.theorems.specs.Cases.{Case, guarded, stripped, prints, answers}
 
 unfoldable pub refusals : List Case
@@ -184,3 +185,20 @@ reports =
     ∷ record { text = echo; turns = 0 ∷ 0 ∷ 0 ∷ 0 ∷ 1 ∷ 1 ∷ []; thread = 0; reached = [] }
     ∷ record { text = echo; turns = 0 ∷ 0 ∷ 0 ∷ 0 ∷ 1 ∷ 1 ∷ []; thread = 1; reached = 0 ∷ 1 ∷ [] }
     ∷ []
+
+-- ---- Drawings (document 02, L8)
+
+-- what is drawn of a text's run, if it is accepted
+unfoldable pub drawnFrom : List ℕ → Reading → List ℕ
+drawnFrom ts (turnedAway k n) = []
+drawnFrom ts (accepted P) = drawing (run mosts P ts .state)
+
+-- the example of docs/DRAWING.md: all nodes before all edges, an edge for each field with its number, the run as the guard stopped it
+unfoldable pub drawnScript : S.String
+drawnScript =
+    "(kind (fields 0) (does))\n(kind (fields 0) (does))\n(kind (fields 1) (does 2))\n(kind (fields 2) (does))\n(thread)\n(let (spawn 1))\n(let (new imm 0))\n(let (new imm 1))\n(let (new local 2 (read 2)))\n(let (new unsafe 3 (read 4) (read 2)))\n(let (send 1 (take 5)))\n(let (call 4 0 (read 3)))\n(give (read 4))\n(thread)\n(let (recv 0))\n(let (field 1 0))\n(let (field 1 1))\n(let (call 2 0 (read 3)))\n(give (read 2))\n(method)\n(let (swap 0 0 (read 1)))\n(give (read 2))\n"
+
+abbrev pub DrawsExample : Type 0
+DrawsExample =
+    drawnFrom (0 ∷ 0 ∷ 0 ∷ 0 ∷ 0 ∷ 0 ∷ 1 ∷ 0 ∷ 1 ∷ 1 ∷ 0 ∷ 0 ∷ 0 ∷ 0 ∷ 1 ∷ 1 ∷ 1 ∷ 1 ∷ []) (script mosts (bytes drawnScript))
+    ≡ bytes "digraph objects {\n  node [style=filled];\n  0 [label=\"0 imm\", shape=box, fillcolor=lightblue];\n  1 [label=\"1 imm\", shape=box, fillcolor=lightblue];\n  2 [label=\"2 local\", shape=house, fillcolor=khaki];\n  3 [label=\"3 unsafe\", shape=octagon, fillcolor=salmon];\n  2 -> 1 [label=\"0\"];\n  3 -> 2 [label=\"0\"];\n  3 -> 0 [label=\"1\"];\n}\n"
