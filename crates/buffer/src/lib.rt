@@ -1,11 +1,11 @@
-// Numbers and words written into a lent buffer. Each function writes at a place and answers the place after its text. Numbers and the words of
-// capabilities stand after a space in every line, and it is written with them.
+// Numbers and words written into a lent buffer. Each function writes at a place and answers the place after its text. Where numbers and the words
+// of capabilities stand after a space, it is written with them.
 use rules::Cap;
 ghost use mathlib.Core.List.{[], _∷_};
 ghost use Prim.Native.Nat.{_+_, _≤_, _<_};
 ghost use lib.ListN.{length};
 ghost use Rattle.rules.specs.Text.{space};
-ghost use Rattle.rules.specs.Templates.{digitAt, capWord};
+ghost use Rattle.rules.specs.Templates.{digitAt, decimal, capWord};
 ghost use Rattle.buffer.specs.Writing.{Wrote, numberPart};
 
 pub fn put_byte(buf: &mut [u8], at: usize, b: u8) -> usize
@@ -41,16 +41,24 @@ fn put_digit(buf: &mut [u8], at: usize, n: usize, place: usize) -> usize
 }
 
 // A number in decimal: at most five digits.
+pub fn put_decimal(buf: &mut [u8], at: usize, n: usize) -> usize
+    requires { ⌜ at + 5 ≤ length (now buf) ⌝ }
+    ensures { λ r. ⌜ Wrote 5 (now (buf .entry)) (now (buf .exit)) at r (decimal n) ⌝ }
+{
+    let a = put_digit(buf, at, n, 10000);
+    let b = put_digit(buf, a, n, 1000);
+    let c = put_digit(buf, b, n, 100);
+    let d = put_digit(buf, c, n, 10);
+    put_byte(buf, d, 48 + (n % 10) as u8)
+}
+
+// A number after a space.
 pub fn put_number(buf: &mut [u8], at: usize, n: usize) -> usize
     requires { ⌜ at + 6 ≤ length (now buf) ⌝ }
     ensures { λ r. ⌜ Wrote 6 (now (buf .entry)) (now (buf .exit)) at r (numberPart n) ⌝ }
 {
-    let a = put_byte(buf, at, b' ');
-    let b = put_digit(buf, a, n, 10000);
-    let c = put_digit(buf, b, n, 1000);
-    let d = put_digit(buf, c, n, 100);
-    let e = put_digit(buf, d, n, 10);
-    put_byte(buf, e, 48 + (n % 10) as u8)
+    let a = put_byte(buf, at, b' '); // before the digits
+    put_decimal(buf, a, n)
 }
 
 // The word of a capability.

@@ -1,8 +1,8 @@
 -- Why the printed run stands in the output.
 -- texts of a state, one after the other
-mod StateTexts
+pub mod StateTexts
 -- the texts of parts, lines and rows; the rows of a state
-mod LineTexts
-mod StateRows
+pub mod LineTexts
+pub mod StateRows
 -- from the run to what is printed
 pub mod PrintOutcomes

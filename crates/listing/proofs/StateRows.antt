@@ -12,10 +12,10 @@ use Rattle.rules.specs.Mosts as Most
 use Rattle.rules.specs.Mosts.{mosts}
 use Rattle.rules.specs.Text.{bytes, space}
 use Rattle.rules.specs.Script.{Program}
-use Rattle.rules.specs.State.{noObject, Frame, noThread, State, objectAt, threadAt, channelAt, slotAt}
+use Rattle.rules.specs.State.{Object, noObject, Frame, noThread, State, objectAt, threadAt, channelAt, slotAt}
 use Rattle.rules.specs.Tables.{senderWord}
 use Rattle.rules.specs.Fits.{Fits}
-use Rattle.rules.specs.Listing.{valueText, objectLine, channelLine, senderText, threadLine, numbered}
+use Rattle.rules.specs.Listing.{valueText, channelLine, senderText, threadLine, numbered}
 use Rattle.rules.proofs.Keeps.{object-fits, thread-fits}
 use Rattle.table.specs.StateTable.{InTable, Held, Sees, Any, FieldIn, frameAt}
 use Rattle.table.proofs.StateEdits.{innermost-frame}
@@ -92,9 +92,10 @@ module _ {s : List ℕ} (t k : ℕ) where
 
 -- ---- Objects
 
-module _ {s : List ℕ} where
-  pub no-object-yet : {l : List ℕ} {at : ℕ} → at ≤ length l → Writes (86 * 0) s l l at at Any (λ S. numbered objectLine 0 (take 0 (S .objects)))
-  no-object-yet there = none-yet (86 * 0) (λ S. numbered objectLine 0 []) (λ S. no-lines objectLine 0) there
+-- a line for each object, of whatever text
+module _ {s : List ℕ} (line : ℕ → Object → List ℕ) where
+  pub no-object-yet : {l : List ℕ} {at : ℕ} → at ≤ length l → Writes 0 s l l at at Any (λ S. numbered line 0 (take 0 (S .objects)))
+  no-object-yet there = none-yet 0 (λ S. numbered line 0 []) (λ S. no-lines line 0) there
 
   module _ {d : ℕ} (counted : Sees s Any (λ S. length (S .objects)) d) where
     object-count : (P : Program) (n : ℕ) (S : State) (rest : List ℕ) → Held s S rest → Fits mosts P n S → d % 257 ≡ length (S .objects)
@@ -102,22 +103,23 @@ module _ {s : List ℕ} where
         let same = counted .sees S rest held tt in
         rw same (mod-eq-of-lt (omega (arith, fits .few-objects)))
 
-    pub object-after : {l l₁ l₂ : List ℕ} {at m r : ℕ} (o : ℕ) → o < d % 257 → Writes (86 * o) s l l₁ at m Any (λ S. numbered objectLine 0 (take o (S .objects)))
-        → Writes 86 s l₁ l₂ m r (λ S. o < length (S .objects)) (λ S. objectLine o (objectAt (S .objects) o))
-        → Writes (86 * (o + 1)) s l l₂ at r Any (λ S. numbered objectLine 0 (take (o + 1) (S .objects)))
+    pub object-after : {i j k : ℕ} {l l₁ l₂ : List ℕ} {at m r : ℕ} (o : ℕ) → o < d % 257 → i + j ≤ k
+        → Writes i s l l₁ at m Any (λ S. numbered line 0 (take o (S .objects)))
+        → Writes j s l₁ l₂ m r (λ S. o < length (S .objects)) (λ S. line o (objectAt (S .objects) o))
+        → Writes k s l l₂ at r Any (λ S. numbered line 0 (take (o + 1) (S .objects)))
     unfolding objectAt
-    object-after o more a b =
-        same-texts (86 * (o + 1))
-        (λ P n S rest held fits any. rw (add-one o) (line-next objectLine 0 (S .objects) o o noObject (zero-add o) (there P n S rest held fits)))
-        (omega arith) (a ▹ under (λ P n S rest held fits any. there P n S rest held fits) b)
+    object-after {k = k} o more wide a b =
+        same-texts k
+        (λ P n S rest held fits any. rw (add-one o) (line-next line 0 (S .objects) o o noObject (zero-add o) (there P n S rest held fits)))
+        wide (a ▹ under (λ P n S rest held fits any. there P n S rest held fits) b)
       where
         there : (P : Program) (n : ℕ) (S : State) (rest : List ℕ) → Held s S rest → Fits mosts P n S → o < length (S .objects)
         there P n S rest held fits = rw (object-count P n S rest held fits) at more
 
-    pub all-objects : {l l₁ : List ℕ} {at m : ℕ} (o : ℕ) → o ≤ 256 → d % 257 ≤ o → Writes (86 * o) s l l₁ at m Any (λ S. numbered objectLine 0 (take o (S .objects)))
-        → Writes 22016 s l l₁ at m Any (λ S. numbered objectLine 0 (S .objects))
-    all-objects o few all a =
-        same-texts 22016 (λ P n S rest held fits any. ap (numbered objectLine 0) (take-all o (S .objects) (rw (object-count P n S rest held fits) at all))) (omega arith) a
+    pub all-objects : {i k : ℕ} {l l₁ : List ℕ} {at m : ℕ} (o : ℕ) → d % 257 ≤ o → i ≤ k → Writes i s l l₁ at m Any (λ S. numbered line 0 (take o (S .objects)))
+        → Writes k s l l₁ at m Any (λ S. numbered line 0 (S .objects))
+    all-objects {k = k} o all wide a =
+        same-texts k (λ P n S rest held fits any. ap (numbered line 0) (take-all o (S .objects) (rw (object-count P n S rest held fits) at all))) wide a
 
 -- ---- Channels and threads
 

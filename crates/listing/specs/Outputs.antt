@@ -1,4 +1,4 @@
--- The printed run in a lent output. `printedOf` and `outputAfter` speak of any text.
+-- The printed run in a lent output. `printedIn`, `printedOf` and what they leave speak of any text.
 use Prim.Native.Nat.{ℕ}
 use mathlib.Core.Bool.{false, _||_, cond}
 use mathlib.Core.List.{List, _++_}
@@ -20,17 +20,23 @@ use Rattle.listing.specs.declared.Printed.the-variants.{Refused, Written
 unfoldable pub runText : (text turns : List ℕ) → List ℕ
 runText text turns = printed (ranOn mosts turns (reading mosts (longText text || longTurns turns) false text))
 
--- how many bytes a lent output needs: every listing fits
+-- In a lent output that must have `room` bytes. "9 short table: a lent table or list under its length"; otherwise the text's bytes are counted
+abbrev pub printedIn : (room : ℕ) → (text output : List ℕ) → Printed
+printedIn room text output = cond (ltb (length output) room) (Refused No.shortTable 0) (Written (length text))
+
+-- "Numbers 1 to 9 change no lent word."; otherwise the text stands first, and the bytes past it keep their value
+abbrev pub outputIn : (room : ℕ) → (text output : List ℕ) → List ℕ
+outputIn room text output = cond (ltb (length output) room) output (text ++ drop (length text) output)
+
+-- how many bytes the output of a printed run needs: every listing fits
 abbrev pub outputBytes : ℕ
 outputBytes = 32768
 
--- "9 short table: a lent table or list under its length"; otherwise the text's bytes are counted
 unfoldable pub printedOf : (text output : List ℕ) → Printed
-printedOf text output = cond (ltb (length output) outputBytes) (Refused No.shortTable 0) (Written (length text))
+printedOf text output = printedIn outputBytes text output
 
--- "Numbers 1 to 9 change no lent word."; otherwise the text stands first, and the bytes past it keep their value
 unfoldable pub outputAfter : (text output : List ℕ) → List ℕ
-outputAfter text output = cond (ltb (length output) outputBytes) output (text ++ drop (length text) output)
+outputAfter text output = outputIn outputBytes text output
 
 -- the line of what the run answers, from the code's enum
 abbrev pub answerText : Run.Answer → List ℕ

@@ -1,20 +1,17 @@
 -- What box save prints of an input: "Every text that the reader accepts comes back byte for byte from its table", and its line of turns after
 -- it; what boxrun turns away, as boxrun does.
 use Prim.Native.Nat.{ℕ}
-use mathlib.Core.Bool.{false, cond}
+use mathlib.Core.Bool.{false}
 use mathlib.Core.List.{List, _++_}
-use lib.Dec.{ltb}
-use lib.ListN.{length, drop}
 use Rattle.rules.specs.Mosts as Most
 use Rattle.rules.specs.Mosts.{mosts}
-use Rattle.rules.specs.Numbers as No
 use Rattle.rules.specs.Reading.{Reading, turnedAway, accepted, reading}
 use Rattle.rules.specs.Run.{refused}
 use Rattle.rules.specs.Calls.{longText}
 use Rattle.rules.specs.Listing.{answerLine}
 use Rattle.rules.specs.Input.{Outcome, turnsAway, ran, outcome}
 use Rattle.listing.specs.declared.Printed.{Printed}
-use Rattle.listing.specs.declared.Printed.the-variants.{Refused, Written}
+use Rattle.listing.specs.Outputs.{printedIn, outputIn}
 
 abbrev pub savedAs : List ℕ → Outcome → List ℕ
 savedAs input (turnsAway k n) = answerLine (refused k n)
@@ -37,7 +34,7 @@ savedBytes = Most.input
 
 -- as a printed run stands in a lent output, which is longer here
 unfoldable pub savedIn : (text output : List ℕ) → Printed
-savedIn text output = cond (ltb (length output) savedBytes) (Refused No.shortTable 0) (Written (length text))
+savedIn text output = printedIn savedBytes text output
 
 unfoldable pub savedAfter : (text output : List ℕ) → List ℕ
-savedAfter text output = cond (ltb (length output) savedBytes) output (text ++ drop (length text) output)
+savedAfter text output = outputIn savedBytes text output

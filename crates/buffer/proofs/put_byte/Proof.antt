@@ -1,4 +1,4 @@
--- `texts::put_byte` meets its contract: one byte is set.
+-- `buffer::put_byte` meets its contract: one byte is set.
 use Rattle.buffer.proofs.Appends.{byte}
 use borrow.Author.Needs.{needs}
 use Rattle.buffer.proofs.put_byte.Statement.{statement}

@@ -1,4 +1,4 @@
--- `texts::put_cap` meets its contract: a space, and the word of each capability.
+-- `buffer::put_cap` meets its contract: a space, and the word of each capability.
 use native.Mathlib.Omega.{arith}
 use mathlib.Core.Path.{refl}
 use Rattle.buffer.proofs.Appends.{_▹_, same-text}

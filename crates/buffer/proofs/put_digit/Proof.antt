@@ -1,4 +1,4 @@
--- `texts::put_digit` meets its contract: the number is below the place, or its digit there is written.
+-- `buffer::put_digit` meets its contract: the number is below the place, or its digit there is written.
 use Prim.Native.Nat.{_/_, _%_}
 use native.Mathlib.Omega.{arith}
 use borrow.Author.Tests.{lt-ltb, le-ltb}

@@ -1,9 +1,5 @@
--- `texts::put_number` meets its contract: a space, and the digits by place.
-use Prim.Native.Nat.{_%_}
-use native.Mathlib.Omega.{arith}
-use Rattle.rules.specs.Templates.{decimal}
+-- `buffer::put_number` meets its contract: a space, and the number.
 use Rattle.buffer.proofs.Appends.{_▹_}
-use Rattle.buffer.proofs.Digits.{digit-code}
 use borrow.Author.Needs.{needs}
 use Rattle.buffer.proofs.put_number.Statement.{statement}
 use Rattle.buffer.proofs.put_number.Tie as tie
@@ -11,54 +7,14 @@ use Rattle.buffer.proofs.put_number.Tie as tie
 put-byte-requires : tie.Need-put-byte-requires
 put-byte-requires c κs = search needs
 
-put-digit-requires : tie.Need-put-digit-requires
-put-digit-requires c κs = search needs
-
-put-digit-requires-2 : tie.Need-put-digit-requires-2
-put-digit-requires-2 c κs = search needs
-
-put-digit-requires-3 : tie.Need-put-digit-requires-3
-put-digit-requires-3 c κs = search needs
-
-put-digit-requires-4 : tie.Need-put-digit-requires-4
-put-digit-requires-4 c κs = search needs
-
-cast-put-byte : tie.Need-cast-put-byte
-cast-put-byte c = search needs
-
-add-put-byte : tie.Need-add-put-byte
-add-put-byte c = search needs
-
-put-byte-requires-2 : tie.Need-put-byte-requires-2
-put-byte-requires-2 c κs = search needs
+put-decimal-requires : tie.Need-put-decimal-requires
+put-decimal-requires c κs = search needs
 
 same-length : tie.Need-same-length
 same-length c = search needs
 
 returns : tie.Need-returns
-unfolding decimal
-returns c =
-    let at-put-digit4 = c .before .before .before .before .before .before in
-    let at-put-digit3 = at-put-digit4 .before .before .before .before in
-    let at-put-digit2 = at-put-digit3 .before .before .before .before in
-    let at-put-digit = at-put-digit2 .before .before .before .before in
-    let at-put-byte = at-put-digit .before .before .before .before in
-    let n = at-put-byte .before .before .before .args .n in
-    rw (← digit-code (n % 10) (omega arith))
-    (at-put-byte .put-byte .ensures ▹ at-put-digit .put-digit .ensures ▹ at-put-digit2 .put-digit2 .ensures ▹ at-put-digit3 .put-digit3 .ensures ▹ at-put-digit4 .put-digit4 .ensures
-    ▹ c .before .before .put-byte2 .ensures)
+returns c = c .before .before .before .before .before .before .put-byte .ensures ▹ c .before .before .put-decimal .ensures
 
 pub put-number-spec : {M : Type 1} → statement M
-put-number-spec =
-    tie.close
-    (tie.spec
-    put-byte-requires
-    put-digit-requires
-    put-digit-requires-2
-    put-digit-requires-3
-    put-digit-requires-4
-    cast-put-byte
-    add-put-byte
-    put-byte-requires-2
-    same-length
-    returns)
+put-number-spec = tie.close (tie.spec put-byte-requires put-decimal-requires same-length returns)

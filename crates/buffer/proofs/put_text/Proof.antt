@@ -1,4 +1,4 @@
--- `texts::put_text` meets its contract: before turn i the first i bytes stand there.
+-- `buffer::put_text` meets its contract: before turn i the first i bytes stand there.
 use Prim.Native.Nat.{_+_, _-_, _≤_}
 use native.Mathlib.Nat.{add-zero}
 use native.Mathlib.Omega.{arith}

@@ -21,7 +21,7 @@ object-count-requires : tie.Need-object-count-requires Inv-loop μ-loop
 object-count-requires c κs = c .before .before .pre .1
 
 loop-holds : tie.Need-loop-holds Inv-loop μ-loop
-loop-holds c = (search needs, search needs, no-object-yet (search needs))
+loop-holds c = (search needs, search needs, no-object-yet objectLine (search needs))
 
 put-object-requires : tie.Need-put-object-requires Inv-loop μ-loop
 put-object-requires c κs = (omega (arith, c .before .before .loop .inv .2 .most), c .before .before .before .before .before .before .pre .1, omega arith)
@@ -36,15 +36,15 @@ loop-again : tie.Need-loop-again Inv-loop μ-loop
 loop-again c = (
   omega arith,
   search needs,
-  object-after (c .before .before .before .before .before .before .object-count .ensures .1) (c .before .before .before .before .before .loop .o)
-      (c .before .before .before .before .loop-test .taken) (c .before .before .before .before .before .loop .inv .2) (c .before .before .put-object .ensures),
+  object-after objectLine (c .before .before .before .before .before .before .object-count .ensures .1) (c .before .before .before .before .before .loop .o)
+      (c .before .before .before .before .loop-test .taken) (omega arith) (c .before .before .before .before .before .loop .inv .2) (c .before .before .put-object .ensures),
 )
 
 same-length : tie.Need-same-length Inv-loop μ-loop
 same-length c = c .before .loop .inv .1
 
 returns : tie.Need-returns Inv-loop μ-loop
-returns c = all-objects (c .before .before .object-count .ensures .1) (c .before .loop .o) (c .before .loop .inv .0) (c .loop-test .left) (c .before .loop .inv .2)
+returns c = all-objects objectLine (c .before .before .object-count .ensures .1) (c .before .loop .o) (c .loop-test .left) (omega (arith, c .before .loop .inv .0)) (c .before .loop .inv .2)
 
 pub put-objects-spec : {M : Type 1} → statement M
 put-objects-spec =
