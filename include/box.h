@@ -7,8 +7,8 @@
  * - A slice is a pointer and its length in bytes. No pointer may be null unless it is a slice's and the length is 0.
  * - What is lent is lent for the call alone: nothing is kept after it, and nothing is carried from one call to the next.
  * - Slices and numbers that the call writes must overlap no other argument.
- * - The tables and the list are written, never read: what they held does not matter. Bytes past BOX_TABLE_BYTES (BOX_LIST_BYTES) keep their
- *   value. Only box_write reads a table, which may hold any bytes; it writes none.
+ * - The tables, the list and the buffers are written, never read: what they held does not matter. Bytes past BOX_TABLE_BYTES (BOX_LIST_BYTES)
+ *   keep their value, and those of a buffer past its text. Only box_write reads a table, which may hold any bytes; it writes none.
  * - Every number that is lent by pointer is written by every call, 0 where there is nothing to say.
  * - A call takes under 72 KB of stack, of which the walk through a chain of 256 objects, for a copy or a report, takes 33 KB; box_read takes
  *   under 24 KB. A call allocates nothing, and may be made by several threads at once, each on arguments of its own.
@@ -27,7 +27,7 @@ extern "C" {
 /* The version of this header. The minor number counts the requests that have landed since the base, the patch number any other change; in one
  * number each has two digits. Header and library belong together where box_version() is BOX_VERSION. */
 #define BOX_VERSION_MAJOR 1
-#define BOX_VERSION_MINOR 7
+#define BOX_VERSION_MINOR 8
 #define BOX_VERSION_PATCH 0
 #define BOX_VERSION (10000 * BOX_VERSION_MAJOR + 100 * BOX_VERSION_MINOR + BOX_VERSION_PATCH)
 
@@ -42,6 +42,9 @@ extern "C" {
 /* The shortest buffer that may be lent for a script to be written, in bytes. A shorter one is refused with BOX_SHORT_TABLE. */
 #define BOX_SCRIPT_BYTES 16384
 
+/* The same for a drawing. No drawing is so long: it has at most 42,283 bytes. */
+#define BOX_DRAWING_BYTES 65536
+
 /* How a run ends. */
 #define BOX_FINISHED 0 /* all threads finished */
 #define BOX_STUCK 1    /* some unfinished, and each of these would wait */
@@ -49,7 +52,7 @@ extern "C" {
 #define BOX_STOPPED 3  /* a turn stopped it */
 #define BOX_REFUSED 4  /* it was turned away */
 
-/* Refusals. 1 to 9 change no byte of a table or list. */
+/* Refusals. 1 to 9 change no byte of a table, list or buffer. */
 #define BOX_OVERLONG 1    /* text or turns too long */
 #define BOX_STRAY_BYTE 2  /* a byte outside the list */
 #define BOX_MALFORMED 3   /* not a form of the text's edition, out of its place, or without its LF */
@@ -58,7 +61,7 @@ extern "C" {
 #define BOX_SELF_TAKEN 6  /* take of slot 0 in a method */
 #define BOX_UNFINISHED 7  /* no block, or the last one open */
 #define BOX_DANGLING 8    /* no such kind or block, wrong sort of block, operands unlike the kind's fields, block 0 not a thread */
-#define BOX_SHORT_TABLE 9 /* a lent table or list under its length */
+#define BOX_SHORT_TABLE 9 /* a lent table, list or buffer under its length */
 
 /* Stops. */
 #define BOX_ABSENT 10      /* a slot that holds nothing */
@@ -189,6 +192,24 @@ uint16_t box_holders(const uint8_t *text, size_t text_len,
                      uint8_t *state, size_t state_len,
                      size_t object,
                      size_t *count, size_t *line);
+
+/* Runs a script as box_run does, then draws the objects of the run, for support staff: a directed graph in the DOT language of Graphviz, with a node
+ * for each object that was made, its label the number and the capability, and an edge for each field that holds an object, its label the field's
+ * number. docs/DRAWING.md has the text to the byte. It ends in LF, not in 0.
+ *
+ *   text, turns, program, state   as for box_run
+ *   graph     gets the text, at least BOX_DRAWING_BYTES; bytes past the text keep their value
+ *   written   gets how many bytes were written
+ *   line      gets the refusal's line, as box_read says it
+ *
+ * Answers 0 where it drew, also a run that stopped, as it stands; else the refusal's number, 1 to 9: tables and buffer then keep every byte, and
+ * written gets 0. */
+uint16_t box_draw(const uint8_t *text, size_t text_len,
+                  const uint8_t *turns, size_t turns_len,
+                  uint8_t *program, size_t program_len,
+                  uint8_t *state, size_t state_len,
+                  uint8_t *graph, size_t graph_len,
+                  size_t *written, size_t *line);
 
 /* Finds line n of a text, of any bytes and any length.
  *

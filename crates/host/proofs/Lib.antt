@@ -4,5 +4,6 @@ mod Stored
 mod Loaded
 mod Crossing
 mod CountsCross
+mod DrawsCross
 -- a script that is loaded and saved comes back
 mod RoundTrip

@@ -14,6 +14,7 @@ use Rattle.rules.specs.Run.{run, answer}
 use Rattle.rules.specs.Stripped.{Matches}
 use Rattle.rules.specs.Tables.{programWords, stateWords}
 use Rattle.rules.specs.Calls.{longText, inputs, runAnswer, Report, unreported, reached, reachReport, listWords, Count, uncounted, counted, holderCount}
+use Rattle.rules.specs.Drawing.{Drawn, undrawn, drawn, drawnOf, bufferAfter}
 use Rattle.rules.specs.Writer as Writer
 use Rattle.rules.specs.Writer.{refused, wrote, WriteCall}
 use Rattle.reader.specs.ReadAnswers.{numberOf, lineOf}
@@ -157,6 +158,39 @@ pub record HasCounted (C : Reading) (turns : List ℕ) (object : ℕ) (program s
 abbrev pub CountsBytes : (text turns program state : List ℕ) → (object number count line : ℕ) → (program₁ state₁ : List ℕ) → Type 0
 CountsBytes text turns program state object number count line program₁ state₁ =
     HasCounted (runBytes text turns program state) turns object program state number count line program₁ state₁
+
+-- ---- document 02, L8: "takes a run's inputs and a lent buffer of 65,536 bytes and gives the length"
+
+unfoldable pub drawBytes : (text turns program state buffer : List ℕ) → Reading
+drawBytes text turns program state buffer = lentBytes text turns program state (ltb (length buffer) Most.drawing)
+
+-- the answer as numbers: that of the refusal, 0 for none; its line; how many bytes are written, 0 where there are none
+abbrev pub drawnNumber : Drawn → ℕ
+drawnNumber (undrawn k n) = k
+drawnNumber (drawn text) = 0
+
+abbrev pub drawnLine : Drawn → ℕ
+drawnLine (undrawn k n) = n
+drawnLine (drawn text) = 0
+
+abbrev pub drawnLength : Drawn → ℕ
+drawnLength (undrawn k n) = 0
+drawnLength (drawn text) = length text
+
+pub record Draws (D : Drawn) (buffer : List ℕ) (number written line : ℕ) (buffer₁ : List ℕ) : Type 0 where
+  pub number-is : number ≡ drawnNumber D
+  pub written-is : written ≡ drawnLength D
+  pub line-is : line ≡ drawnLine D
+  pub buffer-is : buffer₁ ≡ bufferAfter D buffer
+
+pub record HasDrawn (C : Reading) (turns program state buffer : List ℕ) (number written line : ℕ) (program₁ state₁ buffer₁ : List ℕ) : Type 0 where
+  pub drew : Draws (drawnOf mosts turns C) buffer number written line buffer₁
+  pub program-is : program₁ ≡ tableAfter programWords C program
+  pub state-is : state₁ ≡ tableAfter (ranWords turns) C state
+
+abbrev pub DrawsBytes : (text turns program state buffer : List ℕ) → (number written line : ℕ) → (program₁ state₁ buffer₁ : List ℕ) → Type 0
+DrawsBytes text turns program state buffer number written line program₁ state₁ buffer₁ =
+    HasDrawn (drawBytes text turns program state buffer) turns program state buffer number written line program₁ state₁ buffer₁
 
 -- ---- document 02, L2: "write a script back out"
 

@@ -8,16 +8,18 @@ ghost use Rattle.rules.specs.Lists.{pad};
 ghost use Rattle.rules.specs.Text.{lines, findLine, startOf};
 ghost use Rattle.table.specs.ProgramTable.{freshTable};
 ghost use Rattle.host.specs.Bytes.{bytesAfter, wordsOf};
-ghost use Rattle.host.specs.ByteCalls.{ReadsBytes, MakesBytes, TellsAnswer, RunsBytes, ReachesBytes, CountsBytes, WritesBytes};
+ghost use Rattle.host.specs.ByteCalls.{ReadsBytes, MakesBytes, TellsAnswer, RunsBytes, ReachesBytes, CountsBytes, DrawsBytes, WritesBytes};
 ghost use Rattle.host.specs.Version.{version};
 
 const TABLE: usize = 16384; // bytes of a table
 
 const LIST: usize = 512; // bytes of the reach list
 
+const DRAWING: usize = 65536; // bytes of the buffer for a drawing
+
 const MAJOR: u32 = 1;
 
-const MINOR: u32 = 7; // requests of document 02 that have landed
+const MINOR: u32 = 8; // requests of document 02 that have landed
 
 const PATCH: u32 = 0;
 
@@ -250,6 +252,51 @@ pub extern "C" fn box_holders(
                 holders::Count::Refused(number, _) => number,
                 holders::Count::Counted(places) => {
                     *count = places as usize;
+                    0
+                }
+            }
+        }
+    }
+}
+
+// Runs, then draws the objects as a directed graph in the DOT language: 0 and how many bytes are written, or the refusal's number and its line. A
+// refusal changes no byte; the buffer's bytes past the text stay.
+#[no_mangle]
+pub extern "C" fn box_draw(
+    text: &[u8],
+    turns: &[u8],
+    program: &mut [u8],
+    state: &mut [u8],
+    graph: &mut [u8],
+    written: &mut usize,
+    line: &mut usize,
+) -> u16
+    ensures { λ r. ⌜ DrawsBytes (now (text .entry)) (now (turns .entry)) (now (program .entry)) (now (state .entry)) (now (graph .entry)) r (now (written .exit)) (now (line .exit)) (now (program .exit)) (now (state .exit)) (now (graph .exit)) ⌝ }
+{
+    *written = 0; // bytes
+    *line = 0;
+    let mut p = [0u16; 8192];
+    let mut s = [0u16; 8192];
+    let answer = make(
+        text,
+        turns,
+        graph.len() < DRAWING,
+        program,
+        state,
+        &mut p,
+        &mut s,
+    );
+    match answer {
+        Answer::Refused(number, at) => {
+            *line = at;
+            number
+        }
+        _ => {
+            let drawn = drawing::draw_on(&s, graph);
+            match drawn {
+                drawing::Drawn::Refused(number, _) => number,
+                drawing::Drawn::Written(n) => {
+                    *written = n;
                     0
                 }
             }
