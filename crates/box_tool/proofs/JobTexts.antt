@@ -7,9 +7,10 @@ use mathlib.Core.Logic.{inl}
 use lib.ListN.{length, take, drop, length-append}
 use lib.Seq.{take-append-seam}
 use borrow.Author.Tests.{le-ltb}
+use Rattle.rules.specs.Mosts as Most
 use Rattle.listing.specs.declared.Printed.{Printed}
 use Rattle.listing.specs.declared.Printed.the-variants.{Written}
-use Rattle.listing.specs.Outputs.{outputBytes, printedOf, outputAfter}
+use Rattle.listing.specs.Outputs.{outputBytes, printedIn, outputIn, printedOf, outputAfter}
 use Rattle.stripping.specs.StrippedTexts.{Prints}
 use Rattle.save.specs.Saved.{savedBytes, savedIn, savedAfter}
 use Rattle.box_tool.specs.declared.commands.Job.{Job}
@@ -27,6 +28,11 @@ module _ {Q : List ℕ → Type 0} (text : List ℕ) (such : Q text) (output : L
   unfolding savedIn savedAfter
   prints-saved told =
       let whole = rw (le-ltb (length output) savedBytes room) at told in
+      record { text = text; such = such; answers = whole .0; leaves = whole .1 }
+
+  pub prints-drawn : (r ≡ printedIn Most.drawing text output) × (after ≡ outputIn Most.drawing text output) → Prints Q output r after
+  prints-drawn told =
+      let whole = rw (le-ltb (length output) Most.drawing room) at told in
       record { text = text; such = such; answers = whole .0; leaves = whole .1 }
 
 -- what is written fits in the output, and is the text

@@ -10,6 +10,7 @@ pub enum Job {
     Run,
     Save,
     Strip,
+    Draw,
     Reached(usize),
 }
 
@@ -35,6 +36,9 @@ fn input_command_of(word: &[u8]) -> Command
     }
     if is(b"strip", word) {
         return Command::Print(Job::Strip);
+    }
+    if is(b"draw", word) {
+        return Command::Print(Job::Draw);
     }
     if is(b"reach", word) {
         return Command::Reach;

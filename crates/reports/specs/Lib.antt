@@ -1,2 +1,3 @@
 -- What the printed reports say.
 pub mod ReachedLines
+pub mod DrawnTexts

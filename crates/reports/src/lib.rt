@@ -1,6 +1,9 @@
-// Reports as they are printed: the objects that a thread reaches after a run.
+// Reports as they are printed: the objects that a thread reaches after a run, and all of its objects drawn.
+mod drawn;
+
 use buffer::put_number;
 use buffer::put_text;
+pub use drawn::print_drawn;
 use listing::Printed;
 use reach::Report;
 use replay::Parts;

@@ -1,7 +1,7 @@
--- Each job is its library's; an output that is long enough for an input is so for a run and a report.
+-- Each job is its library's; an output that is long enough for an input is so for a run, a report and a drawing.
 use denote.Ref.{now}
 use mathlib.Core.Path.{refl}
-use Rattle.box_tool.proofs.JobTexts.{prints-run, prints-saved}
+use Rattle.box_tool.proofs.JobTexts.{prints-run, prints-saved, prints-drawn}
 use borrow.Author.Needs.{needs}
 use Rattle.box_tool.proofs.print.Statement.{statement}
 use Rattle.box_tool.proofs.print.Tie as tie
@@ -23,6 +23,12 @@ enum-told-3 c = search needs
 
 print-stripped-requires : tie.Need-print-stripped-requires
 print-stripped-requires c κs = search needs
+
+enum-told-4 : tie.Need-enum-told-4
+enum-told-4 c = search needs
+
+print-drawn-requires : tie.Need-print-drawn-requires
+print-drawn-requires c κs = search needs
 
 enum-known-job : tie.Need-enum-known-job
 enum-known-job c = search needs
@@ -62,6 +68,15 @@ same-length-4 c = search needs
 
 returns-4 : tie.Need-returns-4
 returns-4 c =
+    let arm = c .before .before .before .before in
+    let start = arm .before .before .before .before in
+    rw (arm .enum-told4 .given .1) (prints-drawn _ refl (now (start .args .output)) (start .pre) (c .before .before .print-drawn .ensures))
+
+same-length-5 : tie.Need-same-length-5
+same-length-5 c = search needs
+
+returns-5 : tie.Need-returns-5
+returns-5 c =
     let arm = c .before .before .before .before .before in
     let start = arm .before .before .before .before in
     rw (arm .job .given .1) (prints-run _ refl (now (start .args .output)) (start .pre) (c .before .before .print-reached .ensures))
@@ -76,6 +91,8 @@ print-spec =
     print-saved-requires
     enum-told-3
     print-stripped-requires
+    enum-told-4
+    print-drawn-requires
     enum-known-job
     print-reached-requires
     same-length
@@ -85,4 +102,6 @@ print-spec =
     same-length-3
     returns-3
     same-length-4
-    returns-4)
+    returns-4
+    same-length-5
+    returns-5)

@@ -66,17 +66,40 @@ returns-4 c =
       sym (c .before .is4 .ensures) ∙ c .if4 .taken,
     )
 
+slice-aggregate-is-5 : tie.Need-slice-aggregate-is-5
+slice-aggregate-is-5 c = search needs
+
+is-requires-5 : tie.Need-is-requires-5
+is-requires-5 c κs = search needs
+
 returns-5 : tie.Need-returns-5
 unfolding inputCommandOf
 returns-5 c =
-    let t3 = c .before .before .before in
+    let t4 = c .before .before .before in
+    let t3 = t4 .before .before .before in
     let t2 = t3 .before .before .before in
     let t1 = t2 .before .before .before in
     rw (
       sym (t1 .before .is .ensures) ∙ t1 .if1 .left,
       sym (t2 .before .is2 .ensures) ∙ t2 .if2 .left,
       sym (t3 .before .is3 .ensures) ∙ t3 .if3 .left,
-      sym (c .before .is4 .ensures) ∙ c .if4 .left,
+      sym (t4 .before .is4 .ensures) ∙ t4 .if4 .left,
+      sym (c .before .is5 .ensures) ∙ c .if5 .taken,
+    )
+
+returns-6 : tie.Need-returns-6
+unfolding inputCommandOf
+returns-6 c =
+    let t4 = c .before .before .before in
+    let t3 = t4 .before .before .before in
+    let t2 = t3 .before .before .before in
+    let t1 = t2 .before .before .before in
+    rw (
+      sym (t1 .before .is .ensures) ∙ t1 .if1 .left,
+      sym (t2 .before .is2 .ensures) ∙ t2 .if2 .left,
+      sym (t3 .before .is3 .ensures) ∙ t3 .if3 .left,
+      sym (t4 .before .is4 .ensures) ∙ t4 .if4 .left,
+      sym (c .before .is5 .ensures) ∙ c .if5 .left,
     )
 
 pub input-command-of-spec : {M : Type 1} → statement M
@@ -95,4 +118,7 @@ input-command-of-spec =
     slice-aggregate-is-4
     is-requires-4
     returns-4
-    returns-5)
+    slice-aggregate-is-5
+    is-requires-5
+    returns-5
+    returns-6)

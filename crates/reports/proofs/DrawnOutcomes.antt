@@ -1,0 +1,103 @@
+-- What a drawing answers is printed as it stands: a refusal by its line, the graph as it was written.
+use Prim.Native.Nat.{ℕ, _≤_}
+use native.Mathlib.Omega.{arith}
+use mathlib.Core.Path.{_≡_, refl, sym, ap, _∙_}
+use mathlib.Core.List.{List}
+use lib.ListN.{length}
+use borrow.Author.Tests.{lt-ltb, le-ltb}
+use Prim.Native.Nat.{_<_}
+use Rattle.rules.specs.Mosts as Most
+use Rattle.rules.specs.Mosts.{mosts}
+use Rattle.rules.specs.Numbers as No
+use Rattle.rules.specs.Run.{refused}
+use Rattle.rules.specs.Calls.{shortTable, inputs, lentInputs}
+use Rattle.rules.specs.Drawing.{Drawn, undrawn, drawn, drawCall, drawnOf, bufferAfter}
+use Rattle.rules.specs.Listing.{answerLine}
+use Rattle.rules.proofs.ListLaws.{impossible}
+use mathlib.Core.Bool.{false}
+use Rattle.drawing.specs.declared.Drawn as D
+use Rattle.drawing.specs.declared.Drawn.the-variants as T
+use Rattle.drawing.specs.Drawings.{answerOf, Drew, HasDrawn}
+use Rattle.listing.specs.declared.Printed.{Printed}
+use Rattle.listing.specs.declared.Printed.the-variants.{Refused, Written}
+use Rattle.listing.specs.Outputs.{outputBytes, printedIn, outputIn, printedOf, outputAfter}
+use Rattle.replay.specs.declared.Parts.{Parts}
+use Rattle.replay.specs.Given.{toldOf, Splits}
+use Rattle.replay.proofs.GivenLaws.{given-told}
+use Rattle.reports.specs.DrawnTexts.{drawnAs, graphText, drawnGiven, drawnText}
+
+-- ---- The inputs
+
+none-short : (text turns program state buffer : List ℕ) → length program ≡ Most.words → length state ≡ Most.words → Most.drawing ≤ length buffer
+    → drawCall mosts text turns program state buffer ≡ inputs mosts text turns false
+unfolding drawCall lentInputs shortTable
+none-short text turns program state buffer program-long state-long buffer-long =
+    rw (le-ltb (length program) Most.words (omega arith), le-ltb (length state) Most.words (omega arith), le-ltb (length buffer) Most.drawing buffer-long) refl
+
+pub the-drawing : (text turns : List ℕ) {program state buffer program₁ state₁ buffer₁ : List ℕ} {r : D.Drawn}
+    → HasDrawn (drawCall mosts text turns program state buffer) turns program state buffer r program₁ state₁ buffer₁
+    → length program ≡ Most.words → length state ≡ Most.words → Most.drawing ≤ length buffer
+    → Drew (drawnOf mosts turns (inputs mosts text turns false)) buffer r buffer₁
+the-drawing text turns {program} {state} {buffer} told program-long state-long buffer-long =
+    rw (none-short text turns program state buffer program-long state-long buffer-long) at (told .drew)
+
+-- ---- In the output
+
+-- what a text leaves in an output that is long enough
+pub record Stands (text l : List ℕ) (r : Printed) (l₁ : List ℕ) : Type 0 where
+  pub answers : r ≡ printedIn Most.drawing text l
+  pub leaves : l₁ ≡ outputIn Most.drawing text l
+
+-- a refusal's line is no longer than a drawing
+pub in-longer : {r : Printed} {l l₁ : List ℕ} (text : List ℕ) → Most.drawing ≤ length l → (r ≡ printedOf text l) × (l₁ ≡ outputAfter text l) → Stands text l r l₁
+unfolding printedOf outputAfter
+in-longer {l = l} text long (answers, leaves) =
+    let shorter = le-ltb (length l) outputBytes (omega arith) in
+    let longer = le-ltb (length l) Most.drawing long in
+    record { answers = rw longer (rw shorter at answers); leaves = rw longer (rw shorter at leaves) }
+
+pub short-buffer : (text l : List ℕ) → length l < Most.drawing → (Refused No.shortTable 0 ≡ printedIn Most.drawing text l) × (l ≡ outputIn Most.drawing text l)
+short-buffer text l short = rw (lt-ltb (length l) Most.drawing short) (refl, refl)
+
+-- ---- What is printed of it
+
+module _ (x : Drawn) (l : List ℕ) {r : D.Drawn} {l₁ : List ℕ} (told : Drew x l r l₁) (long : Most.drawing ≤ length l) where
+  as-refused : {k n : ℕ} → r ≡ T.Refused k n → (x ≡ undrawn k n) × (l₁ ≡ l)
+  as-refused is = go x (sym is ∙ told .answers) (told .leaves)
+    where
+      go : (y : Drawn) {k n : ℕ} → T.Refused k n ≡ answerOf y → l₁ ≡ bufferAfter y l → (y ≡ undrawn k n) × (l₁ ≡ l)
+      go (undrawn i j) {k} {n} e kept =
+          let number : k ≡ i = cc in
+          let line : n ≡ j = cc in
+          (rw (number, line) refl, kept)
+      go (drawn text) e kept = impossible cc
+
+  as-drawn : {n : ℕ} → r ≡ T.Written n → Stands (drawnAs x) l (Written n) l₁
+  as-drawn is = go x (sym is ∙ told .answers) (told .leaves)
+    where
+      go : (y : Drawn) {n : ℕ} → T.Written n ≡ answerOf y → l₁ ≡ bufferAfter y l → Stands (drawnAs y) l (Written n) l₁
+      go (undrawn i j) e kept = impossible cc
+      go (drawn text) {n} e kept =
+          let many : n ≡ length text = cc in
+          record { answers = rw (le-ltb (length l) Most.drawing long) (ap Written many); leaves = rw (le-ltb (length l) Most.drawing long) kept }
+
+module _ (text turns : List ℕ) {l : List ℕ} {r : D.Drawn} {l₁ : List ℕ} (told : Drew (drawnOf mosts turns (inputs mosts text turns false)) l r l₁)
+    (long : Most.drawing ≤ length l) where
+  -- the refusal's line is printed over an output that the drawing left as it was
+  pub refusal-printed : {k n : ℕ} {s : Printed} {l₂ : List ℕ} → r ≡ T.Refused k n
+      → (s ≡ printedOf (answerLine (refused k n)) l₁) × (l₂ ≡ outputAfter (answerLine (refused k n)) l₁) → Stands (graphText text turns) l s l₂
+  unfolding graphText
+  refusal-printed {k} {n} {s} {l₂} is printed =
+      let away = as-refused (drawnOf mosts turns (inputs mosts text turns false)) l told long is in
+      rw (away .0) (in-longer (answerLine (refused k n)) long (rw (away .1) at printed))
+
+  pub graph-printed : {n : ℕ} → r ≡ T.Written n → Stands (graphText text turns) l (Written n) l₁
+  unfolding graphText
+  graph-printed is = as-drawn (drawnOf mosts turns (inputs mosts text turns false)) l told long is
+
+-- ---- An input, as the code takes it apart
+
+pub drawn-told : {input list list₁ : List ℕ} {parts : Parts} → Splits input list parts list₁ → Most.turns ≤ length list → (x : Parts) → parts ≡ x
+    → drawnText input ≡ drawnGiven (toldOf x input list₁)
+unfolding drawnText
+drawn-told splits long x is = ap drawnGiven (given-told splits long x is)
