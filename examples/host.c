@@ -1,6 +1,6 @@
 /*
- * A small host of the box: runs a script on a list of turns, tells what came of it, which objects each thread still reaches, and how many places
- * hold each object; then loads the script and saves it again, as an editor does.
+ * A small host of the box: runs a script on a list of turns, tells what came of it, which objects each thread still reaches, how many places
+ * hold each object, and the drawing of all objects; then loads the script and saves it again, as an editor does.
  *
  *     cc -std=c11 -O2 -o host examples/host.c $(pkg-config --cflags --libs freezerbox)     where the box is installed
  *     cc -std=c11 -O2 -Iinclude -o host examples/host.c target/staticlib/libfreezerbox.a   in the box's own folder, after `make`
@@ -10,6 +10,10 @@
  * SCRIPT is a file that holds a script and no line of turns; each TURN is the number of a thread, 0 to 255. To run an example:
  *
  *     sed '$d' examples/withdraw.box | ./host /dev/stdin 0 0 0 0 0 1
+ *
+ * The drawing is for Graphviz, which makes a picture of it:
+ *
+ *     sed '$d' examples/withdraw.box | ./host /dev/stdin 0 0 0 0 0 1 | sed -n '/^digraph/,/^}/p' | dot -Tsvg >objects.svg
  *
  * It exits 0 where the script was run, also where a turn stopped the run: that is an answer of the box, and no failure of the host. It exits 1
  * where the box refused the script or the turns; and 2 where the system did not let it read the script whole or print all that it had to tell,
@@ -33,7 +37,7 @@ static const char *const end_words[] = {[BOX_FINISHED] = "finished", [BOX_STUCK]
 
 /* What is lent to the box. Text and turns have room for one more than the most, so that the box itself refuses what is too long. */
 static uint8_t text[BOX_TEXT_MOST + 1], turns[BOX_TURNS_MOST + 1];
-static uint8_t program[BOX_TABLE_BYTES], state[BOX_TABLE_BYTES], list[BOX_LIST_BYTES], script[BOX_SCRIPT_BYTES];
+static uint8_t program[BOX_TABLE_BYTES], state[BOX_TABLE_BYTES], list[BOX_LIST_BYTES], script[BOX_SCRIPT_BYTES], drawing[BOX_DRAWING_BYTES];
 static size_t text_len, turns_len;
 
 /* Why standard output could not be written, the first time that it could not; 0 while it can. */
@@ -134,6 +138,14 @@ static void held(void)
         tell("object %zu has %zu holder%s\n", object, count, count == 1 ? "" : "s");
 }
 
+/* The drawing of all objects. The run was made, so that nothing can be refused. */
+static void draw(void)
+{
+    size_t length, line;
+    box_draw(text, text_len, turns, turns_len, program, sizeof program, state, sizeof state, drawing, sizeof drawing, &length, &line);
+    tell("%.*s", (int)length, (const char *)drawing);
+}
+
 /* The script is read into a table and written from it. What is written is the text that was read, byte for byte. */
 static int save(void)
 {
@@ -195,6 +207,7 @@ int main(int argc, char **argv)
     if (run() != BOX_REFUSED) {
         reports();
         held();
+        draw();
         status = save();
     }
     return all_told() ? status : FAILED;

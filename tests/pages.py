@@ -4,11 +4,12 @@
 In docs/SCRIPTS.md a fenced block `box` is an input of boxrun, and the block `output` after it is, byte for byte, what target/bin/boxrun prints of
 it. A block `output unsafe` after that is what it prints of the same input with every capability changed to unsafe. There is no other fenced
 block, so that nothing looks like an input and is not run; commands for a shell are indented. In README.md an indented `$ boxrun < FILE` or
-`$ box check FILE` has its output below it, and each `scripts/box ..` is well. The page's table of who may hold whom is tried pair by pair.
+`$ box check FILE` has its output below it, and each `scripts/box ..` is well. The page's table of who may hold whom is tried pair by pair. The graph
+of docs/DRAWING.md is what `box draw` prints of the example, and its picture has the same nodes and edges.
 
 Besides: the numbers of that page, and of the index of docs/DECISIONS.md, are those of README.md with the same words; the index names every point,
-and no other; the pictures are what docs/pictures/draw.py draws, and the page shows each; every relative link of README.md and docs/*.md leads to a
-file, and its anchor to a heading, that is there. Each check is tried on a page with a fault, which it must find. The last line is
+and no other; the other pictures are what docs/pictures/draw.py draws, and the page shows each; every relative link of README.md and docs/*.md leads to
+a file, and its anchor to a heading, that is there. Each check is tried on a page with a fault, which it must find. The last line is
 'N passed, M failed'."""
 import glob
 import os
@@ -24,7 +25,8 @@ sys.path.insert(0, os.path.join(ROOT, 'docs', 'pictures'))
 import draw  # noqa: E402: the module stands beside its pictures
 
 BOXRUN, BOX = os.path.join(ROOT, 'target', 'bin', 'boxrun'), os.path.join(ROOT, 'scripts', 'box')
-SCRIPTS, DECISIONS, README = 'docs/SCRIPTS.md', 'docs/DECISIONS.md', 'README.md'
+SCRIPTS, DECISIONS, DRAWING, README = 'docs/SCRIPTS.md', 'docs/DECISIONS.md', 'docs/DRAWING.md', 'README.md'
+DRAWN, PICTURE = 'examples/stale-write-back.box', 'docs/pictures/drawing.svg'
 CAPABILITY = re.compile(r'\((new|cast|copy) (?:imm|iso|local|unsafe)\b')
 
 
@@ -50,8 +52,8 @@ def printed(text):
     return subprocess.run([BOXRUN], input=text.encode(), stdout=subprocess.PIPE, check=True, timeout=60).stdout.decode()
 
 
-def sheet(path):
-    return subprocess.run([BOX, 'check', os.path.join(ROOT, path)], stdout=subprocess.PIPE, timeout=60).stdout.decode()
+def asked_of(command, path):
+    return subprocess.run([BOX, command, os.path.join(ROOT, path)], stdout=subprocess.PIPE, timeout=60).stdout.decode()
 
 
 def runs(page):
@@ -74,7 +76,7 @@ def runs(page):
 def commands(page):
     found = list(re.finditer(r'^    \$ (boxrun <|box check) (\S+)\n((?:(?:    (?!\$).*)?\n)+)', page, re.M))
     for command in found:
-        got = printed(read(command[2])) if command[1] == 'boxrun <' else sheet(command[2])
+        got = printed(read(command[2])) if command[1] == 'boxrun <' else asked_of('check', command[2])
         shown = re.sub('^    ', '', command[3], flags=re.M).rstrip('\n') + '\n'
         yield '%s: %s %s' % (README, command[1], command[2]), None if got == shown else 'it prints\n' + got
     yield README, None if len({command[1] for command in found}) == 2 else 'boxrun and box check are not both shown'
@@ -86,7 +88,20 @@ def asked(page):
     for command in found:
         ended = subprocess.run(command.split(), cwd=ROOT, stdout=subprocess.PIPE, timeout=60)
         yield '%s: %s' % (README, command), None if ended.returncode == 0 and ended.stdout else 'exits with %d' % ended.returncode
-    yield README, None if len(found) == 6 else 'not every command of box is shown'
+    yield README, None if len(found) == 7 else 'not every command of box is shown'
+
+
+def drawing(page, picture):
+    """The first indented block of the page, and the nodes and edges of its picture, which Graphviz has drawn."""
+    graph = asked_of('draw', DRAWN)
+    shown = re.search(r'(?:^    .*\n)+', page, re.M)
+    yield DRAWING, None if shown and re.sub('^    ', '', shown[0], flags=re.M) == graph else 'box draw prints\n' + graph
+    nodes = re.findall(r'^  (\d+) \[label="([^"]*)", shape=\w+, fillcolor=(\w+)\];$', graph, re.M)
+    drawn = re.findall(r'class="node">\s*<title>(\d+)</title>\s*<\w+ fill="(\w+)"[^>]*>\s*<text[^>]*>([^<]*)</text>', picture)
+    yield PICTURE, None if nodes and sorted(nodes) == sorted((name, label, fill) for name, fill, label in drawn) else 'has other nodes'
+    edges = re.findall(r'^  (\d+) -> (\d+) \[label="([^"]*)"\];$', graph, re.M)
+    drawn = re.findall(r'class="edge">\s*<title>(\d+)&#45;&gt;(\d+)</title>(?:(?!</g>).)*<text[^>]*>([^<]*)</text>', picture, re.S)
+    yield PICTURE, None if edges and sorted(edges) == sorted(drawn) else 'has other edges'
 
 
 HOLDING = """(kind (fields 0) (does))
@@ -143,10 +158,10 @@ def is_xml(text):
 
 def pictures(page):
     drawn = draw.drawn()
-    for name in sorted(set(drawn) | {os.path.basename(path) for path in glob.glob(os.path.join(ROOT, 'docs', 'pictures', '*.svg'))}):
+    there = {os.path.basename(path) for path in glob.glob(os.path.join(ROOT, 'docs', 'pictures', '*.svg'))} - {os.path.basename(PICTURE)}
+    for name in sorted(set(drawn) | there):
         path = 'docs/pictures/' + name
-        there = os.path.isfile(os.path.join(ROOT, path))
-        yield path, None if there and read(path) == drawn.get(name) else 'is not what docs/pictures/draw.py draws'
+        yield path, None if name in there and read(path) == drawn.get(name) else 'is not what docs/pictures/draw.py draws'
         yield path, None if '](pictures/%s)' % name in page else 'is not shown in ' + SCRIPTS
         yield path, None if is_xml(drawn.get(name, '')) else 'is not XML'
 
@@ -183,6 +198,12 @@ def tried():
     yield finds('a block of another sort', runs(page + '```sh\nboxrun\n```\n'))
     yield finds('a wrong byte below a command', commands(read(README).replace('(stopped 20 1 1 3 14)', '(stopped 20 1 1 3 15)')))
     yield finds('a command that is refused', asked(read(README).replace('box reach examples/case-a.box 1', 'box reach examples/case-a.box 2')))
+    drawn, picture = read(DRAWING), read(PICTURE)
+    yield finds('a wrong byte of a graph', drawing(drawn.replace('      2 -> 1 [label="0"];', '      2 -> 0 [label="0"];'), picture))
+    yield finds('another picture', drawing(drawn, picture.replace('>2 local<', '>2 iso<')))
+    yield finds('another fill', drawing(drawn, picture.replace('"khaki"', '"salmon"')))
+    yield finds('an edge to another node', drawing(drawn, picture.replace('<title>2&#45;&gt;1</title>', '<title>2&#45;&gt;0</title>')))
+    yield finds('an edge of another field', drawing(drawn, picture.replace('>1</text>', '>2</text>')))
     yield finds('a wrong holder', holders(page.replace('| `iso` | yes | yes | no | no |', '| `iso` | yes | no | no | no |')))
     yield finds('a number left out', numbers(page.replace('| 12 | no method |', '| no method |'), SCRIPTS, 'The numbers'))
     yield finds('another word', numbers(page.replace('| 19 | alias |', '| 19 | second |'), SCRIPTS, 'The numbers'))
@@ -198,6 +219,7 @@ def checks():
     yield from runs(page)
     yield from commands(read(README))
     yield from asked(read(README))
+    yield from drawing(read(DRAWING), read(PICTURE))
     yield from holders(page)
     yield from numbers(page, SCRIPTS, 'The numbers')
     yield from numbers(decisions, DECISIONS, 'Index')

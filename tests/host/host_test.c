@@ -73,6 +73,13 @@ static uint16_t holders_of(struct lent l, size_t object, size_t *count, size_t *
                        l.state.length, object, count, line);
 }
 
+static uint16_t draw(struct lent l, struct part drawing, size_t *length, size_t *line)
+{
+    *length = *line = UNSET;
+    return box_draw(l.text.bytes, l.text.length, l.turns.bytes, l.turns.length, l.program.bytes, l.program.length, l.state.bytes,
+                    l.state.length, drawing.bytes, drawing.length, length, line);
+}
+
 static int same(struct answer a, struct answer b)
 {
     return a.end == b.end && a.number == b.number && a.thread == b.thread && a.block == b.block && a.line == b.line && a.moves == b.moves;
@@ -102,7 +109,7 @@ static void constants(void)
         check(ends[n] == n, "the header's end %d", n);
     for (int n = 0; n < 21; n++)
         check(numbers[n] == n + 1, "the header's number %d", n + 1);
-    check(BOX_TABLE_BYTES == TABLE && BOX_LIST_BYTES == LIST && BOX_SCRIPT_BYTES == SCRIPT, "the header's lengths");
+    check(BOX_TABLE_BYTES == TABLE && BOX_LIST_BYTES == LIST && BOX_SCRIPT_BYTES == SCRIPT && BOX_DRAWING_BYTES == DRAWING, "the header's lengths");
     check(BOX_TEXT_MOST == MOST_TEXT && BOX_TURNS_MOST == MOST_TURNS, "the header's mosts");
 }
 
@@ -457,6 +464,66 @@ static void no_object(void)
     }
 }
 
+/* ---- Drawings ---- */
+
+#define GRAPH(lines) "digraph objects {\n  node [style=filled];\n" lines "}\n"
+#define IMM(n) "  " n " [label=\"" n " imm\", shape=box, fillcolor=lightblue];\n"
+#define ISO(n) "  " n " [label=\"" n " iso\", shape=ellipse, fillcolor=palegreen];\n"
+#define LOCAL(n) "  " n " [label=\"" n " local\", shape=house, fillcolor=khaki];\n"
+#define UNSAFE(n) "  " n " [label=\"" n " unsafe\", shape=octagon, fillcolor=salmon];\n"
+#define EDGE(from, to, field) "  " from " -> " to " [label=\"" field "\"];\n"
+
+/* The run's drawing is this text, at the front of a buffer whose other bytes stay; the tables hold the run. */
+static void drawn(const char *name, const char *script, const char *turns, size_t turns_len, const char *text)
+{
+    struct lent lent = lend_run(script, turns, turns_len), ran = lend_run(script, turns, turns_len);
+    size_t length, line, wanted = strlen(text);
+    run(ran);
+    for (size_t more = 0; more < 4; more++) {
+        struct part drawing = lend(DRAWING + more);
+        uint16_t number = draw(lent, drawing, &length, &line);
+        check(number == 0 && line == 0 && length == wanted, "%s: %u at line %zu, %zu bytes and not %zu", name, number, line, length, wanted);
+        check(memcmp(drawing.bytes, text, wanted) == 0, "%s: the drawing is\n%.*s", name, (int)wanted, (const char *)drawing.bytes);
+        check(kept(drawing, wanted), "%s: the other bytes stay", name);
+        check(memcmp(lent.program.bytes, ran.program.bytes, TABLE) == 0 && memcmp(lent.state.bytes, ran.state.bytes, TABLE) == 0,
+              "%s: the tables hold the run", name);
+        give_back(drawing);
+    }
+    give_all_back(lent);
+    give_all_back(ran);
+}
+
+static void drawings(void)
+{
+    static const char turns[] = "\0\0\0\1\0\1";
+    for (size_t made = 0; made < sizeof turns; made++)
+        drawn("case A", CASE_A, turns, made, made < 2 ? GRAPH("") : GRAPH(ISO("0")));
+    drawn("each capability", KIND "(thread)\n(let (new imm 0))\n(let (new iso 0))\n(let (new local 0))\n(let (new unsafe 0))\n(give (read 1))\n",
+          zero_turns, 4, GRAPH(IMM("0") ISO("1") LOCAL("2") UNSAFE("3")));
+    drawn("the sheets", SHEETS, SHEETS_TURNS,
+          GRAPH(IMM("0") IMM("1") UNSAFE("2") UNSAFE("3") LOCAL("4") LOCAL("5") LOCAL("6") LOCAL("7")
+                EDGE("2", "3", "0") EDGE("2", "0", "1") EDGE("2", "0", "2") EDGE("3", "2", "0") EDGE("3", "2", "1") EDGE("3", "1", "2")
+                EDGE("4", "5", "0") EDGE("4", "7", "1") EDGE("4", "7", "2") EDGE("5", "4", "0") EDGE("5", "4", "1") EDGE("5", "6", "2")));
+    drawn("a stopped run", KIND "(kind (fields 1) (does))\n(thread)\n(let (new iso 0))\n(let (new imm 1 (take 1)))\n(give (read 2))\n",
+          zero_turns, 2, GRAPH(ISO("0")));
+    drawn("objects that nothing holds", CASE_E, zero_turns, 2, GRAPH(ISO("0")));
+}
+
+/* All objects that there can be, each with the one before it in its field. */
+static void all_drawn(void)
+{
+    static struct text script, text;
+    size_t turns;
+    chain(&script, "imm", 256, "", "", &turns);
+    add(&text, "digraph objects {\n  node [style=filled];\n" IMM("0"));
+    for (int n = 1; n < 256; n++)
+        add(&text, "  %d [label=\"%d unsafe\", shape=octagon, fillcolor=salmon];\n", n, n);
+    for (int n = 1; n < 256; n++)
+        add(&text, "  %d -> %d [label=\"0\"];\n", n, n - 1);
+    add(&text, "}\n");
+    drawn("256 objects", script.bytes, zero_turns, turns, text.bytes);
+}
+
 /* ---- Copies ---- */
 
 /* The objects are met as 2, 3, 1, 0, and their copies are 4 to 7. The sheets themselves stay. */
@@ -795,6 +862,8 @@ int main(void)
     self_slots();
     many_holders();
     no_object();
+    drawings();
+    all_drawn();
     copies();
     copies_stop();
     copy_of_half();

@@ -1,8 +1,8 @@
-//! What box prints when it is asked to save, strip, check or report on an input: what the second interpreter has, byte for byte.
+//! What box prints when it is asked to save, strip, check, report on or draw an input: what the second interpreter has, byte for byte.
 
 use std::fs;
 
-use second::input::{accepted, parts, reached, saved, stripped};
+use second::input::{accepted, drawn, parts, reached, saved, stripped};
 use second::numbers::*;
 use second::random::Random;
 use second::script::Edition;
@@ -56,6 +56,11 @@ pub fn of(word: &str) -> Option<Asked> {
                 .chain(words(&["(reached)", "(reached 0 1", "(reached 1"]))
                 .collect(),
         }),
+        "draw" => Some(Asked {
+            words: |_| words(&["draw", "-"]),
+            prints: drawn,
+            shows: drawing_shows(),
+        }),
         "check" => Some(Asked {
             words: |_| words(&["check"]),
             prints: checked,
@@ -63,6 +68,25 @@ pub fn of(word: &str) -> Option<Asked> {
         }),
         _ => None,
     }
+}
+
+/// What some of the drawings show: no object, one of each capability, the last that there can be; edges of each field.
+fn drawing_shows() -> Vec<String> {
+    let shown = words(&[
+        "filled];\n}",
+        " imm\", shape=box, fillcolor=lightblue];",
+        " iso\", shape=ellipse, fillcolor=palegreen];",
+        " local\", shape=house, fillcolor=khaki];",
+        " unsafe\", shape=octagon, fillcolor=salmon];",
+        "  255 [",
+        "  255 -> ",
+        " -> 255 [",
+        " [label=\"0\"];",
+        " [label=\"1\"];",
+        " [label=\"2\"];",
+        " [label=\"3\"];",
+    ]);
+    refusals(None).chain(shown).collect()
 }
 
 /// What some of the sheets show: every refusal, hint and stop, both runs where they differ, and turns of every outcome.
@@ -132,7 +156,8 @@ impl Counts {
             ("65,536 bytes", self.longest),
         ];
         let rows = rows.map(|(name, count)| (name.to_string(), count));
-        let shown = shows.iter().cloned().zip(self.shown.iter().copied());
+        let shown = shows.iter().map(|words| words.replace('\n', "\\n"));
+        let shown = shown.zip(self.shown.iter().copied());
         rows.into_iter().chain(shown).collect()
     }
 

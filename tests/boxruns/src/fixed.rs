@@ -1,6 +1,8 @@
-//! Inputs that are written out: the bench cases, every number that boxrun can show, turns lines with faults, editions and copies, and long
+//! Inputs that are written out: the bench cases, every number that boxrun can show, turns lines with faults, editions and copies, drawings, and long
 //! inputs. Each has the first line that documents 01 and 02 settle for it.
 
+use second::generate::turns_text;
+use second::graphs::longest_drawing;
 use second::numbers::{MOST_INPUT, MOST_TEXT};
 use second::script::Edition;
 use second::shapes::longest_script;
@@ -680,6 +682,30 @@ pub fn saves() -> Vec<Fixed> {
     all
 }
 
+/// All objects, each with all fields that it can have; and one of each capability.
+fn drawings() -> Vec<Fixed> {
+    let (script, turns) = longest_drawing();
+    let each = [
+        "(new imm 0)",
+        "(new iso 0)",
+        "(new local 0)",
+        "(new unsafe 0)",
+    ];
+    vec![
+        Fixed {
+            name: "the longest drawing".to_string(),
+            input: [script.into_bytes(), turns_text(&turns)].concat(),
+            first_line: "(end finished 1499)".to_string(),
+        },
+        fixed(
+            "each capability",
+            &lets(&each, "(read 1)"),
+            " 0 0 0 0",
+            "(end open 4)",
+        ),
+    ]
+}
+
 pub fn all() -> Vec<Fixed> {
     let mut all = cases_a_to_i();
     all.extend(case_j());
@@ -688,6 +714,7 @@ pub fn all() -> Vec<Fixed> {
     all.extend(editions());
     all.extend(copies());
     all.extend(turns_lines());
+    all.extend(drawings());
     all.extend(long_inputs());
     all.extend(worn());
     all

@@ -1,6 +1,7 @@
 //! The program `boxruns`: `boxruns PATH SEED COUNT` starts the boxrun at PATH on the examples, on inputs that are written out and on COUNT
 //! random ones, and holds what it prints to the second interpreter's, byte for byte, and to demand 3. `boxruns save PATH SEED COUNT` holds what
-//! the box_tool at PATH prints for `save` on such inputs to what the second interpreter has; `strip`, `reach` and `check` likewise.
+//! the box_tool at PATH prints for `save` on such inputs to what the second interpreter has; `strip`, `reach`, `check` and `draw` likewise.
+//! `boxruns graphviz PATH SEED COUNT` holds what Graphviz reads of its drawings to the objects that the second interpreter has.
 
 #![forbid(unsafe_code)]
 
@@ -8,6 +9,7 @@ mod asked;
 mod counts;
 mod demand3;
 mod fixed;
+mod graphviz;
 mod many;
 mod one;
 mod printed;
@@ -38,6 +40,7 @@ fn main() {
         [path, seed, count] => started(path, seed, count, &|program, seed, count| {
             all(program, seed, count).map(|counts| counts.rows())
         }),
+        ["graphviz", path, seed, count] => started(path, seed, count, &graphviz::all),
         [word, path, seed, count] => match asked::of(word) {
             Some(asked) => started(path, seed, count, &|program, seed, count| {
                 asked.all(program, seed, count)
@@ -50,7 +53,9 @@ fn main() {
 }
 
 fn usage() -> i32 {
-    complain("boxruns PATH SEED COUNT | boxruns save|strip|reach|check PATH SEED COUNT\n");
+    complain(
+        "boxruns PATH SEED COUNT | boxruns save|strip|reach|check|draw|graphviz PATH SEED COUNT\n",
+    );
     2
 }
 

@@ -3,6 +3,7 @@
 use std::hint::black_box;
 use std::time::Instant;
 
+use second::loads::{self, Load};
 use second::machine;
 use second::numbers::{MOST_TEXT, TABLE_WORDS};
 use second::reading;
@@ -12,7 +13,6 @@ use second::writing;
 use crate::chart::{self, Row};
 use crate::full;
 use crate::library::bytes;
-use crate::loads::{self, Load};
 
 fn median(mut times: Vec<f64>) -> f64 {
     times.sort_by(|a, b| a.total_cmp(b));

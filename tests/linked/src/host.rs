@@ -1,8 +1,9 @@
 //! Random scripts and turns through the calls of a C host, held against the second interpreter: the same answers, every byte of both tables
-//! and of the list by docs/LAYOUT.md, and every other byte as it was.
+//! and of the list by docs/LAYOUT.md, of the drawing by docs/DRAWING.md, and every other byte as it was.
 
 use std::fmt::Debug;
 
+use second::graphs::longest_drawing;
 use second::layout;
 use second::machine::Run;
 use second::numbers::*;
@@ -11,7 +12,7 @@ use second::script::Program;
 
 use crate::lent::Part;
 use crate::library::bytes;
-use crate::{agree, finder, holders, reports, runs};
+use crate::{agree, drawings, finder, holders, reports, runs};
 
 /// What the calls came to.
 #[derive(Clone, Debug, Default)]
@@ -20,6 +21,7 @@ pub struct Counts {
     pub run: runs::Answers,
     pub reach: reports::Counts,
     pub holders: holders::Counts,
+    pub draw: drawings::Counts,
     pub line: finder::Counts,
 }
 
@@ -30,6 +32,7 @@ impl Counts {
             ("run", self.run.rows()),
             ("reach", self.reach.rows()),
             ("holders", self.holders.rows()),
+            ("draw", self.draw.rows()),
             ("line", self.line.rows()),
         ];
         let mut rows = Vec::new();
@@ -43,8 +46,14 @@ impl Counts {
     }
 
     pub fn missing(&self) -> Vec<String> {
-        let (reach, holders) = (self.reach.rows(), self.holders.rows());
-        let rest = [self.run.rows(), reach, holders, self.line.rows()].concat();
+        let rest = [
+            self.run.rows(),
+            self.reach.rows(),
+            self.holders.rows(),
+            self.draw.rows(),
+            self.line.rows(),
+        ]
+        .concat();
         [self.read.missing(), runs::zeros(rest)].concat()
     }
 }
@@ -94,6 +103,20 @@ fn lent(random: &mut Random, seed: u64, n: u64) -> Lent {
             state: Part::old(random, TABLE_WORDS),
         },
         list: Part::old(random, LIST_WORDS),
+    }
+}
+
+/// The run that has the longest drawing, in tables that just suffice.
+fn longest(random: &mut Random) -> Lent {
+    let (text, turns) = longest_drawing();
+    Lent {
+        text: text.into_bytes(),
+        turns,
+        tables: Tables {
+            program: Part::of(random, 2 * TABLE_WORDS),
+            state: Part::of(random, 2 * TABLE_WORDS),
+        },
+        list: Part::of(random, 2 * LIST_WORDS),
     }
 }
 
@@ -148,15 +171,20 @@ fn one(random: &mut Random, lent: &Lent, counts: &mut Counts) -> Result<(), Stri
     let after = run(lent, &mut counts.run).map_err(|fault| format!("box_run: {}", fault))?;
     reports::of_all_threads(lent, &after, &mut counts.reach)?;
     holders::of_all_objects(lent, &mut counts.holders)?;
+    drawings::of_run(random, lent, &after, &mut counts.draw)?;
     finder::lines(random, &lent.text, &mut counts.line)
 }
 
-/// Many inputs of a seed; the first difference, with its script and its turns.
+/// Many inputs of a seed, and then the one of the longest drawing; the first difference, with its script and its turns.
 pub fn many(seed: u64, count: u64) -> Result<Counts, (Vec<u8>, String)> {
     let mut counts = Counts::default();
-    for n in 0..count {
+    for n in 0..=count {
         let mut random = Random::of(seed ^ 0x686f_7374, n);
-        let lent = lent(&mut random, seed, n);
+        let lent = if n < count {
+            lent(&mut random, seed, n)
+        } else {
+            longest(&mut random)
+        };
         if let Err(fault) = one(&mut random, &lent, &mut counts) {
             return Err((runs::shown(lent.text, &lent.turns), fault));
         }

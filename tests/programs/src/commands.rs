@@ -21,7 +21,7 @@ fn inputs(tally: &mut Tally, room: &Path, wrapper: &str) {
     let (good, bad) = (file(room, "good", INPUT), file(room, "bad", REFUSED));
     let missing = room.join("missing").display().to_string();
     let folder = room.display().to_string();
-    for command in ["run", "save", "strip", "check"] {
+    for command in ["run", "save", "strip", "check", "draw"] {
         let (out, refused) = (prints(command, INPUT), prints(command, REFUSED));
         let told = |path: &str, why: &str| ended(2, "", &format!("box: {}: {}\n", path, why));
         let cases = [
@@ -57,17 +57,21 @@ fn inputs(tally: &mut Tally, room: &Path, wrapper: &str) {
     tally.same("a long name", &boxed(wrapper, &["run", &long], ""), &wanted);
 }
 
-/// What is asked of a thread, and of a script that has capabilities.
+/// What is asked of a thread, and of a script that has capabilities and makes objects.
 fn asked(tally: &mut Tally, room: &Path, wrapper: &str) {
     let text = "(kind (fields 0) (does))\n(thread)\n(let (new iso 0))\n(let (new imm 0))\n(give (take 1))\n(turns 0 0)\n";
     let bare = text
         .replace(" iso ", " unsafe ")
         .replace(" imm ", " unsafe ");
+    let graph = "digraph objects {\n  node [style=filled];\n  0 [label=\"0 iso\", shape=ellipse, fillcolor=palegreen];\n  \
+                 1 [label=\"1 imm\", shape=box, fillcolor=lightblue];\n}\n";
     let path = file(room, "asked", text);
     let usage = ended(2, "", &boxed(wrapper, &["--help"], "").out);
     let unstarted = ended(1, "(refused 17 0)\n", "");
     for (words, wanted) in [
         (vec!["strip", &path], ended(0, &bare, "")),
+        (vec!["draw", &path], ended(0, graph, "")),
+        (vec!["draw"], ended(0, graph, "")),
         (vec!["reach", &path, "0"], ended(0, "(reached 0 1)\n", "")),
         (vec!["reach", "-", "0"], ended(0, "(reached 0 1)\n", "")),
         (vec!["reach", &path, "1"], unstarted.clone()),
@@ -79,6 +83,7 @@ fn asked(tally: &mut Tally, room: &Path, wrapper: &str) {
         (vec!["reach", &path], usage.clone()),
         (vec!["reach"], usage.clone()),
         (vec!["reach", &path, "0", "1"], usage.clone()),
+        (vec!["draw", &path, "0"], usage.clone()),
         (vec!["strip", &path, "0"], usage),
     ] {
         tally.same(
@@ -131,6 +136,7 @@ fn others(tally: &mut Tally, wrapper: &str) {
         "box save [FILE]",
         "box strip [FILE]",
         "box reach FILE THREAD",
+        "box draw [FILE]",
         "box explain NUMBER",
     ] {
         tally.holds(usage.contains(line), || format!("no {} in the usage", line));
@@ -138,7 +144,7 @@ fn others(tally: &mut Tally, wrapper: &str) {
     let none = ended(1, "", NUMBERS);
     let wrong = ended(2, "", &usage);
     let mut cases = vec![
-        (vec!["--version"], ended(0, "box 1.7.0\n", "")),
+        (vec!["--version"], ended(0, "box 1.8.0\n", "")),
         (vec!["--help"], ended(0, &usage, "")),
         (vec!["help"], ended(0, &usage, "")),
     ];
@@ -168,6 +174,7 @@ fn others(tally: &mut Tally, wrapper: &str) {
         vec!["a-word-that-is-longer-than-any-command"],
         vec!["run", "-", "-"],
         vec!["save", "-", "-"],
+        vec!["draw", "-", "-"],
         vec!["explain", "1", "2"],
         vec!["--version", "1"],
         vec!["--help", "run"],
@@ -219,7 +226,7 @@ fn installed(tally: &mut Tally, room: &Path, folder: &str, wrapper: &str) {
         got.status == Ok(2) && got.out.is_empty() && got.err.contains("box_tool is neither in");
     tally.holds(alone, || format!("without its program: {}", got));
     fs::copy(format!("{}/box_tool", folder), lib.join("box_tool")).expect("a copy of the program");
-    let wanted = ended(0, "box 1.7.0\n", "");
+    let wanted = ended(0, "box 1.8.0\n", "");
     tally.same("installed", &boxed(&path, &["--version"], ""), &wanted);
     let link = room.join("link").display().to_string();
     symlink(&path, &link).expect("a link");

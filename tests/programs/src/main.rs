@@ -15,7 +15,7 @@ use std::fs;
 use std::path::{Path, PathBuf};
 use std::process;
 
-use second::input::{boxrun, saved, stripped};
+use second::input::{boxrun, drawn, saved, stripped};
 use second::sheet::checked;
 
 use faults::{Faults, Subject};
@@ -78,6 +78,7 @@ fn prints(command: &str, input: &str) -> String {
         "save" => saved,
         "strip" => stripped,
         "check" => checked,
+        "draw" => drawn,
         _ => boxrun,
     };
     String::from_utf8_lossy(&print(input.as_bytes())).into_owned()
@@ -103,6 +104,8 @@ fn subjects(folder: &str, wrapper: &str, path: &str, input: &str) -> Vec<Subject
         ("save", Some("-")),
         ("strip", None),
         ("check", None),
+        ("draw", Some(path)),
+        ("draw", Some("-")),
     ] {
         let mut words = vec![wrapper.to_string(), command.to_string()];
         words.extend(file.map(str::to_string));

@@ -1,6 +1,6 @@
 //! Shapes of many objects: methods make nodes that hold each other, in chains, webs and rings, so
 //! that a thread reaches far and through many frames. In the second edition they copy some too. And
-//! one object that hundreds of places hold.
+//! one object that hundreds of places hold, and the longest drawing that there is.
 
 use crate::numbers::{MOST_FIELDS, MOST_FRAMES};
 use crate::random::Random;
@@ -163,4 +163,54 @@ pub fn crowded(random: &mut Random) -> Shape {
         fields, cap, calls, lines
     );
     (text, rounds(2, random.between(40, 600)))
+}
+
+/// The calls of a method on self, each with what the one before it gave, the first with the argument.
+fn calls_in_turn(method: usize, first: usize, count: usize) -> String {
+    (first..first + count)
+        .map(|slot| format!("(let (call 0 {} (read {})))\n", method, slot))
+        .collect()
+}
+
+/// All objects that there can be, every one unsafe and, but for object 0, with four fields; at first
+/// each holds the one before it. Then the objects are walked from the last to the first, and each
+/// field is swapped to hold the last. No drawing is longer: a number of three digits stands wherever
+/// one can, and object 0 has no fields in any run, since there is nothing yet to hold.
+pub fn longest_drawing() -> Shape {
+    let new = |held: usize| {
+        format!(
+            "(let (new unsafe 1{}))\n",
+            format!(" (read {})", held).repeat(4)
+        )
+    };
+    let method =
+        |lets: String, given: usize| format!("(method)\n{}(give (read {}))\n", lets, given);
+    // kind 0: 14 objects, and 14 times 14; kind 1: the fields of 3 objects, of 42, of all
+    let made = method((1..15).map(new).collect(), 15);
+    let many_made = method(calls_in_turn(0, 1, 14), 15);
+    let swaps = |held: usize| -> String {
+        let swap = |field| format!("(let (swap {} {} (read 0)))\n", held, field);
+        (0..MOST_FIELDS).map(swap).collect()
+    };
+    let swapped = method([1, 2, 6].map(swaps).concat(), 10);
+    let many_swapped = method(calls_in_turn(0, 1, 14), 15);
+    let all_swapped = method([calls_in_turn(1, 1, 6), calls_in_turn(0, 7, 1)].concat(), 8);
+    let thread = [
+        "(thread)\n(let (new unsafe 0))\n(let (call 1 1 (read 1)))\n".to_string(),
+        (2..6)
+            .map(|slot| format!("(let (call 1 0 (read {})))\n", slot))
+            .collect(),
+        (6..9).map(new).collect(),
+        "(let (call 9 2 (read 9)))\n(give (read 10))\n".to_string(),
+    ];
+    let text = [
+        "(kind (fields 0) (does 1 2))\n(kind (fields 4) (does 3 4 5))\n",
+        &thread.concat(),
+        &made,
+        &many_made,
+        &swapped,
+        &many_swapped,
+        &all_swapped,
+    ];
+    (text.concat(), rounds(1, 1_499))
 }

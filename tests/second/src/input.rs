@@ -1,6 +1,7 @@
 //! boxrun as a function: its input, a script and the last line `(turns T ..)`, to what it prints. And
-//! box save, strip and reach on such an input.
+//! box save, strip, reach and draw on such an input.
 
+use crate::drawing::drawing;
 use crate::form::turns_line;
 use crate::listing::{listing, refused};
 use crate::machine::run;
@@ -62,6 +63,13 @@ pub fn reached(input: &[u8], thread: usize) -> Vec<u8> {
         let words: String = objects.iter().map(|n| format!(" {}", n)).collect();
         Ok(format!("(reached{})\n", words).into_bytes())
     }))
+}
+
+/// What box draw prints: the objects of the run as a graph.
+pub fn drawn(input: &[u8]) -> Vec<u8> {
+    or_refused(
+        accepted(input).map(|(program, turns)| drawing(&run(&program, &turns).state).into_bytes()),
+    )
 }
 
 fn or_refused(text: Result<Vec<u8>, Refusal>) -> Vec<u8> {

@@ -17,6 +17,7 @@ pub mod state;
 pub mod layout;
 pub mod writing;
 
+pub mod drawing;
 pub mod holders;
 pub mod lines;
 pub mod listing;
@@ -35,6 +36,7 @@ pub mod damage;
 pub mod generate;
 pub mod graphs;
 pub mod histogram;
+pub mod loads;
 pub mod plain;
 pub mod random;
 pub mod shapes;

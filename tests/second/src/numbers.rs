@@ -57,6 +57,8 @@ pub const MOST_FRAMES: usize = 16;
 
 pub const TABLE_WORDS: usize = 8_192;
 pub const LIST_WORDS: usize = 256;
+/// Of the buffer that is lent for a drawing.
+pub const DRAWING_BYTES: usize = 65_536;
 
 /// "The stripped-script rule now counts 14, 15, 19 and 20 as permission or cast."
 pub fn by_guard(number: u8) -> bool {

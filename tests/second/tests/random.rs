@@ -7,6 +7,7 @@ mod common;
 use common::*;
 use second::checks::{decide, Decision};
 use second::demand3::{check, check_many, check_pair};
+use second::drawing::drawing;
 use second::generate;
 use second::graphs::{crowded, deep, woven};
 use second::histogram::Histogram;
@@ -137,6 +138,29 @@ fn reach_of_random_runs() {
         }
     }
     assert!(reached_any > 500);
+}
+
+/// A line for each object, then one for each of their fields, which are never absent, between the
+/// first two lines and the last; and no more bytes than the longest has.
+#[test]
+fn drawings_of_random_runs() {
+    let (mut nodes, mut edges) = (0, 0);
+    for n in 0..600 {
+        if let Ok((program, turns)) = accepted(&generate::input(SEED, n)) {
+            let state = run(&program, &turns).state;
+            let text = drawing(&state);
+            let fields: usize = state.objects.iter().map(|made| made.fields.len()).sum();
+            let lines: Vec<&str> = text.lines().collect();
+            assert_eq!(lines.len(), 3 + state.objects.len() + fields);
+            let (first, last) = lines[2..lines.len() - 1].split_at(state.objects.len());
+            assert!(first.iter().all(|line| line.contains(" [label=\"")));
+            assert!(last.iter().all(|line| line.contains(" -> ")));
+            assert!(text.len() <= 41_527);
+            nodes += first.len();
+            edges += last.len();
+        }
+    }
+    assert!(nodes > 500 && edges > 500);
 }
 
 /// Looks at the states that the first turns of many runs leave.

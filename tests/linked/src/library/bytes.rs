@@ -65,6 +65,21 @@ pub fn holders(
     }
 }
 
+/// Runs a script and draws its objects into a lent buffer: how many bytes, or the refusal with its line.
+pub fn draw(
+    text: &[u8],
+    turns: &[u8],
+    program: &mut [u8],
+    state: &mut [u8],
+    drawing: &mut [u8],
+) -> Result<usize, Refusal> {
+    match calls::draw(text, turns, program, state, drawing) {
+        (0, [length, 0]) => Ok(length),
+        (number @ 1.., [0, line]) => Err(refused(number.into(), line)),
+        answer => panic!("no answer of a drawing: {:?}", answer),
+    }
+}
+
 /// Finds a line of a text: where it starts and how long it is.
 pub fn line(text: &[u8], n: usize) -> (usize, usize) {
     let (length, [start]) = calls::line(text, n);

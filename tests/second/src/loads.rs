@@ -1,9 +1,9 @@
 //! Loads that a turn's time is measured on: scripts that keep moving through their list of turns.
 
-use second::numbers::{MOST_THREADS, MOST_TURNS};
-use second::random::Random;
-use second::script::Edition;
-use second::turns::rounds;
+use crate::numbers::{MOST_THREADS, MOST_TURNS};
+use crate::random::Random;
+use crate::script::Edition;
+use crate::turns::rounds;
 
 /// A script and its turns. The first ones, so many as `before` says, only lead up to those that are measured.
 pub struct Load {
@@ -224,8 +224,8 @@ pub fn all() -> Vec<Load> {
 #[cfg(test)]
 mod tests {
     use super::*;
-    use second::machine;
-    use second::reading::read;
+    use crate::machine;
+    use crate::reading::read;
 
     #[test]
     fn the_last_turn_of_a_copy_copies_all_objects() {
