@@ -1,13 +1,12 @@
 -- What is printed of an input, in an output that is long enough, and the status that goes by it.
 use Prim.Native.Nat.{ℕ, _≤_}
 use native.Mathlib.Omega.{arith}
-use mathlib.Core.Path.{_≡_, refl, ap, _∙_, subst}
-use mathlib.Core.List.{List, _++_}
+use mathlib.Core.Path.{_≡_, ap, subst}
+use mathlib.Core.List.{List}
 use mathlib.Core.Logic.{inl}
 use lib.ListN.{length, take, drop, length-append}
 use lib.Seq.{take-append-seam}
 use borrow.Author.Tests.{le-ltb}
-use Rattle.rules.specs.Mosts as Most
 use Rattle.listing.specs.declared.Printed.{Printed}
 use Rattle.listing.specs.declared.Printed.the-variants.{Written}
 use Rattle.listing.specs.Outputs.{outputBytes, printedIn, outputIn, printedOf, outputAfter}
@@ -17,23 +16,20 @@ use Rattle.box_tool.specs.declared.commands.Job.{Job}
 use Rattle.box_tool.specs.Status.{failed, statusOf, Unless}
 use Rattle.box_tool.specs.Jobs.{IsText, Finishes}
 
-module _ {Q : List ℕ → Type 0} (text : List ℕ) (such : Q text) (output : List ℕ) (room : savedBytes ≤ length output) {r : Printed} {after : List ℕ} where
-  pub prints-run : (r ≡ printedOf text output) × (after ≡ outputAfter text output) → Prints Q output r after
+module _ {Q : List ℕ → Type 0} (text : List ℕ) (such : Q text) (output : List ℕ) {r : Printed} {after : List ℕ} where
+  -- where so many bytes must be there
+  pub prints-in : (room : ℕ) → room ≤ length output → (r ≡ printedIn room text output) × (after ≡ outputIn room text output) → Prints Q output r after
+  prints-in room long told =
+      let whole = rw (le-ltb (length output) room long) at told in
+      record { text = text; such = such; answers = whole .0; leaves = whole .1 }
+
+  pub prints-run : savedBytes ≤ length output → (r ≡ printedOf text output) × (after ≡ outputAfter text output) → Prints Q output r after
   unfolding printedOf outputAfter
-  prints-run told =
-      let whole = rw (le-ltb (length output) outputBytes (omega arith)) at told in
-      record { text = text; such = such; answers = whole .0; leaves = whole .1 }
+  prints-run long told = prints-in outputBytes (omega arith) told
 
-  pub prints-saved : (r ≡ savedIn text output) × (after ≡ savedAfter text output) → Prints Q output r after
+  pub prints-saved : savedBytes ≤ length output → (r ≡ savedIn text output) × (after ≡ savedAfter text output) → Prints Q output r after
   unfolding savedIn savedAfter
-  prints-saved told =
-      let whole = rw (le-ltb (length output) savedBytes room) at told in
-      record { text = text; such = such; answers = whole .0; leaves = whole .1 }
-
-  pub prints-drawn : (r ≡ printedIn Most.drawing text output) × (after ≡ outputIn Most.drawing text output) → Prints Q output r after
-  prints-drawn told =
-      let whole = rw (le-ltb (length output) Most.drawing room) at told in
-      record { text = text; such = such; answers = whole .0; leaves = whole .1 }
+  prints-saved long told = prints-in savedBytes long told
 
 -- what is written fits in the output, and is the text
 module _ {Q : List ℕ → Type 0} {l : List ℕ} {r : Printed} {l₁ : List ℕ} (p : Prints Q l r l₁) {m : ℕ} (written : r ≡ Written m) where

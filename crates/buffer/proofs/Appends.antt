@@ -1,6 +1,6 @@
--- Laws of `Wrote`: nothing, a byte, one text after the other, the same text said otherwise.
+-- Laws of `Wrote`: nothing, a byte, one text after the other, the same text said otherwise, a text at the front.
 use Prim.Native.Nat.{ℕ, _+_, _≤_, _<_}
-use native.Mathlib.Nat.{add-zero, add-assoc}
+use native.Mathlib.Nat.{add-zero, zero-add, add-assoc}
 use native.Mathlib.Numerals.{add-one}
 use native.Mathlib.Omega.{arith}
 use mathlib.Core.Path.{_≡_, refl, sym, ap, _∙_}
@@ -47,6 +47,11 @@ _▹_ {l = l} {at = at} {s = s} {t = t} a b =
 -- the same text said otherwise, and a larger bound
 pub same-text : {j : ℕ} (k : ℕ) {l l₁ : List ℕ} {at r : ℕ} {s t : List ℕ} → s ≡ t → j ≤ k → Wrote j l l₁ at r s → Wrote k l l₁ at r t
 same-text k e wide a = record { is = rw (← e) (a .is); end = rw (← e) (a .end); most = omega (arith, a .most); from = a .from }
+
+-- a text at the front of the buffer: what stands there, and its end
+pub front-is : {k r : ℕ} {l l₁ t : List ℕ} → Wrote k l l₁ 0 r t → (l₁ ≡ t ++ drop (length t) l) × (r ≡ length t)
+unfolding over
+front-is {t = t} w = (rw (zero-add (length t)) at (w .is), rw (zero-add (length t)) at (w .end))
 
 -- one byte more of a text
 pub one-more-byte : {l l₁ : List ℕ} {at : ℕ} (t : List ℕ) (i : ℕ) → i < length t → at + i < length l₁ → Wrote i l l₁ at (at + i) (take i t)

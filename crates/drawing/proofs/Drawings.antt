@@ -1,6 +1,5 @@
 -- The drawing in the buffer: of a table that holds a run, and then of a run's inputs as lent.
 use Prim.Native.Nat.{ℕ, _≤_, _<_}
-use native.Mathlib.Nat.{zero-add}
 use native.Mathlib.Omega.{arith}
 use mathlib.Core.Path.{_≡_, refl, sym, ap, _∙_, subst}
 use mathlib.Core.Bool.{false}
@@ -18,7 +17,8 @@ use Rattle.rules.specs.Drawing.{drawing, drawCall, drawn, drawnOf}
 use Rattle.rules.proofs.ListLaws.{or-false}
 use Rattle.rules.proofs.Accepted.{reading-accepted}
 use Rattle.table.specs.StateTable.{Any}
-use Rattle.buffer.specs.Writing.{over, Wrote}
+use Rattle.buffer.specs.Writing.{Wrote}
+use Rattle.buffer.proofs.Appends.{front-is}
 use Rattle.listing.specs.StateWriting.{Writes}
 use Rattle.run.specs.declared.Answer.{Answer}
 use Rattle.run.specs.declared.Answer.the-variants.{Refused}
@@ -39,8 +39,7 @@ pub no-buffer : {s buffer : List ℕ} → length buffer < Most.drawing → Draws
 no-buffer short = record { draws = λ s-long long P n S rest held fits. absurd (omega arith); refuses = λ some. (refl, refl) }
 
 drew : {k r : ℕ} {buffer buffer₁ : List ℕ} (text : List ℕ) → Wrote k buffer buffer₁ 0 r text → Drew (drawn text) buffer (T.Written r) buffer₁
-unfolding over
-drew text w = record { answers = ap T.Written (w .end ∙ zero-add (length text)); leaves = rw (zero-add (length text)) at (w .is) }
+drew text w = let front = front-is w in record { answers = ap T.Written (front .1); leaves = front .0 }
 
 pub drawn-there : {k r : ℕ} {s buffer buffer₁ : List ℕ} → Most.words ≤ length s → Most.drawing ≤ length buffer → Writes k s buffer buffer₁ 0 r Any drawing
     → DrawsState s buffer (T.Written r) buffer₁

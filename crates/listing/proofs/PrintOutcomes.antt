@@ -1,6 +1,5 @@
 -- The run's text: the answer's line and, where the run was made, the lines of the state that it left. A long output holds it.
 use Prim.Native.Nat.{ℕ, _≤_, _<_}
-use native.Mathlib.Nat.{zero-add}
 use native.Mathlib.Omega.{arith}
 use mathlib.Core.Path.{_≡_, refl, sym, ap, _∙_}
 use mathlib.Core.Bool.{true, false, _||_}
@@ -26,10 +25,10 @@ use Rattle.run.specs.Made.{Made, Makes}
 use Rattle.run.proofs.AnswerTells.{made-is, refused-is}
 use Rattle.listing.specs.declared.Printed.{Printed}
 use Rattle.listing.specs.declared.Printed.the-variants.{Refused, Written}
-use Rattle.buffer.specs.Writing.{over, Wrote}
+use Rattle.buffer.specs.Writing.{Wrote}
 use Rattle.listing.specs.StateWriting.{Writes}
-use Rattle.listing.specs.Outputs.{runText, outputBytes, printedOf, outputAfter, answerText}
-use Rattle.buffer.proofs.Appends.{_▹_, same-text}
+use Rattle.listing.specs.Outputs.{runText, outputBytes, printedIn, outputIn, printedOf, outputAfter, answerText}
+use Rattle.buffer.proofs.Appends.{_▹_, same-text, front-is}
 
 -- ---- The answer's line
 
@@ -65,12 +64,11 @@ pub record Prints (text l : List ℕ) (r : ℕ) (l₁ : List ℕ) : Type 0 where
   pub leaves : l₁ ≡ outputAfter text l
 
 pub in-output : {k r : ℕ} {l l₁ : List ℕ} (text : List ℕ) → outputBytes ≤ length l → Wrote k l l₁ 0 r text → Prints text l r l₁
-unfolding over printedOf outputAfter
+unfolding printedOf outputAfter
 in-output {l = l} text long w =
-    record {
-      answers = rw (le-ltb (length l) outputBytes long) (ap Written (w .end ∙ zero-add (length text)));
-      leaves = rw (le-ltb (length l) outputBytes long) (rw (zero-add (length text)) at (w .is));
-    }
+    let front = front-is w in
+    let fits = le-ltb (length l) outputBytes long in
+    record { answers = rw fits (ap Written (front .1)); leaves = rw fits (front .0) }
 
 -- what is written fits in the output
 pub written-fits : (text l : List ℕ) {r : Printed} {l₁ : List ℕ} {m : ℕ} → r ≡ printedOf text l → l₁ ≡ outputAfter text l → r ≡ Written m → m ≤ length l₁
@@ -82,9 +80,18 @@ written-fits text l {l₁ = l₁} {m = m} answers leaves written = by-bool (ltb 
     let count : m ≡ length text = let all = rw long at answers in cc in
     omega (arith, count, ap length after, length-append text (drop (length text) l)))
 
+-- in an output that must have more room: it is short; or what was printed as a run is printed there
+pub short-in : (room : ℕ) (text l : List ℕ) → length l < room → (Refused No.shortTable 0 ≡ printedIn room text l) × (l ≡ outputIn room text l)
+short-in room text l short = rw (lt-ltb (length l) room short) (refl, refl)
+
+pub long-in : (room : ℕ) (text l : List ℕ) {r : Printed} {l₁ : List ℕ} → outputBytes ≤ room → room ≤ length l
+    → (r ≡ printedOf text l) × (l₁ ≡ outputAfter text l) → (r ≡ printedIn room text l) × (l₁ ≡ outputIn room text l)
+unfolding printedOf outputAfter
+long-in room text l wide long told = rw (le-ltb (length l) room long) (rw (le-ltb (length l) outputBytes (omega arith)) at told)
+
 pub short-output : (text l : List ℕ) → length l < outputBytes → (Refused No.shortTable 0 ≡ printedOf text l) × (l ≡ outputAfter text l)
 unfolding printedOf outputAfter
-short-output text l short = rw (lt-ltb (length l) outputBytes short) (refl, refl)
+short-output text l short = short-in outputBytes text l short
 
 module _ (text turns : List ℕ) {a : Answer} {program state p s l l₁ : List ℕ} {at : ℕ} (program-fresh : program ≡ freshTable) (state-fresh : state ≡ freshTable)
     (made : Makes text turns false program state a p s) (long : outputBytes ≤ length l) (w : Wrote 40 l l₁ 0 at (answerText a)) where

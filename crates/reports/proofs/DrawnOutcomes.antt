@@ -2,62 +2,39 @@
 use Prim.Native.Nat.{ℕ, _≤_}
 use native.Mathlib.Omega.{arith}
 use mathlib.Core.Path.{_≡_, refl, sym, ap, _∙_}
+use mathlib.Core.Bool.{false}
 use mathlib.Core.List.{List}
 use lib.ListN.{length}
-use borrow.Author.Tests.{lt-ltb, le-ltb}
-use Prim.Native.Nat.{_<_}
+use borrow.Author.Tests.{le-ltb}
 use Rattle.rules.specs.Mosts as Most
 use Rattle.rules.specs.Mosts.{mosts}
-use Rattle.rules.specs.Numbers as No
 use Rattle.rules.specs.Run.{refused}
-use Rattle.rules.specs.Calls.{shortTable, inputs, lentInputs}
+use Rattle.rules.specs.Calls.{inputs}
 use Rattle.rules.specs.Drawing.{Drawn, undrawn, drawn, drawCall, drawnOf, bufferAfter}
 use Rattle.rules.specs.Listing.{answerLine}
 use Rattle.rules.proofs.ListLaws.{impossible}
-use mathlib.Core.Bool.{false}
 use Rattle.drawing.specs.declared.Drawn as D
 use Rattle.drawing.specs.declared.Drawn.the-variants as T
 use Rattle.drawing.specs.Drawings.{answerOf, Drew, HasDrawn}
 use Rattle.listing.specs.declared.Printed.{Printed}
-use Rattle.listing.specs.declared.Printed.the-variants.{Refused, Written}
-use Rattle.listing.specs.Outputs.{outputBytes, printedIn, outputIn, printedOf, outputAfter}
+use Rattle.listing.specs.declared.Printed.the-variants.{Written}
+use Rattle.listing.specs.Outputs.{printedIn, outputIn, printedOf, outputAfter}
+use Rattle.listing.proofs.PrintOutcomes.{long-in}
 use Rattle.replay.specs.declared.Parts.{Parts}
 use Rattle.replay.specs.Given.{toldOf, Splits}
 use Rattle.replay.proofs.GivenLaws.{given-told}
 use Rattle.reports.specs.DrawnTexts.{drawnAs, graphText, drawnGiven, drawnText}
+use Rattle.reports.proofs.ReportOutcomes.{none-short}
 
 -- ---- The inputs
-
-none-short : (text turns program state buffer : List ℕ) → length program ≡ Most.words → length state ≡ Most.words → Most.drawing ≤ length buffer
-    → drawCall mosts text turns program state buffer ≡ inputs mosts text turns false
-unfolding drawCall lentInputs shortTable
-none-short text turns program state buffer program-long state-long buffer-long =
-    rw (le-ltb (length program) Most.words (omega arith), le-ltb (length state) Most.words (omega arith), le-ltb (length buffer) Most.drawing buffer-long) refl
 
 pub the-drawing : (text turns : List ℕ) {program state buffer program₁ state₁ buffer₁ : List ℕ} {r : D.Drawn}
     → HasDrawn (drawCall mosts text turns program state buffer) turns program state buffer r program₁ state₁ buffer₁
     → length program ≡ Most.words → length state ≡ Most.words → Most.drawing ≤ length buffer
     → Drew (drawnOf mosts turns (inputs mosts text turns false)) buffer r buffer₁
+unfolding drawCall
 the-drawing text turns {program} {state} {buffer} told program-long state-long buffer-long =
-    rw (none-short text turns program state buffer program-long state-long buffer-long) at (told .drew)
-
--- ---- In the output
-
--- what a text leaves in an output that is long enough
-pub record Stands (text l : List ℕ) (r : Printed) (l₁ : List ℕ) : Type 0 where
-  pub answers : r ≡ printedIn Most.drawing text l
-  pub leaves : l₁ ≡ outputIn Most.drawing text l
-
--- a refusal's line is no longer than a drawing
-pub in-longer : {r : Printed} {l l₁ : List ℕ} (text : List ℕ) → Most.drawing ≤ length l → (r ≡ printedOf text l) × (l₁ ≡ outputAfter text l) → Stands text l r l₁
-unfolding printedOf outputAfter
-in-longer {l = l} text long (answers, leaves) =
-    let shorter = le-ltb (length l) outputBytes (omega arith) in
-    let longer = le-ltb (length l) Most.drawing long in
-    record { answers = rw longer (rw shorter at answers); leaves = rw longer (rw shorter at leaves) }
-
-pub short-buffer : (text l : List ℕ) → length l < Most.drawing → (Refused No.shortTable 0 ≡ printedIn Most.drawing text l) × (l ≡ outputIn Most.drawing text l)
-short-buffer text l short = rw (lt-ltb (length l) Most.drawing short) (refl, refl)
+    rw (none-short text turns program state buffer Most.drawing program-long state-long buffer-long) at (told .drew)
 
 -- ---- What is printed of it
 
@@ -72,26 +49,29 @@ module _ (x : Drawn) (l : List ℕ) {r : D.Drawn} {l₁ : List ℕ} (told : Drew
           (rw (number, line) refl, kept)
       go (drawn text) e kept = impossible cc
 
-  as-drawn : {n : ℕ} → r ≡ T.Written n → Stands (drawnAs x) l (Written n) l₁
+  as-drawn : {n : ℕ} → r ≡ T.Written n → (Written n ≡ printedIn Most.drawing (drawnAs x) l) × (l₁ ≡ outputIn Most.drawing (drawnAs x) l)
   as-drawn is = go x (sym is ∙ told .answers) (told .leaves)
     where
-      go : (y : Drawn) {n : ℕ} → T.Written n ≡ answerOf y → l₁ ≡ bufferAfter y l → Stands (drawnAs y) l (Written n) l₁
+      go : (y : Drawn) {n : ℕ} → T.Written n ≡ answerOf y → l₁ ≡ bufferAfter y l
+          → (Written n ≡ printedIn Most.drawing (drawnAs y) l) × (l₁ ≡ outputIn Most.drawing (drawnAs y) l)
       go (undrawn i j) e kept = impossible cc
       go (drawn text) {n} e kept =
           let many : n ≡ length text = cc in
-          record { answers = rw (le-ltb (length l) Most.drawing long) (ap Written many); leaves = rw (le-ltb (length l) Most.drawing long) kept }
+          rw (le-ltb (length l) Most.drawing long) (ap Written many, kept)
 
-module _ (text turns : List ℕ) {l : List ℕ} {r : D.Drawn} {l₁ : List ℕ} (told : Drew (drawnOf mosts turns (inputs mosts text turns false)) l r l₁)
+module _ (text turns l : List ℕ) {r : D.Drawn} {l₁ : List ℕ} (told : Drew (drawnOf mosts turns (inputs mosts text turns false)) l r l₁)
     (long : Most.drawing ≤ length l) where
   -- the refusal's line is printed over an output that the drawing left as it was
   pub refusal-printed : {k n : ℕ} {s : Printed} {l₂ : List ℕ} → r ≡ T.Refused k n
-      → (s ≡ printedOf (answerLine (refused k n)) l₁) × (l₂ ≡ outputAfter (answerLine (refused k n)) l₁) → Stands (graphText text turns) l s l₂
+      → (s ≡ printedOf (answerLine (refused k n)) l₁) × (l₂ ≡ outputAfter (answerLine (refused k n)) l₁)
+      → (s ≡ printedIn Most.drawing (graphText text turns) l) × (l₂ ≡ outputIn Most.drawing (graphText text turns) l)
   unfolding graphText
   refusal-printed {k} {n} {s} {l₂} is printed =
       let away = as-refused (drawnOf mosts turns (inputs mosts text turns false)) l told long is in
-      rw (away .0) (in-longer (answerLine (refused k n)) long (rw (away .1) at printed))
+      rw (away .0) (long-in Most.drawing (answerLine (refused k n)) l (omega arith) long (rw (away .1) at printed))
 
-  pub graph-printed : {n : ℕ} → r ≡ T.Written n → Stands (graphText text turns) l (Written n) l₁
+  pub graph-printed : {n : ℕ} → r ≡ T.Written n
+      → (Written n ≡ printedIn Most.drawing (graphText text turns) l) × (l₁ ≡ outputIn Most.drawing (graphText text turns) l)
   unfolding graphText
   graph-printed is = as-drawn (drawnOf mosts turns (inputs mosts text turns false)) l told long is
 

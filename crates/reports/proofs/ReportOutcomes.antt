@@ -31,17 +31,19 @@ use Rattle.reports.specs.ReachedLines.{reachedLine, reported, reportText
 
 -- ---- The inputs
 
-none-short : (text turns program state list : List ℕ) → length program ≡ Most.words → length state ≡ Most.words → length list ≡ Most.reachList
-    → reachCall mosts text turns program state list ≡ inputs mosts text turns false
-unfolding reachCall lentInputs shortTable
-none-short text turns program state list program-long state-long list-long =
-    rw (le-ltb (length program) Most.words (omega arith), le-ltb (length state) Most.words (omega arith), le-ltb (length list) Most.reachList (omega arith)) refl
+-- both tables and another slice are long enough
+pub none-short : (text turns program state other : List ℕ) (most : ℕ) → length program ≡ Most.words → length state ≡ Most.words → most ≤ length other
+    → lentInputs mosts text turns program state (ltb (length other) most) ≡ inputs mosts text turns false
+unfolding lentInputs shortTable
+none-short text turns program state other most program-long state-long other-long =
+    rw (le-ltb (length program) Most.words (omega arith), le-ltb (length state) Most.words (omega arith), le-ltb (length other) most other-long) refl
 
 pub the-report : (text turns : List ℕ) {program state list program₁ state₁ list₁ : List ℕ} {t : ℕ} {r : R.Report}
     → Reached (reachCall mosts text turns program state list) turns t program state list r program₁ state₁ list₁
     → length program ≡ Most.words → length state ≡ Most.words → length list ≡ Most.reachList → Reports (reachReport mosts turns t (inputs mosts text turns false)) list r list₁
+unfolding reachCall
 the-report text turns {program} {state} {list} told program-long state-long list-long =
-    rw (none-short text turns program state list program-long state-long list-long) at (told .report)
+    rw (none-short text turns program state list Most.reachList program-long state-long (omega arith)) at (told .report)
 
 -- ---- What is printed of it
 

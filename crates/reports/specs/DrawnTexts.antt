@@ -1,7 +1,7 @@
 -- What is printed of a drawing: its text, or the line of its refusal.
+use Prim.Native.Nat.{ℕ}
 use mathlib.Core.Bool.{false}
 use mathlib.Core.List.{List}
-use Prim.Native.Nat.{ℕ}
 use Rattle.rules.specs.Mosts.{mosts}
 use Rattle.rules.specs.Run.{refused}
 use Rattle.rules.specs.Calls.{inputs}

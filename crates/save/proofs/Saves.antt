@@ -8,7 +8,7 @@ use mathlib.Core.List.{List, _++_}
 use lib.Dec.{ltb}
 use lib.ListN.{length, take, drop, take-append-drop, length-drop}
 use lib.Seq.{length-take-le, take-all}
-use borrow.Author.Tests.{lt-ltb, le-ltb, ltb-false}
+use borrow.Author.Tests.{le-ltb, ltb-false}
 use Rattle.rules.specs.Mosts as Most
 use Rattle.rules.specs.Mosts.{mosts}
 use Rattle.rules.specs.Numbers as No
@@ -25,10 +25,11 @@ use Rattle.rules.proofs.Writer.{comes-back}
 use Rattle.reader.specs.ReadAnswers.{answerOf}
 use Rattle.reader.specs.declared.Answer.the-variants as Reader
 use Rattle.buffer.specs.Writing.{over, Wrote}
-use Rattle.buffer.proofs.Appends.{_▹_}
+use Rattle.buffer.proofs.Appends.{_▹_, front-is}
 use Rattle.listing.specs.declared.Printed.{Printed}
 use Rattle.listing.specs.declared.Printed.the-variants.{Refused, Written}
-use Rattle.listing.specs.Outputs.{outputBytes, printedOf, outputAfter}
+use Rattle.listing.specs.Outputs.{printedOf, outputAfter}
+use Rattle.listing.proofs.PrintOutcomes.{short-in, long-in}
 use Rattle.writer.specs.WriteAnswers as Told
 use Rattle.writer.specs.declared.Answer.{Answer}
 use Rattle.writer.specs.declared.Answer.the-variants as W
@@ -43,19 +44,18 @@ use Rattle.save.specs.Saved.{savedAs, saved, scriptSavedAs, scriptSaved,
 module _ (text output : List ℕ) where
   pub saved-short : length output < savedBytes → (Refused No.shortTable 0 ≡ savedIn text output) × (output ≡ savedAfter text output)
   unfolding savedIn savedAfter
-  saved-short short = rw (lt-ltb (length output) savedBytes short) (refl, refl)
+  saved-short short = short-in savedBytes text output short
 
   -- an output that is long enough for an input is so for a listing
   pub saved-line : {r : Printed} {after : List ℕ} → savedBytes ≤ length output → (r ≡ printedOf text output) × (after ≡ outputAfter text output)
       → (r ≡ savedIn text output) × (after ≡ savedAfter text output)
-  unfolding savedIn savedAfter printedOf outputAfter
-  saved-line room told = rw (le-ltb (length output) savedBytes room) (rw (le-ltb (length output) outputBytes (omega arith)) at told)
+  unfolding savedIn savedAfter
+  saved-line room told = long-in savedBytes text output (omega arith) room told
 
   saved-whole : {k r : ℕ} {after : List ℕ} → savedBytes ≤ length output → Wrote k output after 0 r text
       → (Written r ≡ savedIn text output) × (after ≡ savedAfter text output)
-  unfolding savedIn savedAfter over
-  saved-whole room w =
-      rw (le-ltb (length output) savedBytes room) (ap Written (w .end ∙ zero-add (length text)), rw (zero-add (length text)) at (w .is))
+  unfolding savedIn savedAfter
+  saved-whole room w = let front = front-is w in rw (le-ltb (length output) savedBytes room) (ap Written (front .1), front .0)
 
 -- ---- The script
 

@@ -1,6 +1,5 @@
 -- What the writer answers of the stripped table is printed: the script with the line of turns after it, or the refusal that stands for it.
 use Prim.Native.Nat.{ℕ, _-_, _≤_, _<_}
-use native.Mathlib.Nat.{zero-add}
 use native.Mathlib.Omega.{arith}
 use mathlib.Core.Path.{_≡_, sym, ap, _∙_}
 use mathlib.Core.List.{List, _++_}
@@ -17,8 +16,8 @@ use Rattle.rules.specs.Listing.{answerLine}
 use Rattle.rules.specs.Writer.{ReadsTo, NoneReadsTo, Writes, shortBuffer, WriteCall}
 use Rattle.rules.proofs.ListLaws.{impossible}
 use Rattle.rules.proofs.Writer.{read-length}
-use Rattle.buffer.specs.Writing.{over, Wrote}
-use Rattle.buffer.proofs.Appends.{_▹_}
+use Rattle.buffer.specs.Writing.{Wrote}
+use Rattle.buffer.proofs.Appends.{_▹_, front-is}
 use Rattle.listing.specs.declared.Printed.{Printed}
 use Rattle.listing.specs.declared.Printed.the-variants.{Written}
 use Rattle.listing.specs.Outputs.{printedOf, outputAfter}
@@ -39,9 +38,7 @@ module _ {Q : List ℕ → Type 0} {output output₁ : List ℕ} (text : List �
 
   -- what is written from the output's first byte on
   pub prints-written : {k n : ℕ} → Wrote k output output₁ 0 n text → Prints Q output (Written n) output₁
-  unfolding over
-  prints-written w =
-      record { text = text; such = such; answers = ap Written (w .end ∙ zero-add (length text)); leaves = rw (zero-add (length text)) at (w .is) }
+  prints-written w = let front = front-is w in record { text = text; such = such; answers = ap Written (front .1); leaves = front .0 }
 
 -- ---- What the writer tells
 

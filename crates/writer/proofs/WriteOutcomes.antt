@@ -1,7 +1,6 @@
 -- From what was written beside the buffer to the writer's answer. A text that reads to the table is what the table's words say, so it is the one
 -- that was written; read again it is accepted and gives the table's words. Where that fails, there is no such text.
 use Prim.Native.Nat.{ℕ, _+_, _≤_, _<_}
-use native.Mathlib.Nat.{zero-add}
 use native.Mathlib.Omega.{arith}
 use mathlib.Core.Path.{_≡_, refl, sym, ap, _∙_, subst}
 use mathlib.Core.Bool.{Bool, false}
@@ -27,7 +26,8 @@ use Rattle.rules.proofs.ListLaws.{impossible, or-false₃}
 use Rattle.rules.proofs.Scanned.{Scanned, ended, passed}
 use Rattle.rules.proofs.Accepted.{table-lines}
 use Rattle.rules.proofs.Writer.{read-length, read-scanned, read-prints, read-valid, read-again}
-use Rattle.buffer.specs.Writing.{over, Wrote}
+use Rattle.buffer.specs.Writing.{Wrote}
+use Rattle.buffer.proofs.Appends.{front-is}
 use Rattle.table.specs.ProgramTable.{Filled, Same}
 use Rattle.table.proofs.ProgramTable.{program-words-by-lines}
 use Rattle.table.proofs.ProgramLines.{blocks-of-lines}
@@ -70,11 +70,6 @@ module _ {table text : List ℕ} (it : ReadsTo mosts table text) where
 
   no-longer : length (headOf (P .edition) ++ join (map show (linesOf P))) ≤ Most.text
   no-longer = rw (← read-prints mosts text table P (it .reads)) (read-length mosts text table P (it .reads))
-
--- the text at the front of a buffer, and its end
-front-is : {k r : ℕ} {l l₁ text : List ℕ} → Wrote k l l₁ 0 r text → (l₁ ≡ text ++ drop (length text) l) × (r ≡ length text)
-unfolding over
-front-is {text} w = (rw (zero-add (length text)) at (w .is), rw (zero-add (length text)) at (w .end))
 
 -- a text that reads to the table is the one that was written
 pub is-written : {table l l₁ text : List ℕ} {r : ℕ} → WritesScript table l l₁ r → ReadsTo mosts table text → take r l₁ ≡ text

@@ -13,7 +13,7 @@ use crate::host::{same, Lent, Tables};
 use crate::lent::Part;
 use crate::library::bytes;
 
-/// What docs/DRAWING.md says that a drawing has at most, and what the longest has: object 0 has no fields, and few numbers have three digits.
+/// What docs/DRAWING.md says that a drawing has at most, and what the longest has: object 0 has no fields, and 100 numbers have fewer than three digits.
 const MOST_DRAWING: usize = 42_283;
 const LONGEST: usize = 41_527;
 

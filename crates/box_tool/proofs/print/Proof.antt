@@ -1,7 +1,8 @@
 -- Each job is its library's; an output that is long enough for an input is so for a run, a report and a drawing.
 use denote.Ref.{now}
 use mathlib.Core.Path.{refl}
-use Rattle.box_tool.proofs.JobTexts.{prints-run, prints-saved, prints-drawn}
+use Rattle.rules.specs.Mosts as Most
+use Rattle.box_tool.proofs.JobTexts.{prints-in, prints-run, prints-saved}
 use borrow.Author.Needs.{needs}
 use Rattle.box_tool.proofs.print.Statement.{statement}
 use Rattle.box_tool.proofs.print.Tie as tie
@@ -70,7 +71,7 @@ returns-4 : tie.Need-returns-4
 returns-4 c =
     let arm = c .before .before .before .before in
     let start = arm .before .before .before .before in
-    rw (arm .enum-told4 .given .1) (prints-drawn _ refl (now (start .args .output)) (start .pre) (c .before .before .print-drawn .ensures))
+    rw (arm .enum-told4 .given .1) (prints-in _ refl (now (start .args .output)) Most.drawing (start .pre) (c .before .before .print-drawn .ensures))
 
 same-length-5 : tie.Need-same-length-5
 same-length-5 c = search needs

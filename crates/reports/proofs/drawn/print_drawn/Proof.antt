@@ -1,8 +1,11 @@
 -- `reports::drawn::print_drawn` meets its contract: what the input comes to is printed, a refusal with its line.
+use native.Mathlib.Omega.{arith}
 use denote.Ref.{now}
+use Rattle.rules.specs.Mosts as Most
+use Rattle.listing.proofs.PrintOutcomes.{short-in, long-in}
 use Rattle.replay.proofs.GivenLaws.{parts-fit}
 use Rattle.reports.specs.DrawnTexts.{drawnText}
-use Rattle.reports.proofs.DrawnOutcomes.{in-longer, short-buffer, drawn-told}
+use Rattle.reports.proofs.DrawnOutcomes.{drawn-told}
 use borrow.Author.Needs.{needs}
 use Rattle.reports.proofs.drawn.print_drawn.Statement.{statement}
 use Rattle.reports.proofs.drawn.print_drawn.Tie as tie
@@ -10,7 +13,7 @@ use Rattle.reports.proofs.drawn.print_drawn.Tie as tie
 returns : tie.Need-returns
 returns c =
     let start = c .before .before .before in
-    short-buffer (drawnText (now (start .args .input))) (now (start .args .output)) (c .if1 .taken)
+    short-in Most.drawing (drawnText (now (start .args .input))) (now (start .args .output)) (c .if1 .taken)
 
 slice-aggregate-split : tie.Need-slice-aggregate-split
 slice-aggregate-split c = search needs
@@ -51,8 +54,9 @@ returns-2 c =
     let at-parts = c .before .before .before .before .before in
     let at-split = at-parts .before .before .before in
     let at-if1 = at-split .before .before in
-    let x = in-longer _ (at-if1 .if1 .left) (c .before .before .print-refusal .ensures) in
-    rw (drawn-told (at-split .split .ensures) (search needs) _ (at-parts .parts .given .1)) (x .answers, x .leaves)
+    let start = at-if1 .before .before .before in
+    rw (drawn-told (at-split .split .ensures) (search needs) _ (at-parts .parts .given .1))
+    (long-in Most.drawing _ (now (start .args .output)) (omega arith) (at-if1 .if1 .left) (c .before .before .print-refusal .ensures))
 
 same-length-2 : tie.Need-same-length-2
 same-length-2 c = search needs
@@ -62,8 +66,9 @@ returns-3 c =
     let at-parts2 = c .before .before .before .before .before in
     let at-split = at-parts2 .before .before .before in
     let at-if1 = at-split .before .before in
-    let x = in-longer _ (at-if1 .if1 .left) (c .before .before .print-refusal2 .ensures) in
-    rw (drawn-told (at-split .split .ensures) (search needs) _ (at-parts2 .parts2 .given .1)) (x .answers, x .leaves)
+    let start = at-if1 .before .before .before in
+    rw (drawn-told (at-split .split .ensures) (search needs) _ (at-parts2 .parts2 .given .1))
+    (long-in Most.drawing _ (now (start .args .output)) (omega arith) (at-if1 .if1 .left) (c .before .before .print-refusal2 .ensures))
 
 same-length-3 : tie.Need-same-length-3
 same-length-3 c = search needs

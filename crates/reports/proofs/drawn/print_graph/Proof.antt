@@ -31,8 +31,7 @@ returns c =
     let at-drawn = c .before .before .before .before .before in
     let at-draw = at-drawn .before .before .before .before .before .before in
     let start = at-draw .before .before .before .before .before .before .before in
-    let x = refusal-printed (now (start .args .text)) (now (start .args .turns)) (the-drawing (now (start .args .text)) (now (start .args .turns)) (at-draw .draw .ensures) (search needs) (search needs) (start .pre)) (start .pre) (at-drawn .drawn .given .1) (c .before .before .print-refusal .ensures) in
-    (x .answers, x .leaves)
+    refusal-printed (now (start .args .text)) (now (start .args .turns)) (now (start .args .output)) (the-drawing (now (start .args .text)) (now (start .args .turns)) (at-draw .draw .ensures) (search needs) (search needs) (start .pre)) (start .pre) (at-drawn .drawn .given .1) (c .before .before .print-refusal .ensures)
 
 same-length-2 : tie.Need-same-length-2
 same-length-2 c = search needs
@@ -41,8 +40,7 @@ returns-2 : tie.Need-returns-2
 returns-2 c =
     let at-draw = c .before .before .before .before .before .before .before in
     let start = at-draw .before .before .before .before .before .before .before in
-    let x = graph-printed (now (start .args .text)) (now (start .args .turns)) (the-drawing (now (start .args .text)) (now (start .args .turns)) (at-draw .draw .ensures) (search needs) (search needs) (start .pre)) (start .pre) (c .before .drawn2 .given .1) in
-    (x .answers, x .leaves)
+    graph-printed (now (start .args .text)) (now (start .args .turns)) (now (start .args .output)) (the-drawing (now (start .args .text)) (now (start .args .turns)) (at-draw .draw .ensures) (search needs) (search needs) (start .pre)) (start .pre) (c .before .drawn2 .given .1)
 
 pub print-graph-spec : {M : Type 1} → statement M
 print-graph-spec =
