@@ -5,7 +5,7 @@ ghost use Rattle.box_tool.specs.Commands.{input_command_of, command_of, least, m
 use super::words::is;
 
 // What is printed of an input; of a thread, by its number.
-#[derive(Drop)]
+#[derive(Clone, Copy)]
 pub enum Job {
     Run,
     Save,
@@ -15,7 +15,7 @@ pub enum Job {
     Reached(usize),
 }
 
-#[derive(Drop)]
+#[derive(Clone, Copy)]
 pub enum Command {
     Print(Job),
     Check,

@@ -1,5 +1,7 @@
 // box: what can be asked of an input of boxrun, or of a number, as one program. What it prints is the libraries'. The wrapper scripts/box runs
 // it with --status as the first argument, and exits with the digit that it then writes on descriptor 3.
+#![tactic(auto)]
+
 mod commands;
 mod files;
 mod words;

@@ -32,7 +32,7 @@ pub fn is(word: &[u8], text: &[u8]) -> bool
 }
 
 // What a text comes to as a number.
-#[derive(Drop)]
+#[derive(Clone, Copy)]
 pub enum Number {
     Of(usize),
     None,

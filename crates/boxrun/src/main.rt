@@ -1,5 +1,7 @@
 // boxrun: a script and its turns on standard input, the printed run on standard output. What is printed is `replay::print_input`'s. A read or
 // a write that fails is told on standard error, and of what could not be read whole nothing is printed.
+#![tactic(auto)]
+
 use listing::Printed;
 use streams::Reading;
 

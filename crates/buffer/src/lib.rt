@@ -1,5 +1,7 @@
 // Numbers and words written into a lent buffer. Each function writes at a place and answers the place after its text. Where numbers and the words
 // of capabilities stand after a space, it is written with them.
+#![tactic(auto)]
+
 ghost use Rattle.std.specs.Prelude.{[], ◌∷◌, ◌+◌, ◌≤◌, ◌<◌, length};
 ghost use Rattle.rules.specs.Text.{space};
 ghost use Rattle.rules.specs.Templates.{digit_at, decimal, cap_word};

@@ -13,7 +13,7 @@ use table::Here;
 
 // What a line comes to. It moves, and the thread is then at the frame's next line, at the same line, or in another frame or finished; it waits; or
 // it stops. A check that passes answers that the line moves, by Next.
-#[derive(Drop)]
+#[derive(Clone, Copy)]
 pub enum Step {
     Next,
     Stay,

@@ -1,4 +1,6 @@
 // What the checks of a line answer, read off the tables. None of them writes.
+#![tactic(auto)]
+
 mod form_checks;
 mod items;
 

@@ -1,4 +1,6 @@
 // The drawing: a run, and then its objects as a directed graph in the DOT language, written into a lent buffer. docs/DRAWING.md has the text.
+#![tactic(auto)]
+
 mod graph;
 
 ghost use Rattle.drawing.specs.Drawings.{DrawsState, Draws};
@@ -7,7 +9,7 @@ use graph::put_drawing;
 use run::Answer;
 
 // What a drawing answers: it is turned away, with the number and the line; or how many bytes are written.
-#[derive(Drop)]
+#[derive(Clone, Copy)]
 pub enum Drawn {
     Refused(u16, usize),
     Written(usize),

@@ -1,4 +1,6 @@
 // What a number means, in plain words, for box explain.
+#![tactic(auto)]
+
 ghost use Rattle.std.specs.Prelude.{◌≡◌, ◌-◌, ◌≤◌, length, take, drop};
 ghost use Rattle.rules.specs.Text.{lines, join};
 ghost use Rattle.buffer.specs.Writing.{Wrote};

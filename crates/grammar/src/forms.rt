@@ -10,7 +10,7 @@ use super::words::{begins_at, both, byte, either};
 
 // A decoded line: whether it fits its form; the form's number and the parts' words, as in the table; whether the line by itself exceeds a
 // most; one more than the highest slot that it names; whether it takes slot 0; and the place after its LF.
-#[derive(Drop)]
+#[derive(Clone, Copy)]
 pub struct Line {
     pub ok: bool,
     pub form: u16,

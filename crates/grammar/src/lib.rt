@@ -1,4 +1,6 @@
 // One line of a script, read straight from the text: no copy of it is made.
+#![tactic(auto)]
+
 mod forms;
 mod parts;
 mod words;

@@ -8,7 +8,7 @@ ghost use Rattle.grammar.specs.Items.{Listed, Adds, NumbersAt, OperandsAt};
 use super::words::{begins_at, both, byte, either};
 
 // What a part reads at a place: whether it fits there, its word, and the place after it.
-#[derive(Drop)]
+#[derive(Clone, Copy)]
 pub struct Part {
     pub ok: bool,
     pub word: u16,
@@ -17,7 +17,7 @@ pub struct Part {
 
 // What a list reads at a place: whether it fits, how many items it has (at most four are counted), the words of its first four items (each one more, 0 after the last), whether a most is
 // exceeded, one more than its highest slot, whether it takes slot 0, and the place after it.
-#[derive(Drop)]
+#[derive(Clone, Copy)]
 pub struct Items {
     pub ok: bool,
     pub n: u16,

@@ -1,10 +1,12 @@
 // The holder count: a run, and then how many places hold an object, as its record has it. Nothing is counted here.
+#![tactic(auto)]
+
 ghost use Rattle.holders.specs.StoredCounts.{CountsState, Counts};
 
 use run::Answer;
 
 // What a call answers: it is turned away, with the number and the line; or the count of the places that hold the object.
-#[derive(Drop)]
+#[derive(Clone, Copy)]
 pub enum Count {
     Refused(u16, usize),
     Counted(u16),

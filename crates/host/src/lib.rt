@@ -1,4 +1,6 @@
 // What a C host calls: "numbers and byte slices; words cross as bytes, low byte first". include/box.h says it for C.
+#![tactic(auto)]
+
 ghost use Rattle.std.specs.Prelude.{◌≡◌, ◌*◌, ◌≤◌, length, take};
 ghost use Rattle.rules.specs.Mosts as Most;
 ghost use Rattle.rules.specs.Lists.{pad};

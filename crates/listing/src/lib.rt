@@ -1,4 +1,6 @@
 // The printed run: a run, and what document 01 prints of it, written into a lent output.
+#![tactic(auto)]
+
 mod answers;
 mod state_lines;
 mod values;
@@ -14,7 +16,7 @@ use answers::put_refused;
 use state_lines::put_state;
 
 // What a printing answers: the output is turned away, with document 01's number and line 0; or how many bytes are written.
-#[derive(Drop)]
+#[derive(Clone, Copy)]
 pub enum Printed {
     Refused(u16, usize),
     Written(usize),

@@ -9,7 +9,7 @@ use super::marks::{Found, note};
 use tally::Fate;
 
 // What comes of a turn: it stops the run, or the run goes on, and the turn races with what is found.
-#[derive(Drop)]
+#[derive(Clone, Copy)]
 pub enum Played {
     Halted,
     Goes(Found),

@@ -1,4 +1,6 @@
 // Races: whether two turns of a run race, and which. The turns are played once, and of the turns before only the last ones that count are noted.
+#![tactic(auto)]
+
 mod events;
 mod judging;
 mod marks;
@@ -10,7 +12,7 @@ use run::Answer;
 
 // What is found: it is turned away, with the number and the line; no turns race; or the earliest turn that races with one before it: the place of the last
 // such turn, its own place, the object and the field.
-#[derive(Drop)]
+#[derive(Clone, Copy)]
 pub enum Race {
     Refused(u16, usize),
     Absent,

@@ -8,7 +8,7 @@ ghost use Rattle.races.specs.Marks.{marks, objects_in, MarksMet, MarksFields, fi
 use rules::Event;
 
 // One more than the place of a turn before, 0 where there is none, and what it races on.
-#[derive(Drop)]
+#[derive(Clone, Copy)]
 pub struct Found {
     pub turn: u16,
     pub object: u16,

@@ -1,4 +1,6 @@
 // The reach report: a run, and then every object that a thread reaches, in rising order.
+#![tactic(auto)]
+
 mod sending;
 mod walking;
 
@@ -8,7 +10,7 @@ use run::Answer;
 use walking::{list_met, walk_roots};
 
 // What a report answers: it is turned away, with document 01's number and the line; or the number of objects reached.
-#[derive(Drop)]
+#[derive(Clone, Copy)]
 pub enum Report {
     Refused(u16, usize),
     Reached(usize),

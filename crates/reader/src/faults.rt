@@ -8,7 +8,7 @@ use rules::Form;
 
 // What has been read so far: whether the first line names the second edition; the counts; the number of the form that opened
 // the block which is open, or 0; and how many slots that block has filled.
-#[derive(Drop)]
+#[derive(Clone, Copy)]
 pub struct Sofar {
     pub second: bool,
     pub kinds: usize,

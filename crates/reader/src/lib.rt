@@ -1,4 +1,6 @@
 // Reading a script into a program table, and the line finder.
+#![tactic(auto)]
+
 mod faults;
 mod finder;
 mod linking;
@@ -18,7 +20,7 @@ pub use scanning::is_allowed;
 use scanning::{Scan, scan_lines};
 
 // What reading answers: the script was read; or it is turned away, with document 01's number and the line.
-#[derive(Drop)]
+#[derive(Clone, Copy)]
 pub enum Answer {
     Read,
     Refused(u16, usize),

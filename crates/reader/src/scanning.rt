@@ -10,7 +10,7 @@ use super::finder::find_lf;
 use rules::Form;
 
 // What the lines come to: a refusal with its line; or the number of kinds, of blocks and of lines.
-#[derive(Drop)]
+#[derive(Clone, Copy)]
 pub enum Scan {
     Fault(u16, usize),
     Done(usize, usize, usize),

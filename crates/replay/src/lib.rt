@@ -1,4 +1,6 @@
 // boxrun's input: "a script, then the last line (turns T ..)", taken apart, and the printing of its run.
+#![tactic(auto)]
+
 mod ending;
 mod turns_line;
 
@@ -23,7 +25,7 @@ fn print_fronts(input: &[u8], at: usize, turns: &[u8], n: usize, output: &mut [u
 
 // What an input comes to: it is turned away whole, with document 01's number; its last line has a fault, with where that line starts, the number
 // and the line; or where the script ends, and how many turns stand at the front of the list.
-#[derive(Drop)]
+#[derive(Clone, Copy)]
 pub enum Parts {
     Away(u16),
     Fault(usize, u16, usize),

@@ -4,14 +4,14 @@ ghost use Rattle.rules.specs.Input.{turns_of};
 ghost use Rattle.replay.specs.Told.{turns_told, count_of, NumbersStored, line_by};
 
 // What the line comes to: a fault, with document 01's number; or how many turns stand at the front of the list.
-#[derive(Drop)]
+#[derive(Clone, Copy)]
 pub enum Line {
     Fault(u16),
     Turns(usize),
 }
 
 // What the numbers come to: whether they fit, how many there are, whether one is over 255, and the place after them.
-#[derive(Drop)]
+#[derive(Clone, Copy)]
 pub struct Numbers {
     pub ok: bool,
     pub count: usize,

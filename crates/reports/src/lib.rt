@@ -1,4 +1,6 @@
 // Reports as they are printed: the objects that a thread reaches after a run, all of its objects drawn, and whether two of its turns race.
+#![tactic(auto)]
+
 mod drawn;
 mod raced;
 

@@ -166,9 +166,9 @@ module _ (m : Mosts) (P : Program) (d : Edition) where
         scanned = rw l≡L at s;
         linked = t;
       }
-  lets_passed {c} (e ∷ es) L N (passed x s) (named y t) l≡ n≡ hl hn =
+  lets_passed {k = k} {b = b} {c = c} {l = l} {n = n} {o = o} {w = w} {Fs = Fs} (e ∷ es) L N (passed x s) (named y t) l≡ n≡ hl hn =
       let room = room_for_let x in
-      let rest = lets_passed es L N s t (omega arith) (omega arith) (omega arith) (omega arith) in
+      let rest = lets_passed {l = (read_on (sofar d k b l (within o n)) (line (bind e))).lets} es L N s t (omega arith) (omega arith) (omega arith) (omega arith) in
       record {
         few = rest.few;
         few_lets = rest.few_lets;
@@ -192,10 +192,10 @@ module _ (m : Mosts) (P : Program) (d : Edition) where
       → b ≤ m.blocks → l ≤ m.lets → BlocksPassed b l Bs
   unfolding block_lines read_on opened let_count
   blocks_passed [] s t hb hl = record { few = omega arith; few_lets = omega arith; blocks = tt }
-  blocks_passed (B ∷ Bs) (passed x s) (named y t) hb hl =
+  blocks_passed {k = k} {b = b} {l = l} {c = c} (B ∷ Bs) (passed x s) (named y t) hb hl =
       let room = room_for_block x in
       let here = lets_passed B.lets _ _ s t refl refl hl (first_slots_few B.sort) in
-      let rest = blocks_passed Bs here.scanned here.linked (omega arith) here.few_lets in
+      let rest = blocks_passed {b = (read_on (sofar d k b l outside) (opens B.sort)).blocks} Bs here.scanned here.linked (omega arith) here.few_lets in
       let few_blocks = rest.few in
       let few_lets = rest.few_lets in
       record {
@@ -228,9 +228,9 @@ module _ (m : Mosts) (P : Program) (d : Edition) where
       → k + length Ks ≡ N → k ≤ m.kinds → KindsPassed N Ks Fs
   unfolding kind_lines read_on opened
   kinds_passed {k} [] N s t k≡ hk = let k≡N : k ≡ N = omega arith in record { few = omega arith; kinds = tt; scanned = rw k≡N at s; linked = t }
-  kinds_passed (K ∷ Ks) N (passed x s) (named y t) k≡ hk =
+  kinds_passed {k = k} {Fs = Fs} (K ∷ Ks) N (passed x s) (named y t) k≡ hk =
       let here = kind_ok K x y in
-      let rest = kinds_passed Ks N s t (omega arith) (omega arith) in
+      let rest = kinds_passed {k = (read_on (sofar d k 0 0 outside) (kind K)).kinds} Ks N s t (omega arith) (omega arith) in
       record { few = rest.few; kinds = (here.1, rest.kinds); scanned = rest.scanned; linked = rest.linked }
 
   first_thread : {k : ℕ} (Bs : List Block) → Scanned m (sofar d k 0 0 outside) (block_lines Bs) → Linked P 0 (block_lines Bs) → (0 < length Bs) × ((get_or Bs 0 no_block).sort ≡ thread)

@@ -111,7 +111,8 @@ unfolding kinds_of blocks_of lets_of result_of let_lines block_lines in_place is
 ordered outside [] s h = record { kinds = refl; lines = refl }
 ordered (within o n) [] (ended some closed) h = absurd (false≢true closed)
 ordered p (kind K ∷ Fs) (passed x s) h = absurd (false≢true (sym h ∙ x.is_in_place))
-ordered {b} outside (opens o ∷ Fs) (passed x s) h = with_line refl refl (ordered (within o (first_slots o)) Fs s (some_more b))
+ordered {m = m} {e = e} {k = k} {b = b} {l = l} outside (opens o ∷ Fs) (passed x s) h =
+    with_line refl refl (ordered {b = (read_on (sofar e k b l outside) (opens o)).blocks} (within o (first_slots o)) Fs s (some_more b))
 ordered (within _ n) (opens o ∷ Fs) (passed x s) h = absurd (false≢true x.is_in_place)
 ordered outside (line (bind e) ∷ Fs) (passed x s) h = absurd (false≢true x.is_in_place)
 ordered (within o n) (line (bind e) ∷ Fs) (passed x s) h = with_line refl refl (ordered (within o (n + 1)) Fs s h)
@@ -122,7 +123,8 @@ ordered (within o n) (line (give w) ∷ Fs) (passed x s) h = with_line refl refl
 ordered_kinds : {m : Mosts} {e : Edition} {k l : ℕ} (Fs : List Form) → Scanned m (sofar e k 0 l outside) Fs → kind_lines (kinds_of Fs) (block_lines (blocks_of Fs)) ≡ Fs
 unfolding kinds_of blocks_of kind_lines block_lines in_place is_outside read_on
 ordered_kinds [] s = refl
-ordered_kinds (kind K ∷ Fs) (passed x s) = ap (λ (X : List Form). kind K ∷ X) (ordered_kinds Fs s)
+ordered_kinds {m = m} {e = e} {k = k} {l = l} (kind K ∷ Fs) (passed x s) =
+    ap (λ (X : List Form). kind K ∷ X) (ordered_kinds {k = (read_on (sofar e k 0 l outside) (kind K)).kinds} Fs s)
 ordered_kinds (opens o ∷ Fs) (passed x s) =
     let rest = ordered (within o (first_slots o)) Fs s refl in
     rw rest.kinds (ap (λ (X : List Form). opens o ∷ X) rest.lines)

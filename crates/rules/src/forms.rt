@@ -33,7 +33,7 @@ pub const COPY: u16 = 14;
 
 // The kind stands out of the order of the numbers: so the compiler makes one jump of `form_of` and the `match` after it. In that order it
 // would first compute the variant.
-#[derive(Drop)]
+#[derive(Clone, Copy)]
 pub enum Form {
     NoForm, // a number that no form has
     Thread,

@@ -1,4 +1,6 @@
 // The types that the definitions (specs/) share with the code, who may hold whom, the numbers of grounds and of forms, and the words of K.
+#![tactic(auto)]
+
 ghost use Rattle.std.specs.Prelude.{◌≡◌, ◌<◌, get_or};
 ghost use Rattle.rules.specs.Numbers as No;
 ghost use Rattle.rules.specs.Script.{rank};
@@ -11,7 +13,7 @@ pub mod numbers;
 pub use forms::{Form, form_of};
 
 // "A value is absent, an object number or a channel number."
-#[derive(Drop)]
+#[derive(Clone, Copy)]
 pub enum Value {
     Absent,
     Obj(u16),
@@ -19,7 +21,7 @@ pub enum Value {
 }
 
 // "Capabilities are ordered imm < iso < local < unsafe".
-#[derive(Drop)]
+#[derive(Clone, Copy)]
 pub enum Cap {
     Imm,
     Iso,
@@ -28,7 +30,7 @@ pub enum Cap {
 }
 
 // The grounds of a permission stop (document 02, L5).
-#[derive(Drop)]
+#[derive(Clone, Copy)]
 pub enum Ground {
     Foreign, // something local to another thread
     Alias, // a second reference to an iso
@@ -37,7 +39,7 @@ pub enum Ground {
 
 // What a turn that moves does to fields and messages (document 02, L9): it reads or swaps a field of an object, puts or receives a message, copies the
 // objects met from one.
-#[derive(Drop)]
+#[derive(Clone, Copy)]
 pub enum Event {
     Quiet,
     Reads(u16, u16),
@@ -48,7 +50,7 @@ pub enum Event {
 }
 
 // The mosts of a script that two scripts on one box would share (specs/Mosts has their values).
-#[derive(Drop)]
+#[derive(Clone, Copy)]
 pub struct Mosts {
     pub kinds: usize,
     pub blocks: usize,

@@ -1,4 +1,6 @@
 // Running a script on a list of turns.
+#![tactic(auto)]
+
 mod ends;
 mod playing;
 
@@ -12,7 +14,7 @@ use playing::{Played, play};
 
 // What a run answers: it is turned away, with document 01's number and the line; it ends, with its moves; or a turn stops it, with the
 // number, thread, block, line and moves.
-#[derive(Drop)]
+#[derive(Clone, Copy)]
 pub enum Answer {
     Refused(u16, usize),
     Finished(u16),

@@ -6,14 +6,14 @@ use checks::Step;
 use table::Here;
 
 // What the turns come to: they are all played, with the moves; or one stops, with its number, thread, block, line and the moves before it.
-#[derive(Drop)]
+#[derive(Clone, Copy)]
 pub enum Played {
     Through(u16),
     Stopped(u16, u16, u16, u16, u16),
 }
 
 // What a stretch of turns comes to: the end of the run, or a turn whose line is a copy, with its place in the list and the moves before it.
-#[derive(Drop)]
+#[derive(Clone, Copy)]
 pub enum Stretch {
     Ended(Played),
     AtCopy(usize, u16, Here),

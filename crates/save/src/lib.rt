@@ -1,4 +1,6 @@
 // An input written back: its script from the program table, and its line of turns after it.
+#![tactic(auto)]
+
 ghost use Rattle.std.specs.Prelude.{◌≡◌, ◌+◌, ◌≤◌, length, take, drop};
 ghost use Rattle.buffer.specs.Writing.{Wrote};
 ghost use Rattle.save.specs.Saved.{saved, script_saved, saved_in, saved_after};

@@ -5,7 +5,7 @@ ghost use Rattle.sheet.specs.Examined.{ComparesRuns, Examines, StrippedAnswers};
 use run::Answer;
 
 // What is found: five counts for each thread, the turns played before a stop, the stripped run's answer, and whether the tables are the same.
-#[derive(Drop)]
+#[derive(Clone, Copy)]
 pub struct Examined {
     pub counts: [u16; 85],
     pub played: usize,

@@ -1,4 +1,6 @@
 // The check sheet: the four conditions for one script and one list of turns, each with its tick.
+#![tactic(auto)]
+
 mod cap_lines;
 mod examined;
 mod parts;
@@ -16,7 +18,7 @@ use replay::Parts;
 use sheets::{put_away, put_faulty, put_filed};
 
 // What checking answers: the output is turned away, with document 01's number; or how many bytes the sheet has, and whether all four conditions hold.
-#[derive(Drop)]
+#[derive(Clone, Copy)]
 pub enum Checked {
     Refused(u16),
     Sheet(usize, bool),

@@ -18,7 +18,7 @@ use buffer::put_text;
 use run::Answer;
 
 // Where a sheet ends, and whether all four conditions hold.
-#[derive(Drop)]
+#[derive(Clone, Copy)]
 pub struct Told {
     pub end: usize,
     pub holds: bool,

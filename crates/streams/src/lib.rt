@@ -1,5 +1,7 @@
 // All of an input, read into a lent buffer, and all of a text, written. A call that fails is told, and errno says why; one that a signal
 // interrupted is made again. (The toolchain's io takes a failed read for the end of the input.)
+#![tactic(auto)]
+
 ghost use Rattle.std.specs.Prelude.{◌-◌, ◌≤◌, length};
 ghost use Rattle.streams.specs.Counted.{AtMost, Within};
 
@@ -7,7 +9,7 @@ ghost use Rattle.streams.specs.Counted.{AtMost, Within};
 const PATIENCE: usize = 1000000;
 
 // What one call came to.
-#[derive(Drop)]
+#[derive(Clone, Copy)]
 pub enum Step {
     Moved(usize), // some bytes
     Nothing,
@@ -16,7 +18,7 @@ pub enum Step {
 }
 
 // What a reading came to: how many bytes stand at the front of the buffer, all of the input or as many as the buffer holds; or it failed.
-#[derive(Drop)]
+#[derive(Clone, Copy)]
 pub enum Reading {
     Got(usize),
     Failed,

@@ -1,4 +1,6 @@
 // The stripped script: its run, and its text.
+#![tactic(auto)]
+
 ghost use Rattle.std.specs.Prelude.{false, ◌≤◌, length, take, drop};
 ghost use Rattle.rules.specs.Mosts.{mosts};
 ghost use Rattle.rules.specs.Calls.{inputs};

@@ -1,4 +1,6 @@
 // The two tables: the only code that knows where a word stands. Everything above it speaks of the abstract program and state.
+#![tactic(auto)]
+
 mod program;
 mod state;
 mod stripped;

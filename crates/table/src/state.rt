@@ -10,7 +10,7 @@ ghost use Rattle.table.specs.StateTable.{value_of, InTable, Starts, Sees, Become
 use rules::{Cap, Value};
 
 // Where a thread stands: its number, its innermost frame's number from the outermost, and the places of that frame's words and of its line's.
-#[derive(Drop)]
+#[derive(Clone, Copy)]
 pub struct Here {
     pub thread: usize,
     pub depth: usize,

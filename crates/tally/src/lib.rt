@@ -1,4 +1,6 @@
 // What came of each turn of a list, counted for each thread.
+#![tactic(auto)]
+
 ghost use Rattle.std.specs.Prelude.{◌≡◌, ◌+◌, ◌≤◌, length, drop};
 ghost use Rattle.tally.specs.Fates.{fate_number, row_of, count_at, raise, none_counted};
 ghost use Rattle.tally.specs.Counted.{TakesOne, stops, Low, CountsPlayed, Tallies, unplayed_from};
@@ -6,7 +8,7 @@ ghost use Rattle.tally.specs.Counted.{TakesOne, stops, Low, CountsPlayed, Tallie
 use checks::Step;
 
 // What comes of a turn: it moves, waits, idles (a finished or unstarted thread's), stops the run, or stands after the stop.
-#[derive(Drop)]
+#[derive(Clone, Copy)]
 pub enum Fate {
     Moved,
     Waited,
@@ -17,7 +19,7 @@ pub enum Fate {
 
 // Five counts for each thread, in the order of the fates, and five for the numbers that no thread can have; and how many turns were played
 // before one stopped the run.
-#[derive(Drop)]
+#[derive(Clone, Copy)]
 pub struct Tallied {
     pub counts: [u16; 85],
     pub played: usize,

@@ -1,1 +1,2 @@
 // No code: what is proved here of the definitions of rules, no function relies on.
+#![tactic(auto)]

@@ -1,4 +1,6 @@
 // One turn of one thread on the tables.
+#![tactic(auto)]
+
 mod copies;
 mod form_moves;
 mod turns;

@@ -1,4 +1,6 @@
 // The walk through fields: depth first, fields in order, each object once. The objects met are numbered as they are first met.
+#![tactic(auto)]
+
 ghost use Rattle.std.specs.Prelude.{[], ◌∷◌, ◌+◌, ◌≤◌, length};
 ghost use Rattle.table.specs.StateTable.{InTable};
 ghost use Rattle.walk.specs.Walking.{tally, unmet, Grows, Walks, Of};

@@ -1,4 +1,6 @@
 // A script written back out from its program table.
+#![tactic(auto)]
+
 mod script_lines;
 
 ghost use Rattle.rules.specs.Mosts.{mosts};
@@ -8,7 +10,7 @@ ghost use Rattle.writer.specs.WriteAnswers.{answer_of};
 use script_lines::put_script;
 
 // What writing answers: the table or the buffer is turned away, with the document's number; or how many bytes are written.
-#[derive(Drop)]
+#[derive(Clone, Copy)]
 pub enum Answer {
     Refused(u16),
     Written(usize),

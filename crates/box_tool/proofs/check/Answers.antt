@@ -1,0 +1,11 @@
+-- Nothing undefined: what was read stands in the input.
+use Rattle.streams.proofs.StepLaws.{got_counted}
+use Rattle.box_tool.proofs.check.Goals as goal
+
+pub slice_bounds-input-end : goal.slice_bounds-input-end
+slice_bounds-input-end c =
+    (got_counted c.read_input-reading.new.buf c.in-Got.is c.read_input-reading.ensures).0
+
+pub slice_bounds-finish_check-end : goal.slice_bounds-finish_check-end
+slice_bounds-finish_check-end c =
+    (got_counted c.read_input-reading.new.buf c.in-Got.is c.read_input-reading.ensures).1

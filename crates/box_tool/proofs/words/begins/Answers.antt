@@ -1,0 +1,44 @@
+-- The bytes from here on are compared as all of them are; the word is left where it ends, the text ends or a byte differs.
+use Prim.Native.Nat.{◌-◌, ◌≤◌}
+use native.Mathlib.Omega.{arith}
+use mathlib.Core.Path.{◌≡◌, refl, sym, ◌∙◌}
+use lib.ListN.{length, drop}
+use Rattle.grammar.specs.Words as Words
+use Rattle.box_tool.proofs.Begins.{whole_word, text_ends, byte_differs, byte_agrees}
+use Rattle.std.proofs.Common.{rules}
+use Rattle.box_tool.proofs.words.begins.Goals as goal
+
+pub loop-i-init : goal.loop-i-init
+loop-i-init c = (search rules, refl)
+
+pub returns-then-text-i : goal.returns-then-text-i
+returns-then-text-i c =
+    let loop = c.loop-i in
+    let start = c.args in
+    let word = start.word.now in
+    let text = start.text.now in
+    sym (loop.invariant.1 ∙ text_ends word text loop.i c.loop-i-test.true c.if-text-i.true)
+
+pub returns-then-text-i-2 : goal.returns-then-text-i-2
+returns-then-text-i-2 c =
+    let loop = c.loop-i in
+    let start = c.args in
+    let word = start.word.now in
+    let text = start.text.now in
+    sym (loop.invariant.1 ∙ byte_differs word text loop.i c.loop-i-test.true c.if-text-i.false c.if-text-i-2.true)
+
+pub loop-i-preserved : goal.loop-i-preserved
+loop-i-preserved c =
+    let loop = c.loop-i in
+    let start = c.args in
+    let word = start.word.now in
+    let text = start.text.now in
+    (omega arith, loop.invariant.1 ∙ byte_agrees word text loop.i c.loop-i-test.true c.if-text-i.false c.if-text-i-2.false)
+
+pub returns : goal.returns
+returns c =
+    let loop = c.loop-i in
+    let start = c.args in
+    let word = start.word.now in
+    let text = start.text.now in
+    sym (loop.invariant.1 ∙ whole_word word text loop.i c.loop-i-test.false)

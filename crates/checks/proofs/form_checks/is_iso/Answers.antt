@@ -1,0 +1,19 @@
+-- `checks::form_checks::is_iso` meets its contract: each arm is the definition's own.
+use Rattle.rules.specs.Turn.{is_iso}
+use Rattle.checks.proofs.form_checks.is_iso.Goals as goal
+
+pub returns-in-Imm : goal.returns-in-Imm
+unfolding is_iso
+returns-in-Imm c = rw c.in-Imm.is
+
+pub returns-in-Iso : goal.returns-in-Iso
+unfolding is_iso
+returns-in-Iso c = rw c.in-Iso.is
+
+pub returns-in-Local : goal.returns-in-Local
+unfolding is_iso
+returns-in-Local c = rw c.in-Local.is
+
+pub returns-in-Unsafe : goal.returns-in-Unsafe
+unfolding is_iso
+returns-in-Unsafe c = rw c.in-Unsafe.is

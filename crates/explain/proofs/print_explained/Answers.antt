@@ -1,0 +1,20 @@
+-- `explain::print_explained` meets its contract: a short output stays; past the last page there is none.
+use Rattle.listing.proofs.PrintOutcomes.{in_output, short_output}
+use Rattle.explain.specs.Pages.{page}
+use Rattle.explain.proofs.PageLines.{past_pages, nothing_printed}
+use Rattle.explain.proofs.print_explained.Goals as goal
+
+pub returns-then-output-lt32768 : goal.returns-then-output-lt32768
+returns-then-output-lt32768 c = let a = c.args in short_output (page a.number) a.output.now c.if-output-lt32768.true
+
+pub returns-then-number-gt21 : goal.returns-then-number-gt21
+returns-then-number-gt21 c =
+    let a = c.args in
+    let x = nothing_printed (page a.number) a.output.now (past_pages a.number c.if-number-gt21.true) c.if-output-lt32768.false in
+    (x.answers, x.leaves)
+
+pub returns : goal.returns
+returns c =
+    let a = c.args in
+    let x = in_output (page a.number) c.if-output-lt32768.false c.put_page.ensures in
+    (x.answers, x.leaves)

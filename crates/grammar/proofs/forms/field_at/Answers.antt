@@ -1,0 +1,29 @@
+-- Each part is read where the one before it ends.
+use native.Mathlib.Omega.{arith}
+use mathlib.Core.Path.{refl, ◌∙◌}
+use Rattle.rules.specs.Lists.{all}
+use Rattle.rules.specs.Text.{bytes}
+use Rattle.grammar.specs.Words.{plain}
+use Rattle.grammar.proofs.Told.{fits_as, two_words, word, last, a_number}
+use Rattle.grammar.proofs.Telling.{short_row, field_tells}
+use Rattle.grammar.proofs.forms.field_at.Goals as goal
+
+pub overflow_add-field : goal.overflow_add-field
+overflow_add-field c = omega (arith, §c.before.before.before.before.before.before.before.before)
+
+pub overflow_add-l : goal.overflow_add-l
+overflow_add-l c = omega (arith, §c.before.before.before.before.before.before.before.before.before.before.before.before.before.before.before.before.before)
+
+pub returns : goal.returns
+returns c =
+    let short = c.short_line-l in
+    record {
+      parts = (c.number_at-target.result.word, (c.number_at-field.result.word, tt));
+      fits = fits_as c.args.at
+          (two_words (bytes "(let (") (bytes "c§ ") c.begins_at-opened.ensures c.begins_at-named.ensures
+          (a_number c.number_at-target.result c.number_at-target.ensures.s_value (word (bytes " ") c.begins_at-parted.ensures
+          (a_number c.number_at-field.result c.number_at-field.ensures.s_value (last (bytes "))\n") c.begins_at-closed.ensures)))))
+          (short.ensures.0.0 ∙ rw (c.both-ok.ensures, c.both-4.ensures, c.both-3.ensures, c.both-2.ensures, c.both.ensures)) short.ensures.1.3;
+      tells = field_tells c.number_at-target.result.word c.number_at-field.result.word (short_row short.result short.ensures.0)
+          (rw (c.either.ensures, c.over-2.ensures, c.over.ensures)) refl short.ensures.1.2;
+    }

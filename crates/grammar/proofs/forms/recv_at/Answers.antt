@@ -1,0 +1,20 @@
+-- Each part is read where the one before it ends.
+use mathlib.Core.Path.{refl, ◌∙◌}
+use Rattle.rules.specs.Lists.{all}
+use Rattle.rules.specs.Text.{bytes}
+use Rattle.grammar.specs.Words.{plain}
+use Rattle.grammar.proofs.Told.{fits_as, two_words, last, a_number}
+use Rattle.grammar.proofs.Telling.{short_row, recv_tells}
+use Rattle.grammar.proofs.forms.recv_at.Goals as goal
+
+pub returns : goal.returns
+returns c =
+    let short = c.short_line-l in
+    record {
+      parts = (c.number_at-target.result.word, tt);
+      fits = fits_as c.args.at
+          (two_words (bytes "(let (") (bytes "recv ") c.begins_at-opened.ensures c.begins_at-named.ensures
+          (a_number c.number_at-target.result c.number_at-target.ensures.s_value (last (bytes "))\n") c.begins_at-closed.ensures)))
+          (short.ensures.0.0 ∙ rw (c.both-ok.ensures, c.both-2.ensures, c.both.ensures)) short.ensures.1.3;
+      tells = recv_tells c.number_at-target.result.word (short_row short.result short.ensures.0) c.over.ensures refl short.ensures.1.2;
+    }

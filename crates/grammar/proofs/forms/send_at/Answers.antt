@@ -1,0 +1,30 @@
+-- Each part is read where the one before it ends.
+use native.Mathlib.Omega.{arith}
+use mathlib.Core.Path.{refl, ◌∙◌}
+use Rattle.rules.specs.Lists.{all}
+use Rattle.rules.specs.Text.{bytes}
+use Rattle.rules.specs.Tables.{operand_of}
+use Rattle.grammar.specs.Words.{plain}
+use Rattle.grammar.proofs.Told.{fits_as, two_words, word, last, a_number, an_operand}
+use Rattle.grammar.proofs.Telling.{short_row, send_tells}
+use Rattle.grammar.proofs.forms.send_at.Goals as goal
+
+pub overflow_add-w : goal.overflow_add-w
+overflow_add-w c = omega (arith, §c.before.before.before.before.before.before.before.before.before)
+
+pub overflow_add-target-2 : goal.overflow_add-target-2
+overflow_add-target-2 c = omega (arith, §c.before.before.before.before.before.before.before.before.before.before.before.before.before.before.before.before.before.before)
+
+pub returns : goal.returns
+returns c =
+    let short = c.short_line-l in
+    let x = §operand.Operand-at.result.word in
+    record {
+      parts = (c.number_at-target.result.word, (operand_of x, tt));
+      fits = fits_as c.args.at
+          (two_words (bytes "(let (") (bytes "send ") c.begins_at-opened.ensures c.begins_at-named.ensures
+          (a_number c.number_at-target.result c.number_at-target.ensures.s_value (word (bytes " ") c.begins_at-parted.ensures
+          (an_operand §operand.Operand-at.result §operand.Operand-at.ensures.0 (last (bytes "))\n") c.begins_at-closed.ensures)))))
+          (short.ensures.0.0 ∙ rw (c.both-ok.ensures, c.both-4.ensures, c.both-3.ensures, c.both-2.ensures, c.both.ensures)) short.ensures.1.3;
+      tells = send_tells x refl c.number_at-target.result.word (short_row short.result short.ensures.0) (rw (c.either.ensures, c.over-2.ensures, c.over.ensures)) c.most.ensures;
+    }

@@ -1,0 +1,20 @@
+-- Each part is read where the one before it ends.
+use mathlib.Core.Path.{◌∙◌}
+use Rattle.rules.specs.Lists.{all}
+use Rattle.rules.specs.Text.{bytes}
+use Rattle.grammar.specs.Words.{plain}
+use Rattle.grammar.proofs.Told.{fits_as, two_words, last, a_number}
+use Rattle.grammar.proofs.Telling.{short_row, spawn_tells}
+use Rattle.grammar.proofs.forms.spawn_at.Goals as goal
+
+pub returns : goal.returns
+returns c =
+    let short = c.short_line-l in
+    record {
+      parts = (c.number_at-block.result.word, tt);
+      fits = fits_as c.args.at
+          (two_words (bytes "(let (") (bytes "spawn ") c.begins_at-opened.ensures c.begins_at-named.ensures
+          (a_number c.number_at-block.result c.number_at-block.ensures.s_value (last (bytes "))\n") c.begins_at-closed.ensures)))
+          (short.ensures.0.0 ∙ rw (c.both-ok.ensures, c.both-2.ensures, c.both.ensures)) short.ensures.1.3;
+      tells = spawn_tells c.number_at-block.result.word (short_row short.result short.ensures.0) c.over.ensures short.ensures.1.1 short.ensures.1.2;
+    }

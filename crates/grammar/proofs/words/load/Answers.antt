@@ -1,0 +1,16 @@
+-- Each read is one byte of the text: so the sum is the number that the eight bytes make, low byte first.
+use lib.ListN.{drop}
+use Rattle.rules.proofs.ListLaws.{every_take, every_drop}
+use Rattle.grammar.specs.Words.{Byte}
+use Rattle.grammar.proofs.WordLaws.{word_eight, every_byte}
+use Rattle.grammar.proofs.words.load.Goals as goal
+
+pub returns : goal.returns
+returns c =
+    let s = c.args.s.now in
+    let at = c.args.at in (
+      word_eight s at c.requires
+          c.wide.ensures.0 c.wide-2.ensures.0 c.wide-3.ensures.0 c.wide-4.ensures.0
+          c.wide-5.ensures.0 c.wide-6.ensures.0 c.wide-7.ensures.0 c.wide-8.ensures.0,
+      every_take Byte 8 (drop at s) (every_drop Byte at s (every_byte s (λ i. (c.shared_slice_known-9-1.given i).fits))),
+    )

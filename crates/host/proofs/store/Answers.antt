@@ -1,0 +1,43 @@
+-- `host::store` meets its contract: after i words the first 2 i bytes are theirs, and the others are as they were.
+use Prim.Native.Nat.{◌≤◌, ◌<◌, ◌+◌, ◌-◌, ◌*◌}
+use native.Mathlib.Nat.{le_refl}
+use native.Mathlib.Omega.{arith}
+use mathlib.Core.Path.{◌≡◌, refl}
+use lib.ListN.{length, take, length-set}
+use lib.Seq.{take_all}
+use Rattle.host.specs.Bytes.{bytes_of, bytes_after}
+use Rattle.host.proofs.Stored.{store_next}
+use Rattle.std.proofs.Common.{rules}
+use Rattle.host.proofs.store.Goals as goal
+
+pub loop-i-init : goal.loop-i-init
+unfolding bytes_of
+loop-i-init c = (search rules, refl, refl)
+
+pub overflow_cast-t : goal.overflow_cast-t
+overflow_cast-t c = omega (arith, c.shared_slice_known-1.given c.loop-i.i)
+
+pub overflow_cast-t-in-loop-i : goal.overflow_cast-t-in-loop-i
+overflow_cast-t-in-loop-i c = omega (arith, c.shared_slice_known-1.given c.loop-i.i)
+
+pub bounds-t-i-in-loop-i : goal.bounds-t-i-in-loop-i
+bounds-t-i-in-loop-i c =
+    let k = c.loop-i in
+    let h : 2 * k.i + 1 < length k.t = omega arith in
+    simp length-set h
+
+pub loop-i-preserved : goal.loop-i-preserved
+loop-i-preserved c =
+    let k = c.loop-i in
+    (search rules, simp length-set k.invariant.1, store_next c.args.words.now c.args.t.now k.t k.i c.loop-i-test.true c.requires k.invariant.2)
+
+pub shape_of-t : goal.shape_of-t
+shape_of-t c = c.loop-i.invariant.1
+
+pub returns : goal.returns
+returns c =
+    let k = c.loop-i in
+    let w = c.args.words.now in
+    let all : k.i ≡ length w = omega arith in
+    let h : k.t ≡ bytes_after (length w) (take (length w) w) c.args.t.now = rw all at k.invariant.2 in
+    rw (take_all (length w) w (le_refl (length w))) at h

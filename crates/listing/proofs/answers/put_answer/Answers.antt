@@ -1,0 +1,27 @@
+-- `listing::answers::put_answer` meets its contract: each answer has its own line.
+use native.Mathlib.Omega.{arith}
+use mathlib.Core.Path.{refl}
+use Rattle.buffer.proofs.Appends.{same_text}
+use Rattle.listing.proofs.LineTexts.{finished_end, stuck_end, open_end}
+use Rattle.listing.proofs.answers.put_answer.Goals as goal
+
+pub returns-in-Refused : goal.returns-in-Refused
+returns-in-Refused c = rw c.in-Refused.is (same_text 40 refl (omega arith) §c.before.before.Put-refused.ensures)
+
+pub returns-in-Finished : goal.returns-in-Finished
+returns-in-Finished c =
+    rw c.in-Finished.is
+    (same_text 40 (finished_end c.in-Finished.moves) (omega arith) c.put_ended.ensures)
+
+pub returns-in-Stuck : goal.returns-in-Stuck
+returns-in-Stuck c =
+    rw c.in-Stuck.is
+    (same_text 40 (stuck_end c.in-Stuck.moves) (omega arith) c.put_ended-in-Stuck.ensures)
+
+pub returns-in-Open : goal.returns-in-Open
+returns-in-Open c =
+    rw c.in-Open.is
+    (same_text 40 (open_end c.in-Open.moves) (omega arith) c.put_ended-in-Open.ensures)
+
+pub returns-in-Stopped : goal.returns-in-Stopped
+returns-in-Stopped c = rw c.in-Stopped.is c.put_stopped.ensures

@@ -1,0 +1,30 @@
+-- `listing::print_on` meets its contract: a short output stays; otherwise the answer is printed, and the state of a run that was made.
+use native.Mathlib.Omega.{arith}
+use mathlib.Core.Path.{sym, ap, ◌∙◌}
+use lib.ListN.{length}
+use Rattle.table.proofs.ProgramTable.{fresh_length}
+use Rattle.listing.specs.Outputs.{run_text}
+use Rattle.listing.proofs.PrintOutcomes.{short_output, prints_refusal, prints_run}
+use Rattle.std.proofs.Common.{rules}
+use Rattle.listing.proofs.print_on.Goals as goal
+
+pub returns-then-output-lt32768 : goal.returns-then-output-lt32768
+returns-then-output-lt32768 c =
+    let a = c.args in
+    short_output (run_text a.text.now a.turns.now) a.output.now c.if-output-lt32768.true
+
+pub returns-then-is_refusal : goal.returns-then-is_refusal
+returns-then-is_refusal c =
+    let a = c.args in
+    let x = prints_refusal a.text.now a.turns.now c.requires.0 c.requires.1 c.make-answer.ensures c.if-output-lt32768.false c.put_answer-at.ensures (sym c.is_refusal.ensures ∙ c.if-is_refusal.true) in
+    (x.answers, x.leaves)
+
+pub put_state-requires : goal.put_state-requires
+put_state-requires c =
+    (search rules, omega (arith, ap length c.requires.1, fresh_length))
+
+pub returns : goal.returns
+returns c =
+    let a = c.args in
+    let x = prints_run a.text.now a.turns.now c.requires.0 c.requires.1 §at-make.make.ensures §at-if1.if1.false §at-put-answer.put-answer.ensures (sym §at-is-refusal.is-refusal.ensures ∙ c.if-output-lt32768.false) c.put_state.ensures in
+    (x.answers, x.leaves)

@@ -1,0 +1,14 @@
+-- `listing::print_refusal` meets its contract: a short output stays; otherwise its line is all that is printed.
+use Rattle.rules.specs.Run.{refused}
+use Rattle.rules.specs.Listing.{answer_line}
+use Rattle.listing.proofs.PrintOutcomes.{in_output, short_output}
+use Rattle.listing.proofs.print_refusal.Goals as goal
+
+pub returns-then-output-lt32768 : goal.returns-then-output-lt32768
+returns-then-output-lt32768 c = let a = c.args in short_output (answer_line (refused a.number a.line)) a.output.now c.if-output-lt32768.true
+
+pub returns : goal.returns
+returns c =
+    let a = c.args in
+    let x = in_output (answer_line (refused a.number a.line)) c.if-output-lt32768.false §c.before.before.Put-refused.ensures in
+    (x.answers, x.leaves)

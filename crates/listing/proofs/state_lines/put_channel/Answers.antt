@@ -1,0 +1,19 @@
+-- `listing::state_lines::put_channel` meets its contract: the parts of its line, one after the other.
+use native.Mathlib.Omega.{arith}
+use Rattle.rules.specs.Text.{space}
+use mathlib.Core.List.{◌∷◌}
+use Rattle.rules.specs.State.{channel_at}
+use Rattle.rules.specs.Listing.{message_text}
+use Rattle.table.proofs.Places.{message_in_table}
+use Rattle.listing.proofs.StateTexts.{fixed, of_seen, ◌▹◌, same_texts}
+use Rattle.listing.proofs.LineTexts.{channel_line_lem}
+use Rattle.listing.proofs.state_lines.put_channel.Goals as goal
+
+pub returns : goal.returns
+returns c =
+    let number = c.args.c in
+    same_texts 29 (λ P n S rest held fits any. channel_line_lem number (channel_at S number)) (omega arith)
+    (fixed c.put_text-a.ensures
+    ▹ fixed c.put_number-b.ensures
+    ▹ of_seen (λ v. space ∷ message_text v) (λ P n S fits any. message_in_table fits number) c.message.ensures.sees
+    c.put_message-d.ensures ▹ fixed c.put_text.ensures)

@@ -1,0 +1,14 @@
+-- `listing::state_lines::put_object` meets its contract: the parts of its line, one after the other.
+use native.Mathlib.Omega.{arith}
+use Rattle.rules.specs.State.{object_at}
+use Rattle.listing.proofs.StateTexts.{fixed, ◌▹◌, same_texts}
+use Rattle.listing.proofs.LineTexts.{object_line_lem}
+use Rattle.listing.proofs.state_lines.put_object.Goals as goal
+
+pub returns : goal.returns
+returns c =
+    let number = c.args.o in
+    same_texts 86 (λ P n S rest held fits made. object_line_lem number (object_at S.objects number)) (omega arith)
+    (fixed c.put_text-a.ensures
+    ▹ fixed c.put_number-b.ensures
+    ▹ c.put_traits-c.ensures ▹ fixed c.put_text.ensures)

@@ -1,0 +1,11 @@
+-- `races::marks::first_of` meets its contract: the test is its condition.
+use borrow.Author.Tests.{eq-eqb, ne_eqb}
+use mathlib.Core.Path.{refl}
+use Rattle.races.proofs.marks.first_of.Goals as goal
+
+pub returns-then-was-eq0 : goal.returns-then-was-eq0
+returns-then-was-eq0 c = rw (eq-eqb _ _ c.if-was-eq0.true) refl
+
+pub returns-else-was-eq0 : goal.returns-else-was-eq0
+returns-else-was-eq0 c =
+    let a = c.args in rw (ne_eqb a.was 0 c.if-was-eq0.false) refl

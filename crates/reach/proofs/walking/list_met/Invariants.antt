@@ -1,0 +1,12 @@
+-- `reach::walking::list_met` meets its contract: before turn i the objects below i that are met stand in the list.
+use Prim.Native.Nat.{◌-◌, ◌≤◌}
+use native.Mathlib.Omega.{arith}
+use mathlib.Core.Path.{◌≡◌, refl, ◌∙◌}
+use lib.ListN.{length}
+use Rattle.reach.proofs.Listed.{Listing, none_listed, number_next, all_listed}
+use Rattle.reach.proofs.walking.list_met.Given as goal
+abbrev pub invariant-loop-i : goal.invariant-loop-i
+invariant-loop-i l = (l.i ≤ 256) × (length l.list ≡ length l.initial.list) × Listing l.places l.initial.list l.i l.n l.list
+
+abbrev pub decreases-loop-i : goal.decreases-loop-i
+decreases-loop-i l = 256 - l.i

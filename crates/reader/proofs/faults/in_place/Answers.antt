@@ -1,0 +1,64 @@
+-- The number of a form says its sort, and the opener's form is 0 outside of blocks only; of the lines only a copy is bound to an edition.
+use mathlib.Core.Path.{◌≡◌, ◌∙◌, sym, ap}
+use mathlib.Core.Bool.{not, and-true}
+use mathlib.Core.List.{[], ◌∷◌}
+use lib.Dec.{eqb}
+use lib.ListN.{get_or}
+use native.Mathlib.Omega.{arith}
+use borrow.Author.Tests.{eq-eqb, ne_eqb}
+use Rattle.rules.specs.declared.forms.Form.TheVariants.{Kind, Thread, Method, Copy}
+use Rattle.rules.specs.Script.{Form}
+use Rattle.rules.specs.Reading.{may_copy, in_edition, in_place}
+use Rattle.rules.specs.Tables.{row, cap_of}
+use Rattle.rules.proofs.FormNumbers.{number_told, all_but, not_told}
+use Rattle.rules.proofs.TableWords.{cap_of_rank}
+use Rattle.reader.specs.Sofar.{edition_of}
+use Rattle.reader.proofs.LineChecks.{number_of, told, is_kind, is_opener, is_line, is_copy, copy_part, opener_number, no_opener, in_both_editions, place_outside}
+use Rattle.reader.proofs.faults.in_place.Goals as goal
+
+pub returns-then-r-eq0 : goal.returns-then-r-eq0
+unfolding in_place
+returns-then-r-eq0 c =
+    let r = c.args.r in
+    record {
+      is = λ F e p.
+          let (k, s, q) = is_copy F e (number_told c.form_of-named.ensures c.in-Copy.keys3 (omega arith)) in
+          rw (q, place_outside r.opener r.filled, eq-eqb r.opener 0 c.if-r-eq0.true);
+    }
+
+pub returns-in-Kind : goal.returns-in-Kind
+unfolding in_place
+returns-in-Kind c = record { is = λ F e p. let (K, k) = is_kind F (told F e) (number_told c.form_of-named.ensures c.in-Kind.keys1 (omega arith)) in rw k }
+
+pub returns-in-Thread : goal.returns-in-Thread
+unfolding in_place
+returns-in-Thread c =
+    let r = c.args.r in
+    let between = opener_number c.form_of-named.ensures c.in-Thread.keys2 in
+    record { is = λ F e p. let (o, k, n) = is_opener F (told F e) between.0 between.1 in rw (k, place_outside r.opener r.filled) }
+
+pub returns-else-r-eq0 : goal.returns-else-r-eq0
+unfolding in_place in_edition
+returns-else-r-eq0 c =
+    let a = c.args in
+    let d = edition_of a.r.second in
+    record {
+      is = λ F e p.
+          let (k, s, q) = is_copy F e (number_told c.form_of-named.ensures c.in-Copy.keys3 (omega arith)) in
+          let cap : cap_of a.part ≡ k = ap cap_of (p ∙ ap (λ (X : Form). get_or (row X) 1 0) q ∙ copy_part k s) ∙ cap_of_rank k in
+          rw (q, place_outside a.r.opener a.r.filled, ne_eqb a.r.opener 0 c.if-r-eq0.false) (c.may_copy.ensures ∙ ap (may_copy d) cap);
+    }
+
+pub returns-in-NoForm : goal.returns-in-NoForm
+unfolding in_place
+returns-in-NoForm c =
+    let r = c.args.r in
+    let told-by = c.form_of-named.ensures in
+    let others = c.in-NoForm.keys4 in
+    let ks = all_but (Kind ∷ Thread ∷ Method ∷ Copy ∷ []) in
+    record {
+      is = λ F e p.
+          let (x, k) = is_line F (told F e) (not_told ks told-by others tt) (no_opener told-by ks others tt tt) in
+          let both = in_both_editions (edition_of r.second) x (e ∙ ap number_of k) (not_told ks told-by others tt) in
+          rw (k, place_outside r.opener r.filled, both) (sym (and-true (not (eqb r.opener 0))));
+    }

@@ -1,0 +1,28 @@
+-- No LF stands between the place and i: from both, the first LF is the same.
+use Prim.Native.Nat.{◌+◌, ◌-◌, ◌≤◌}
+use mathlib.Core.Path.{◌≡◌, refl, sym, ◌∙◌}
+use native.Mathlib.Nat.{add-zero}
+use native.Mathlib.Omega.{arith}
+use lib.ListN.{length, drop}
+use Rattle.rules.specs.Text.{without_lf}
+use Rattle.reader.proofs.Lines.{lf_here, lf_further, lf_nowhere}
+use Rattle.std.proofs.Common.{rules}
+use Rattle.reader.proofs.finder.find_lf.Goals as goal
+
+pub loop-i-init : goal.loop-i-init
+loop-i-init c = (search rules, search rules, refl)
+
+pub returns-then-s-i-eq10 : goal.returns-then-s-i-eq10
+returns-then-s-i-eq10 c =
+    let s = c.args.s.now in
+    (sym (c.loop-i.invariant.2 ∙ rw (lf_here s c.loop-i.i c.loop-i-test.true c.if-s-i-eq10.true, add-zero)), omega arith)
+
+pub loop-i-preserved : goal.loop-i-preserved
+loop-i-preserved c =
+    let s = c.args.s.now in
+    (omega arith, omega arith, c.loop-i.invariant.2 ∙ lf_further s c.loop-i.i c.loop-i-test.true c.if-s-i-eq10.false)
+
+pub returns : goal.returns
+returns c =
+    let s = c.args.s.now in
+    (sym (c.loop-i.invariant.2 ∙ rw (lf_nowhere s c.loop-i.i c.loop-i-test.false, add-zero)), c.loop-i.invariant.1)

@@ -1,0 +1,38 @@
+-- Line n of the text is line n - i of what stands from at on, and starts at the same place.
+use Prim.Native.Nat.{ℕ, ◌+◌, ◌-◌, ◌≤◌}
+use mathlib.Core.List.{[]}
+use mathlib.Core.Path.{◌≡◌, ap, sym, ◌∙◌}
+use native.Mathlib.Nat.{sub-zero, zero-add}
+use native.Mathlib.Omega.{arith}
+use lib.ListN.{length, drop, get_or}
+use Rattle.rules.specs.Text.{lines, start_of}
+use Rattle.reader.proofs.Lines.{past_lf, past_last, start_of_first}
+use Rattle.std.proofs.Common.{rules}
+use Rattle.reader.proofs.finder.line_start.Goals as goal
+
+pub loop-i-init : goal.loop-i-init
+loop-i-init c = (search rules, search rules, rw sub-zero, rw (sub-zero, zero-add))
+
+pub returns-then-s-e : goal.returns-then-s-e
+returns-then-s-e c =
+    let f = c.find_lf-e in
+    let l = c.loop-i in
+    let a = c.args in
+    let r = past_last a.s.now l.at f.result a.n l.i f.ensures.0 l.invariant.0 c.if-s-e.true c.loop-i-test.true in
+    (l.invariant.2 ∙ r.0, omega arith, sym r.1 ∙ l.invariant.3)
+
+pub loop-i-preserved : goal.loop-i-preserved
+loop-i-preserved c =
+    let f = c.find_lf-e in
+    let l = c.loop-i in
+    let a = c.args in
+    let r = past_lf a.s.now l.at f.result a.n l.i f.ensures.0 c.if-s-e.false c.loop-i-test.true in
+    (omega arith, omega arith, l.invariant.2 ∙ r.0, sym r.1 ∙ l.invariant.3)
+
+pub returns : goal.returns
+returns c =
+    let l = c.loop-i in
+    let a = c.args in
+    let here = lines (drop l.at a.s.now) in
+    let none : a.n - l.i ≡ 0 = omega arith in
+    (l.invariant.2 ∙ ap (λ (k : ℕ). get_or here k []) none, l.invariant.0, omega (arith, ap (λ (k : ℕ). start_of k here) none, start_of_first here))

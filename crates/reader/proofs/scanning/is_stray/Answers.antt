@@ -1,0 +1,30 @@
+-- No stray byte stands before i.
+use borrow.Author.Tests.{not-true, not-false}
+use Prim.Native.Nat.{◌-◌, ◌≤◌}
+use mathlib.Core.Path.{◌≡◌, refl, sym, ◌∙◌}
+use native.Mathlib.Omega.{arith}
+use lib.ListN.{length, drop}
+use Rattle.rules.specs.Text.{stray}
+use Rattle.reader.proofs.Lines.{stray_here, stray_further, stray_nowhere}
+use Rattle.std.proofs.Common.{rules}
+use Rattle.reader.proofs.scanning.is_stray.Goals as goal
+
+pub loop-i-init : goal.loop-i-init
+loop-i-init c = (search rules, refl)
+
+pub returns-then-not-is_allowed : goal.returns-then-not-is_allowed
+returns-then-not-is_allowed c =
+    let r = c.is_allowed in
+    let s = c.args.s.now in
+    sym (c.loop-i.invariant.1 ∙ stray_here s c.loop-i.i c.loop-i-test.true (sym r.ensures ∙ not-true _ c.if-not-is_allowed.true-raw))
+
+pub loop-i-preserved : goal.loop-i-preserved
+loop-i-preserved c =
+    let r = c.is_allowed in
+    let s = c.args.s.now in
+    (omega arith, c.loop-i.invariant.1 ∙ stray_further s c.loop-i.i c.loop-i-test.true (sym r.ensures ∙ not-false _ c.if-not-is_allowed.false-raw))
+
+pub returns : goal.returns
+returns c =
+    let s = c.args.s.now in
+    sym (c.loop-i.invariant.1 ∙ stray_nowhere s c.loop-i.i c.loop-i-test.false)

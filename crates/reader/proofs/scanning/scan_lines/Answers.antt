@@ -1,0 +1,85 @@
+-- The loop keeps what was read in the table and the lines from here on still to scan; each turn takes one line.
+use native.Mathlib.Omega.{arith}
+use Prim.Native.Nat.{◌-◌}
+use lib.ListN.{length}
+use borrow.Author.Tests.{not-true, not-false}
+use Rattle.reader.specs.Sofar.{edition_of}
+use Rattle.reader.proofs.Scan.{Scanning, at_start, at_end, unfit_line, refused_line, Passes, passes, few_lines, small, room, further, next_line}
+use Rattle.reader.proofs.scanning.scan_lines.Goals as goal
+
+-- past its checks
+line_passes : (c : tie.Else2 invariant_loop decreases_loop)
+    → (let x = c.before.before.before.before.before.before.loop in
+    let a = c.before.before.before.before.before.before.before.before.before.args in
+    let l = c.before.before.before.before.line_at in
+    Passes a.m a.text.now x.r x.at l.result x.invariant.forms l.ensures.form)
+line_passes c =
+    let s = c.before.before.before.before.before.before.loop.invariant in
+    passes s c.before.before.before.before.line_at.ensures (not-false _ c.before.before.if1.false) c.before.fault.ensures c.if2.false
+
+pub loop-at-init : goal.loop-at-init
+loop-at-init c =
+    let a = c.args in
+    let h = c.requires in
+    at_start a.second a.text.now a.words.now (record { kinds = h.0; blocks = h.1; lets = h.2 })
+
+pub line_at-l-requires : goal.line_at-l-requires
+line_at-l-requires c = (omega arith, omega arith)
+
+pub unfit_fault-requires : goal.unfit_fault-requires
+unfit_fault-requires c = omega arith
+
+pub shape_of-words-then-not-l : goal.shape_of-words-then-not-l
+shape_of-words-then-not-l c = c.loop-at.invariant.same_length
+
+pub returns-then-not-l : goal.returns-then-not-l
+returns-then-not-l c =
+    let s = c.loop-at.invariant in
+    (unfit_line s c.line_at-l.ensures c.loop-at-test.true (not-true _ c.if-not-l.true) c.unfit_fault.ensures, few_lines s)
+
+pub fault-k-requires : goal.fault-k-requires
+fault-k-requires c = tt
+
+pub shape_of-words-then-k-ne0 : goal.shape_of-words-then-k-ne0
+shape_of-words-then-k-ne0 c = c.loop-at.invariant.same_length
+
+pub returns-then-k-ne0 : goal.returns-then-k-ne0
+returns-then-k-ne0 c =
+    let s = c.loop-at.invariant in
+    (refused_line s c.line_at-l.ensures (not-false _ c.if-not-l.false) c.fault-k.ensures c.if-k-ne0.true, few_lines s)
+
+pub put_line-requires : goal.put_line-requires
+put_line-requires c =
+    let s = c.loop-at.invariant in
+    (omega (arith, s.same_length), room s (line_passes §c.before))
+
+pub after_line-next-requires : goal.after_line-next-requires
+after_line-next-requires c = small c.loop-at.invariant
+
+pub overflow_add-n : goal.overflow_add-n
+overflow_add-n c =
+    let s = c.loop-at.invariant in
+    let h = room s (line_passes §c.before.before.before.before.before) in
+    omega arith
+
+pub loop-at-smaller : goal.loop-at-smaller
+loop-at-smaller c =
+    let s = c.loop-at.invariant in
+    further s (line_passes §c.before.before.before.before.before) c.loop-at-test.true
+
+pub loop-at-preserved : goal.loop-at-preserved
+loop-at-preserved c =
+    let s = c.loop-at.invariant in
+    let put = c.put_line in
+    next_line s (line_passes §c.before.before.before.before.before) put.ensures §c.after_Line.ensures put.auto.0
+
+pub finish-requires : goal.finish-requires
+finish-requires c = tt
+
+pub shape_of-words : goal.shape_of-words
+shape_of-words c = c.loop-at.invariant.same_length
+
+pub returns : goal.returns
+returns c =
+    let s = c.loop-at.invariant in
+    (at_end s c.loop-at-test.false c.finish.ensures.finishes, omega (arith, c.finish.ensures.result_value, few_lines s))

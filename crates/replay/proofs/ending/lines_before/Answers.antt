@@ -1,0 +1,28 @@
+-- What is counted so far, with the lines before the last one from here on, is all of them.
+use Prim.Native.Nat.{◌+◌, ◌-◌, ◌≤◌}
+use native.Mathlib.Nat.{zero-add}
+use native.Mathlib.Omega.{arith}
+use mathlib.Core.Path.{◌≡◌}
+use lib.ListN.{length, drop}
+use Rattle.rules.specs.Text.{lines}
+use Rattle.rules.specs.Input.{lines_before}
+use Rattle.replay.proofs.LastLine.{count_byte, count_last}
+use Rattle.std.proofs.Common.{rules}
+use Rattle.replay.proofs.ending.lines_before.Goals as goal
+
+pub loop-i-init : goal.loop-i-init
+loop-i-init c = (search rules, search rules, rw zero-add)
+
+pub loop-i-preserved : goal.loop-i-preserved
+loop-i-preserved c =
+    let loop = c.loop-i in
+    let here = c.lf_here-n.ensures in
+    let s = c.args.s.now in
+    let next = count_byte s loop.i c.loop-i-test.true in
+    (omega arith, omega arith, omega (arith, loop.invariant.2, next, here.0))
+
+pub returns : goal.returns
+returns c =
+    let loop = c.loop-i in
+    let s = c.args.s.now in
+    omega (arith, loop.invariant.2, count_last s loop.i (omega arith))

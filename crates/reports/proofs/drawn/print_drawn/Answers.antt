@@ -1,0 +1,32 @@
+-- `reports::drawn::print_drawn` meets its contract: what the input comes to is printed, a refusal with its line.
+use native.Mathlib.Omega.{arith}
+use Rattle.rules.specs.Mosts as Most
+use Rattle.listing.proofs.PrintOutcomes.{short_in, long_in}
+use Rattle.replay.proofs.GivenLaws.{parts_fit}
+use Rattle.reports.specs.DrawnTexts.{drawn_text}
+use Rattle.reports.proofs.DrawnOutcomes.{drawn_told}
+use Rattle.std.proofs.Common.{rules}
+use Rattle.reports.proofs.drawn.print_drawn.Goals as goal
+
+pub returns-then-output-lt65536 : goal.returns-then-output-lt65536
+returns-then-output-lt65536 c =
+    short_in Most.drawing (drawn_text c.args.input.now) c.args.output.now c.if-output-lt65536.true
+
+pub print_graph_cut-requires : goal.print_graph_cut-requires
+print_graph_cut-requires c =
+    let fit = parts_fit c.split-parts.ensures c.in-Turns.is in
+    (fit.0, fit.1, search rules)
+
+pub returns-in-Away : goal.returns-in-Away
+returns-in-Away c =
+    rw (drawn_told c.split-parts.ensures (search rules) _ c.in-Away.is)
+    (long_in Most.drawing _ c.args.output.now (omega arith) c.if-output-lt65536.false c.print_refusal.ensures)
+
+pub returns-in-Fault : goal.returns-in-Fault
+returns-in-Fault c =
+    rw (drawn_told c.split-parts.ensures (search rules) _ c.in-Fault.is)
+    (long_in Most.drawing _ c.args.output.now (omega arith) c.if-output-lt65536.false c.print_refusal-in-Fault.ensures)
+
+pub returns-in-Turns : goal.returns-in-Turns
+returns-in-Turns c =
+    rw (drawn_told c.split-parts.ensures (search rules) _ c.in-Turns.is) c.print_graph_cut.ensures

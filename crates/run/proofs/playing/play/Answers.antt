@@ -1,0 +1,32 @@
+-- Each stretch goes on where the one before it ended; past the last copy the run is the rules'.
+use native.Mathlib.Omega.{arith}
+use Prim.Native.Nat.{ℕ}
+use mathlib.Core.Path.{◌≡◌, refl, ◌∙◌}
+use mathlib.Core.List.{List}
+use lib.ListN.{length}
+use Rattle.run.specs.Played.{PlaysFrom}
+use Rattle.run.proofs.TurnByTurn.{plays_past, plays_all, turns_left, fewer_left}
+use Rattle.run.proofs.playing.play.Goals as goal
+
+pub loop-stretch-init : goal.loop-stretch-init
+loop-stretch-init c = (λ l plays. plays, refl)
+
+pub shape_of-s-in-Ended : goal.shape_of-s-in-Ended
+shape_of-s-in-Ended c = c.loop-stretch.invariant.1 ∙ c.play_from-stretch.auto.1.0
+
+pub returns-in-Ended : goal.returns-in-Ended
+returns-in-Ended c = plays_all (c.loop-stretch.invariant.0 _ c.play_from-stretch.ensures) c.in-Ended.is
+
+pub play_past-stretch-requires : goal.play_past-stretch-requires
+play_past-stretch-requires c =
+    let inv = c.loop-stretch.invariant in
+    let first = c.play_from-stretch in
+    (c.requires.0, omega (arith, inv.1, first.auto.1.0, c.requires.1), c.requires.2, ((inv.0 _ first.ensures).next _ _ _ c.in-AtCopy.is).1)
+
+pub loop-stretch-smaller : goal.loop-stretch-smaller
+loop-stretch-smaller c = fewer_left (c.loop-stretch.invariant.0 _ c.play_from-stretch.ensures) c.in-AtCopy.is c.play_past-stretch.ensures
+
+pub loop-stretch-preserved : goal.loop-stretch-preserved
+loop-stretch-preserved c =
+    let inv = c.loop-stretch.invariant in
+    (λ l plays. plays_past (inv.0 l plays) c.in-AtCopy.is c.play_past-stretch.ensures, c.play_past-stretch.auto.1.0 ∙ inv.1)

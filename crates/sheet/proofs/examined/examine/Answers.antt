@@ -1,0 +1,16 @@
+-- The counts, the stripped run's answer and the comparison, each as it was promised.
+use mathlib.Core.Path.{refl, sym}
+use lib.Seq.{length-take-le}
+use Rattle.table.specs.ProgramTable.{fresh_table}
+use Rattle.sheet.proofs.ExaminedLaws.{examined}
+use Rattle.std.proofs.Common.{rules}
+use Rattle.sheet.proofs.examined.examine.Goals as goal
+
+pub slice_bounds-is_same-end : goal.slice_bounds-is_same-end
+slice_bounds-is_same-end c =
+    sym (length-take-le §at-tally.tally.result.played c.args.turns.now §at-tally.tally.ensures.within)
+
+pub returns : goal.returns
+unfolding fresh_table
+returns c =
+    examined c.requires.2 refl (search rules) §at-tally.tally.ensures §at-stripped-answer.stripped-answer.ensures c.is_same-same.ensures

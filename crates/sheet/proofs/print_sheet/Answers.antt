@@ -1,0 +1,30 @@
+-- What the input comes to decides which sheet is printed.
+use native.Mathlib.Omega.{arith}
+use mathlib.Core.Path.{refl}
+use Rattle.replay.proofs.GivenLaws.{given_told, parts_fit}
+use Rattle.sheet.proofs.SheetLaws.{fault_fits, output_short, sheet_told, sheet_printed}
+use Rattle.sheet.proofs.print_sheet.Goals as goal
+
+pub returns-then-output-lt32768 : goal.returns-then-output-lt32768
+returns-then-output-lt32768 c =
+    output_short c.args.input.now c.args.output.now c.if-output-lt32768.true
+
+pub print_faulty-requires : goal.print_faulty-requires
+print_faulty-requires c =
+    (fault_fits c.split-parts.ensures c.in-Fault.is, omega (arith, c.if-output-lt32768.false))
+
+pub print_filed-requires : goal.print_filed-requires
+print_filed-requires c =
+    let fit = parts_fit c.split-parts.ensures c.in-Turns.is in (fit.0, fit.1, omega (arith, fit.1, c.split-parts.auto.1.0), omega (arith, c.if-output-lt32768.false))
+
+pub returns-in-Away : goal.returns-in-Away
+returns-in-Away c =
+    sheet_told c.args.input.now c.args.output.now _ (omega (arith, §at-if1.if1.false)) (given_told §at_split.split.ensures (omega arith) _ §at-parts.parts.given.1) (sheet_printed c.put_away.ensures refl)
+
+pub returns-in-Fault : goal.returns-in-Fault
+returns-in-Fault c =
+    sheet_told c.args.input.now c.args.output.now _ (omega (arith, c.if-output-lt32768.false)) (given_told c.split-parts.ensures (omega arith) _ c.in-Fault.is) c.print_faulty.ensures
+
+pub returns-in-Turns : goal.returns-in-Turns
+returns-in-Turns c =
+    sheet_told c.args.input.now c.args.output.now _ (omega (arith, c.if-output-lt32768.false)) (given_told c.split-parts.ensures (omega arith) _ c.in-Turns.is) c.print_filed.ensures

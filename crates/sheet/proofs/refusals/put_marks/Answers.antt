@@ -1,0 +1,32 @@
+-- Before turn i the marks under the first i bytes of the line stand there.
+use Prim.Native.Nat.{ℕ, ◌+◌, ◌-◌, ◌≤◌}
+use native.Mathlib.Nat.{add-zero}
+use native.Mathlib.Omega.{arith}
+use mathlib.Core.List.{map}
+use mathlib.Core.Path.{◌≡◌, ap}
+use lib.ListN.{length, take}
+use Rattle.buffer.specs.Writing.{Wrote}
+use Rattle.buffer.proofs.Appends.{same_text, nothing}
+use Rattle.sheet.specs.SheetText.{mark_under}
+use Rattle.sheet.proofs.RefusalLaws.{one_more_as}
+use Rattle.std.proofs.Common.{rules}
+use Rattle.sheet.proofs.refusals.put_marks.Goals as goal
+
+pub loop-i-init : goal.loop-i-init
+loop-i-init c = (search rules, search rules, rw (add-zero c.args.at) (nothing 0 (search rules)))
+
+pub loop-i-preserved : goal.loop-i-preserved
+loop-i-preserved c =
+    let start = c.args in
+    let turn = c.loop-i in
+    (search rules, search rules, rw c.mark.ensures (one_more_as (mark_under start.number) start.line.now turn.i (search rules) (search rules) turn.invariant.2))
+
+pub shape_of-buf : goal.shape_of-buf
+shape_of-buf c = c.loop-i.invariant.1
+
+pub returns : goal.returns
+returns c =
+    let start = c.args in
+    let end = c.loop-i in
+    let all : end.i ≡ start.n = omega arith in
+    same_text start.n (ap (λ (k : ℕ). map (mark_under start.number) (take k start.line.now)) all) (omega arith) end.invariant.2

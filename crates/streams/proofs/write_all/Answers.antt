@@ -1,0 +1,28 @@
+-- `streams::write_all` ends: a write leaves fewer bytes of the text, or an interruption fewer tries.
+use Prim.Native.Nat.{◌+◌, ◌-◌, ◌≤◌}
+use native.Mathlib.Omega.{arith}
+use Rattle.streams.proofs.StepLaws.{some_moved}
+use lib.ListN.{length}
+use Rattle.std.proofs.Common.{rules}
+use Rattle.streams.proofs.write_all.Goals as goal
+
+pub overflow_add-written : goal.overflow_add-written
+overflow_add-written c =
+    let at = c.loop-written in
+    let put = c.write_on-step in
+    let moved = some_moved (length c.args.text.now - at.written) c.in-Moved.is put.ensures in
+    search rules
+
+pub loop-written-smaller-in-Moved : goal.loop-written-smaller-in-Moved
+loop-written-smaller-in-Moved c =
+    let at = c.loop-written in
+    let put = c.write_on-step in
+    let moved = some_moved (length c.args.text.now - at.written) c.in-Moved.is put.ensures in
+    omega arith
+
+pub loop-written-preserved-in-Moved : goal.loop-written-preserved-in-Moved
+loop-written-preserved-in-Moved c =
+    let at = c.loop-written in
+    let put = c.write_on-step in
+    let moved = some_moved (length c.args.text.now - at.written) c.in-Moved.is put.ensures in
+    omega arith

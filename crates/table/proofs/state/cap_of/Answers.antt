@@ -1,0 +1,7 @@
+-- `table::state::cap_of` meets its contract: each arm is the definition's own.
+use Rattle.table.proofs.StateReads.{other_cap}
+use Rattle.std.proofs.Common.{rules}
+use Rattle.table.proofs.state.cap_of.Goals as goal
+
+pub returns-in_default : goal.returns-in_default
+returns-in_default c = let other = c.in_default.rest in other_cap _ other.0.0.1 other.0.1 other.1

@@ -1,0 +1,31 @@
+-- `table::state::clear_frame` meets its contract: before turn i the frame's first i words are zero.
+use Rattle.std.proofs.Common.{◌≡◌, ◌+◌, ◌-◌, ◌≤◌, length, set, refl, ap, ◌∙◌, arith, length-set, rules}
+use lib.Seq.{paste, paste-zero}
+use Rattle.table.proofs.StateFrames.{zeros, zero_more, frame_left}
+use Rattle.table.proofs.state.clear_frame.Goals as goal
+
+pub loop-i-init : goal.loop-i-init
+loop-i-init c = (search rules, refl, paste-zero c.args.s.now c.args.h.frame (zeros 19))
+
+pub loop-i-preserved : goal.loop-i-preserved
+loop-i-preserved c =
+    let a = c.args in
+    let at = a.h.frame in
+    let placed = c.requires.1 in
+    let lp = c.loop-i in (
+      omega arith,
+      simp length-set lp.invariant.1,
+      ap (λ l. set l (at + lp.i) 0) lp.invariant.2 ∙ zero_more a.s.now at 19 lp.i _ refl (omega arith) (omega arith),
+    )
+
+pub bounds-s-t-2 : goal.bounds-s-t-2
+bounds-s-t-2 c = simp length-set (omega arith)
+
+pub returns : goal.returns
+returns c =
+    let a = c.args in
+    let placed = c.requires.1 in
+    let lp = c.loop-i in
+    let all : lp.i ≡ 19 = omega arith in
+    let zero : lp.s ≡ paste a.s.now a.h.frame (zeros 19) 19 = lp.invariant.2 ∙ ap (paste a.s.now a.h.frame (zeros 19)) all in
+    record { becomes = λ S rest held inner. rw zero (frame_left held a.h.thread a.h.depth placed.thread a.h.frame placed.depth inner placed.frame) }

@@ -1,0 +1,9 @@
+-- `table::state::frame_block` meets its contract: it is the first of the frame's words.
+use Rattle.std.proofs.Common.{refl, arith, rules}
+use Rattle.rules.specs.Tables.{frame_words}
+use Rattle.table.proofs.StateReads.{frame_word}
+use Rattle.table.proofs.state.frame_block.Goals as goal
+
+pub returns : goal.returns
+unfolding frame_words
+returns c = let a = c.args in (refl, record { sees = λ S rest held any. frame_word held a.t a.k 0 _ (omega arith) (omega arith) (omega arith) (omega arith) })

@@ -1,0 +1,32 @@
+-- `table::state::release_slots` meets its contract: before turn i the values of the first i slots are let go.
+use Rattle.std.proofs.Common.{◌≡◌, ◌-◌, ◌%◌, ◌≤◌, length, refl, add-one, arith, rules}
+use Rattle.table.proofs.HolderCounts.{ReleasesFirst, none_released, one_more_released, all_released}
+use Rattle.table.proofs.state.release_slots.Goals as goal
+
+pub slot_count-requires : goal.slot_count-requires
+slot_count-requires c = (c.requires.0, c.requires.1.thread, c.requires.1.depth)
+
+pub loop-i-init : goal.loop-i-init
+loop-i-init c = let a = c.args in (search rules, refl, none_released a.h.thread a.h.depth _ a.s.now)
+
+pub slot-v-requires : goal.slot-v-requires
+slot-v-requires c =
+    (omega (arith, §lp.loop.invariant.1, c.requires.0), c.requires.1, omega arith)
+
+pub release-requires : goal.release-requires
+release-requires c =
+    (omega (arith, §lp.loop.invariant.1, c.requires.0), c.slot-v.ensures.value.1)
+
+pub loop-i-preserved : goal.loop-i-preserved
+loop-i-preserved c =
+    let lp = c.loop-i in (
+      omega arith,
+      search rules,
+      rw (add-one lp.i) (one_more_released (omega arith) lp.invariant.2 c.slot-v.ensures.sees c.release.ensures.counts),
+    )
+
+pub returns : goal.returns
+returns c =
+    let lp = c.loop-i in
+    let all : lp.i ≡ c.slot_count.result % 17 = omega arith in
+    all_released (rw all at lp.invariant.2) c.slot_count.ensures.sees refl

@@ -1,0 +1,41 @@
+-- `turn::copies::copy_from` meets its contract: what is met is numbered and checked as the rule does; where it passes each is copied.
+use native.Mathlib.Omega.{arith}
+use lib.ListN.{replicate}
+use borrow.Author.Tests.{ltb-true, ltb-false}
+use Rattle.walk.proofs.Numbers.{few_unmet}
+use Rattle.walk.proofs.FromNothing.{met_few}
+use Rattle.turn.proofs.CopyLines.{from_foreign, from_used_up, from_copied}
+use Rattle.std.proofs.Common.{rules}
+use Rattle.turn.proofs.copies.copy_from.Goals as goal
+
+pub walk-count-requires : goal.walk-count-requires
+walk-count-requires c = (search rules, search rules, search rules, c.requires.2, omega (arith, few_unmet 256 (replicate 256 0)))
+
+pub any_foreign_met-foreign-requires : goal.any_foreign_met-foreign-requires
+any_foreign_met-foreign-requires c =
+    let walked = c.walk-count in
+    (search rules, omega (arith, met_few walked.ensures.1))
+
+pub overflow_add-used_up : goal.overflow_add-used_up
+overflow_add-used_up c =
+    let walked = c.walk-count in
+    omega (arith, met_few walked.ensures.1)
+
+pub returns-then-foreign : goal.returns-then-foreign
+returns-then-foreign c =
+    from_foreign c.walk-count.ensures.walks _ _ c.any_foreign_met-foreign.ensures §at_count.object-count.ensures.1 c.if-foreign.true
+
+pub returns-then-used_up : goal.returns-then-used_up
+returns-then-used_up c =
+    from_used_up c.walk-count.ensures.walks _ _ c.any_foreign_met-foreign.ensures §at_count.object-count.ensures.1 c.if-foreign.false
+    (ltb-true _ _ c.if-used_up.true-raw)
+
+pub add_copies-requires : goal.add_copies-requires
+add_copies-requires c =
+    let walked = c.walk-count in
+    (search rules, search rules, omega (arith, met_few walked.ensures.1), omega (arith, ltb-false))
+
+pub returns : goal.returns
+returns c =
+    from_copied c.walk-count.ensures.walks _ _ c.any_foreign_met-foreign.ensures §at_count.object-count.ensures.1 c.if-foreign.false
+    (ltb-false _ _ c.if-used_up.false-raw) c.add_copies.ensures
