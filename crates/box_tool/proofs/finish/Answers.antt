@@ -20,8 +20,7 @@ slice_bounds-write_out-end c = sym (length-take-le _ _ (front_fits c.print-print
 pub returns-in-Written : goal.returns-in-Written
 returns-in-Written c =
     let start = c.args in
-    let p = c.print-printed.ensures in
-    finishes start.job start.input.now p c.write_out.result (c.status_of-status.ensures ∙ ap status_of (front_is p c.in-Written.is)) c.write_out.ensures
+    finishes start.job start.input.now c.print-printed.ensures c.write_out.result (c.status_of-status.ensures ∙ ap status_of (front_is c.print-printed.ensures c.in-Written.is)) c.write_out.ensures
 
 pub returns-in-Refused : goal.returns-in-Refused
 returns-in-Refused c =

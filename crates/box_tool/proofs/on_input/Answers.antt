@@ -3,7 +3,7 @@ use Rattle.streams.proofs.StepLaws.{got_counted}
 use Rattle.box_tool.proofs.on_input.Goals as goal
 
 pub slice_bounds-input-end : goal.slice_bounds-input-end
-slice_bounds-input-end c = let call = c.read_input-reading in (got_counted call.new.1.0 c.in-Got.is call.ensures).0
+slice_bounds-input-end c = (got_counted c.read_input-reading.new.buf c.in-Got.is c.read_input-reading.ensures).0
 
 pub slice_bounds-finish-end : goal.slice_bounds-finish-end
-slice_bounds-finish-end c = let call = c.read_input-reading in (got_counted call.new.1.0 c.in-Got.is call.ensures).1
+slice_bounds-finish-end c = (got_counted c.read_input-reading.new.buf c.in-Got.is c.read_input-reading.ensures).1

@@ -3,7 +3,7 @@ use Rattle.streams.proofs.StepLaws.{got_counted}
 use Rattle.boxrun.proofs.main.Goals as goal
 
 pub slice_bounds-input-end : goal.slice_bounds-input-end
-slice_bounds-input-end c = let call = c.read_all-reading in (got_counted call.new.1.0 c.in-Got.is call.ensures).0
+slice_bounds-input-end c = (got_counted c.read_all-reading.new.buf c.in-Got.is c.read_all-reading.ensures).0
 
 pub slice_bounds-print-end : goal.slice_bounds-print-end
-slice_bounds-print-end c = let call = c.read_all-reading in (got_counted call.new.1.0 c.in-Got.is call.ensures).1
+slice_bounds-print-end c = (got_counted c.read_all-reading.new.buf c.in-Got.is c.read_all-reading.ensures).1

@@ -5,16 +5,14 @@ use Rattle.explain.proofs.PageLines.{past_pages, nothing_printed}
 use Rattle.explain.proofs.print_explained.Goals as goal
 
 pub returns-then-output-lt32768 : goal.returns-then-output-lt32768
-returns-then-output-lt32768 c = let a = c.args in short_output (page a.number) a.output.now c.if-output-lt32768.true
+returns-then-output-lt32768 c = let a = c.args in let all = short_output (page a.number) a.output.now c.if-output-lt32768.true in record { value = all.0; output_after = all.1 }
 
 pub returns-then-number-gt21 : goal.returns-then-number-gt21
 returns-then-number-gt21 c =
     let a = c.args in
-    let x = nothing_printed (page a.number) a.output.now (past_pages a.number c.if-number-gt21.true) c.if-output-lt32768.false in
-    (x.answers, x.leaves)
+    let x = nothing_printed (page a.number) a.output.now (past_pages a.number c.if-number-gt21.true) c.if-output-lt32768.false in record { value = x.answers; output_after = x.leaves }
 
 pub returns : goal.returns
 returns c =
     let a = c.args in
-    let x = in_output (page a.number) c.if-output-lt32768.false c.put_page.ensures in
-    (x.answers, x.leaves)
+    let x = in_output (page a.number) c.if-output-lt32768.false c.put_page.ensures in record { value = x.answers; output_after = x.leaves }

@@ -19,7 +19,5 @@ slice_bounds-put_text-start c =
 pub returns : goal.returns
 returns c =
     let a = c.args in
-    let from = c.line_start-start.ensures.2 in
-    let to = c.line_start-end.ensures.2 in
-    let same = part_between a.text.now a.from a.to c.requires.0 from to in
+    let same = part_between a.text.now a.from a.to c.requires.0 c.line_start-start.ensures.2 c.line_start-end.ensures.2 in
     same_text 32768 same (omega (arith, ap length same)) c.put_text.ensures

@@ -12,5 +12,4 @@ returns-then-n-eq0 c = same_text 32768 (no_page c.args.n c.if-n-eq0.true) (omega
 pub returns : goal.returns
 unfolding all_pages join pages
 returns c =
-    let n = c.args.n in
-    same_text 32768 (a_page n c.if-n-eq0.false) (omega arith) c.put_lines.ensures
+    same_text 32768 (a_page c.args.n c.if-n-eq0.false) (omega arith) c.put_lines.ensures

@@ -14,33 +14,27 @@ loop-i-init c = (search rules, refl, refl)
 
 pub overflow_cast-words : goal.overflow_cast-words
 overflow_cast-words c =
-    let i = c.loop-i.i in
-    omega (arith, c.shared_slice_known-1.given (2 * i), c.shared_slice_known-in-loop-i-1.given (2 * i + 1))
+    omega (arith, c.shared_slice_known-1.given (2 * c.loop-i.i), c.shared_slice_known-in-loop-i-1.given (2 * c.loop-i.i + 1))
 
 pub overflow_cast-words-in-loop-i : goal.overflow_cast-words-in-loop-i
 overflow_cast-words-in-loop-i c =
-    let i = c.loop-i.i in
-    omega (arith, c.shared_slice_known-1.given (2 * i), c.shared_slice_known-in-loop-i-1.given (2 * i + 1))
+    omega (arith, c.shared_slice_known-1.given (2 * c.loop-i.i), c.shared_slice_known-in-loop-i-1.given (2 * c.loop-i.i + 1))
 
 pub overflow_mul-words : goal.overflow_mul-words
 overflow_mul-words c =
-    let i = c.loop-i.i in
-    omega (arith, c.shared_slice_known-1.given (2 * i), c.shared_slice_known-in-loop-i-1.given (2 * i + 1))
+    omega (arith, c.shared_slice_known-1.given (2 * c.loop-i.i), c.shared_slice_known-in-loop-i-1.given (2 * c.loop-i.i + 1))
 
 pub overflow_add-words : goal.overflow_add-words
 overflow_add-words c =
-    let i = c.loop-i.i in
-    omega (arith, c.shared_slice_known-1.given (2 * i), c.shared_slice_known-in-loop-i-1.given (2 * i + 1))
+    omega (arith, c.shared_slice_known-1.given (2 * c.loop-i.i), c.shared_slice_known-in-loop-i-1.given (2 * c.loop-i.i + 1))
 
 pub loop-i-preserved : goal.loop-i-preserved
 loop-i-preserved c =
-    let k = c.loop-i in
-    (search rules, simp length-set k.invariant.1, load_next c.args.words.now c.args.bytes.now k.words k.i (omega arith) c.requires k.invariant.2)
+    (search rules, simp length-set c.loop-i.invariant.1, load_next c.args.words.now c.args.bytes.now c.loop-i.words c.loop-i.i (omega arith) c.requires c.loop-i.invariant.2)
 
 pub shape_of-words : goal.shape_of-words
 shape_of-words c = c.loop-i.invariant.1
 
 pub returns : goal.returns
 returns c =
-    let k = c.loop-i in
-    load_all c.args.words.now c.args.bytes.now k.words k.i (omega arith) k.invariant.2
+    load_all c.args.words.now c.args.bytes.now c.loop-i.words c.loop-i.i (omega arith) c.loop-i.invariant.2

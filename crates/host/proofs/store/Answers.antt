@@ -22,22 +22,18 @@ overflow_cast-t-in-loop-i c = omega (arith, c.shared_slice_known-1.given c.loop-
 
 pub bounds-t-i-in-loop-i : goal.bounds-t-i-in-loop-i
 bounds-t-i-in-loop-i c =
-    let k = c.loop-i in
-    let h : 2 * k.i + 1 < length k.t = omega arith in
+    let h : 2 * c.loop-i.i + 1 < length c.loop-i.t = omega arith in
     simp length-set h
 
 pub loop-i-preserved : goal.loop-i-preserved
 loop-i-preserved c =
-    let k = c.loop-i in
-    (search rules, simp length-set k.invariant.1, store_next c.args.words.now c.args.t.now k.t k.i c.loop-i-test.true c.requires k.invariant.2)
+    (search rules, simp length-set c.loop-i.invariant.1, store_next c.args.words.now c.args.t.now c.loop-i.t c.loop-i.i c.loop-i-test.true c.requires c.loop-i.invariant.2)
 
 pub shape_of-t : goal.shape_of-t
 shape_of-t c = c.loop-i.invariant.1
 
 pub returns : goal.returns
 returns c =
-    let k = c.loop-i in
-    let w = c.args.words.now in
-    let all : k.i ≡ length w = omega arith in
-    let h : k.t ≡ bytes_after (length w) (take (length w) w) c.args.t.now = rw all at k.invariant.2 in
-    rw (take_all (length w) w (le_refl (length w))) at h
+    let all : c.loop-i.i ≡ length c.args.words.now = omega arith in
+    let h : c.loop-i.t ≡ bytes_after (length c.args.words.now) (take (length c.args.words.now) c.args.words.now) c.args.t.now = rw all at c.loop-i.invariant.2 in
+    rw (take_all (length c.args.words.now) c.args.words.now (le_refl (length c.args.words.now))) at h

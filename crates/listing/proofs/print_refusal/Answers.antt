@@ -5,10 +5,9 @@ use Rattle.listing.proofs.PrintOutcomes.{in_output, short_output}
 use Rattle.listing.proofs.print_refusal.Goals as goal
 
 pub returns-then-output-lt32768 : goal.returns-then-output-lt32768
-returns-then-output-lt32768 c = let a = c.args in short_output (answer_line (refused a.number a.line)) a.output.now c.if-output-lt32768.true
+returns-then-output-lt32768 c = let a = c.args in let all = short_output (answer_line (refused a.number a.line)) a.output.now c.if-output-lt32768.true in record { value = all.0; output_after = all.1 }
 
 pub returns : goal.returns
 returns c =
     let a = c.args in
-    let x = in_output (answer_line (refused a.number a.line)) c.if-output-lt32768.false §c.before.before.Put-refused.ensures in
-    (x.answers, x.leaves)
+    let x = in_output (answer_line (refused a.number a.line)) c.if-output-lt32768.false c.put_refused.ensures in record { value = x.answers; output_after = x.leaves }

@@ -55,10 +55,9 @@ put_counts-requires c =
 pub returns-in-Fault : goal.returns-in-Fault
 returns-in-Fault c =
     let a = c.args in
-    let head = c.script_end-head in
-    let reads = read_behind a.text.now head.result head.ensures.0 in
+    let reads = read_behind a.text.now c.script_end-head.result c.script_end-head.ensures.s_value in
     makes_none a.text.now c.if-short.false
-    (λ fresh. scan_faulty a.text.now c.if-text-gt16384.false (edition_of (not (eqb head.result 0))) _ reads _ _
+    (λ fresh. scan_faulty a.text.now c.if-text-gt16384.false (edition_of (not (eqb c.script_end-head.result 0))) _ reads _ _
     (fault_of_lem c.scan_lines-scan.ensures.scans c.in-Fault.is) ∙ rw c.lines_before.ensures.value)
 
 pub returns-else-line-lines : goal.returns-else-line-lines

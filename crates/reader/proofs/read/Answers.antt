@@ -9,10 +9,8 @@ copy_table-requires c =
 
 pub returns-in-Refused : goal.returns-in-Refused
 returns-in-Refused c =
-    let a = c.args in
-    read_away a.text.now a.table.now c.make-answer.ensures c.in-Refused.is
+    let a = c.args in let all = read_away a.text.now a.table.now c.make-answer.ensures c.in-Refused.is in record { value = all.0; table_after = all.1 }
 
 pub returns-in-Read : goal.returns-in-Read
 returns-in-Read c =
-    let a = c.args in
-    read_done a.text.now a.table.now c.make-answer.ensures c.in-Read.is c.copy_table.ensures
+    let a = c.args in let all = read_done a.text.now a.table.now c.make-answer.ensures c.in-Read.is c.copy_table.ensures in record { value = all.0; table_after = all.1 }

@@ -8,8 +8,7 @@ use Rattle.reports.proofs.print_reached.Goals as goal
 
 pub returns-then-output-lt32768 : goal.returns-then-output-lt32768
 returns-then-output-lt32768 c =
-    let a = c.args in
-    short_output (reached_text a.input.now a.thread) a.output.now c.if-output-lt32768.true
+    let a = c.args in let all = short_output (reached_text a.input.now a.thread) a.output.now c.if-output-lt32768.true in record { value = all.0; output_after = all.1 }
 
 pub print_cut-requires : goal.print_cut-requires
 print_cut-requires c =
@@ -17,13 +16,10 @@ print_cut-requires c =
     (fit.0, fit.1, search rules)
 
 pub returns-in-Away : goal.returns-in-Away
-returns-in-Away c =
-    rw (text_told c.split-parts.ensures (search rules) c.args.thread _ c.in-Away.is) c.print_refusal.ensures
+returns-in-Away c = let all = rw (text_told c.split-parts.ensures (search rules) c.args.thread _ c.in-Away.is) c.print_refusal.ensures in record { value = all.0; output_after = all.1 }
 
 pub returns-in-Fault : goal.returns-in-Fault
-returns-in-Fault c =
-    rw (text_told c.split-parts.ensures (search rules) c.args.thread _ c.in-Fault.is) c.print_refusal-in-Fault.ensures
+returns-in-Fault c = let all = rw (text_told c.split-parts.ensures (search rules) c.args.thread _ c.in-Fault.is) c.print_refusal-in-Fault.ensures in record { value = all.0; output_after = all.1 }
 
 pub returns-in-Turns : goal.returns-in-Turns
-returns-in-Turns c =
-    rw (text_told c.split-parts.ensures (search rules) c.args.thread _ c.in-Turns.is) c.print_cut.ensures
+returns-in-Turns c = let all = rw (text_told c.split-parts.ensures (search rules) c.args.thread _ c.in-Turns.is) c.print_cut.ensures in record { value = all.0; output_after = all.1 }

@@ -11,14 +11,11 @@ use Rattle.reports.proofs.print_report.Goals as goal
 pub returns-in-Refused : goal.returns-in-Refused
 returns-in-Refused c =
     let a = c.args in
-    let told = the_report a.text.now a.turns.now c.reach-report.ensures (search rules) (search rules) (search rules) in
-    rw (refusal_printed a.text.now a.turns.now a.thread told c.in-Refused.is) c.print_refusal.ensures
+    let told = the_report a.text.now a.turns.now c.reach-report.ensures (search rules) (search rules) (search rules) in let all = rw (refusal_printed a.text.now a.turns.now a.thread told c.in-Refused.is) c.print_refusal.ensures in record { value = all.0; output_after = all.1 }
 
 pub returns-in-Reached : goal.returns-in-Reached
 returns-in-Reached c =
     let a = c.args in
     let told = the_report a.text.now a.turns.now c.reach-report.ensures (search rules) (search rules) (search rules) in
-    let is = c.in-Reached.is in
-    let few = few_reached a.text.now a.turns.now a.thread told is in
-    let x = in_output (report_text a.text.now a.turns.now a.thread) (search rules) (same_text 1546 (objects_printed a.text.now a.turns.now a.thread told is _ (mod-eq_of_lt (omega (arith, few)))) (omega arith) c.put_reached.ensures) in
-    (x.answers, x.leaves)
+    let few = few_reached a.text.now a.turns.now a.thread told c.in-Reached.is in
+    let x = in_output (report_text a.text.now a.turns.now a.thread) (search rules) (same_text 1546 (objects_printed a.text.now a.turns.now a.thread told c.in-Reached.is _ (mod-eq_of_lt (omega (arith, few)))) (omega arith) c.put_reached.ensures) in record { value = x.answers; output_after = x.leaves }

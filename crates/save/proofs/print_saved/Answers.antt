@@ -6,30 +6,22 @@ use Rattle.std.proofs.Common.{rules}
 use Rattle.save.proofs.print_saved.Goals as goal
 
 pub returns-then-output-lt65536 : goal.returns-then-output-lt65536
-returns-then-output-lt65536 c = let start = c.args in saved_short (saved start.input.now) start.output.now c.if-output-lt65536.true
+returns-then-output-lt65536 c = let start = c.args in let all = saved_short (saved start.input.now) start.output.now c.if-output-lt65536.true in record { value = all.0; output_after = all.1 }
 
 pub save_script-requires : goal.save_script-requires
 save_script-requires c =
-    let split = c.split-parts in
-    let is = c.in-Turns.is in
-    ((parts_fit split.ensures is).0, input_fits split.ensures (search rules) is, c.if-output-lt65536.false)
+    ((parts_fit c.split-parts.ensures c.in-Turns.is).0, input_fits c.split-parts.ensures (search rules) c.in-Turns.is, c.if-output-lt65536.false)
 
 pub returns-in-Away : goal.returns-in-Away
 returns-in-Away c =
-    let split = c.split-parts in
     let start = c.args in
-    let line = saved_away split.ensures (search rules) c.in-Away.is in
-    rw line (saved_line _ start.output.now c.if-output-lt65536.false c.print_refusal.ensures)
+    let line = saved_away c.split-parts.ensures (search rules) c.in-Away.is in let all = rw line (saved_line _ start.output.now c.if-output-lt65536.false c.print_refusal.ensures) in record { value = all.0; output_after = all.1 }
 
 pub returns-in-Fault : goal.returns-in-Fault
 returns-in-Fault c =
-    let split = c.split-parts in
     let start = c.args in
-    let line = saved_fault split.ensures (search rules) c.in-Fault.is in
-    rw line (saved_line _ start.output.now c.if-output-lt65536.false c.print_refusal-in-Fault.ensures)
+    let line = saved_fault c.split-parts.ensures (search rules) c.in-Fault.is in let all = rw line (saved_line _ start.output.now c.if-output-lt65536.false c.print_refusal-in-Fault.ensures) in record { value = all.0; output_after = all.1 }
 
 pub returns-in-Turns : goal.returns-in-Turns
 returns-in-Turns c =
-    let split = c.split-parts in
-    let script = saved_turns split.ensures (search rules) c.in-Turns.is (search rules) in
-    rw script c.save_script.ensures
+    let script = saved_turns c.split-parts.ensures (search rules) c.in-Turns.is (search rules) in let all = rw script c.save_script.ensures in record { value = all.0; output_after = all.1 }

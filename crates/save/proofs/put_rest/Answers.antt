@@ -14,5 +14,4 @@ put_text-requires c = omega (arith, c.requires.1, length-drop c.args.at c.args.i
 pub returns : goal.returns
 returns c =
     let start = c.args in
-    let put = c.put_text in
-    subst (λ (t : List ℕ). Wrote (length t) start.output.now put.new.0 start.n put.result t) (rest_whole start.input.now start.at) put.ensures
+    subst (λ (t : List ℕ). Wrote (length t) start.output.now c.put_text.new.buf start.n c.put_text.result t) (rest_whole start.input.now start.at) c.put_text.ensures

@@ -9,29 +9,22 @@ use Rattle.streams.proofs.read_all.Goals as goal
 
 pub overflow_add-done : goal.overflow_add-done
 overflow_add-done c =
-    let at = c.loop-done in
-    let read = c.read_on-step in
-    let moved = some_moved (length at.buf - at.done) c.in-Moved.is read.ensures in
+    let moved = some_moved (length c.loop-done.buf - c.loop-done.done) c.in-Moved.is c.read_on-step.ensures in
     search rules
 
 pub loop-done-smaller-in-Moved : goal.loop-done-smaller-in-Moved
 loop-done-smaller-in-Moved c =
-    let at = c.loop-done in
-    let read = c.read_on-step in
-    let moved = some_moved (length at.buf - at.done) c.in-Moved.is read.ensures in
+    let moved = some_moved (length c.loop-done.buf - c.loop-done.done) c.in-Moved.is c.read_on-step.ensures in
     omega arith
 
 pub loop-done-preserved-in-Moved : goal.loop-done-preserved-in-Moved
 loop-done-preserved-in-Moved c =
-    let at = c.loop-done in
-    let read = c.read_on-step in
-    let moved = some_moved (length at.buf - at.done) c.in-Moved.is read.ensures in
+    let moved = some_moved (length c.loop-done.buf - c.loop-done.done) c.in-Moved.is c.read_on-step.ensures in
     (omega arith, omega arith)
 
 pub returns-in-Nothing : goal.returns-in-Nothing
 returns-in-Nothing c =
-    let at = c.loop-done in
-    counted at.done c.read_on-step.new.buf (omega arith)
+    counted c.loop-done.done c.read_on-step.new.buf (omega arith)
 
 pub returns : goal.returns
 returns c = counted c.loop-done.done c.loop-done.buf c.loop-done.invariant.0

@@ -8,21 +8,15 @@ use Rattle.streams.proofs.write_all.Goals as goal
 
 pub overflow_add-written : goal.overflow_add-written
 overflow_add-written c =
-    let at = c.loop-written in
-    let put = c.write_on-step in
-    let moved = some_moved (length c.args.text.now - at.written) c.in-Moved.is put.ensures in
+    let moved = some_moved (length c.args.text.now - c.loop-written.written) c.in-Moved.is c.write_on-step.ensures in
     search rules
 
 pub loop-written-smaller-in-Moved : goal.loop-written-smaller-in-Moved
 loop-written-smaller-in-Moved c =
-    let at = c.loop-written in
-    let put = c.write_on-step in
-    let moved = some_moved (length c.args.text.now - at.written) c.in-Moved.is put.ensures in
+    let moved = some_moved (length c.args.text.now - c.loop-written.written) c.in-Moved.is c.write_on-step.ensures in
     omega arith
 
 pub loop-written-preserved-in-Moved : goal.loop-written-preserved-in-Moved
 loop-written-preserved-in-Moved c =
-    let at = c.loop-written in
-    let put = c.write_on-step in
-    let moved = some_moved (length c.args.text.now - at.written) c.in-Moved.is put.ensures in
+    let moved = some_moved (length c.args.text.now - c.loop-written.written) c.in-Moved.is c.write_on-step.ensures in
     omega arith

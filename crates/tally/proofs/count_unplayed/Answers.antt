@@ -21,7 +21,7 @@ count-requires c =
 
 pub loop-i-preserved : goal.loop-i-preserved
 loop-i-preserved c =
-    let turns = c.args.turns.now in let t = get_or turns c.loop-i.i 0 in let at = count_at t Unplayed in rw c.count.ensures (raise_low c.loop-i.counts at c.loop-i.i c.loop-i.invariant.0, raise_length c.loop-i.counts at ∙ c.loop-i.invariant.1, c.loop-i.invariant.2 ∙ unplayed_one turns c.loop-i.counts c.loop-i.i t c.loop-i-test.true refl)
+    let t = get_or c.args.turns.now c.loop-i.i 0 in let at = count_at t Unplayed in rw c.count.ensures (raise_low c.loop-i.counts at c.loop-i.i c.loop-i.invariant.0, raise_length c.loop-i.counts at ∙ c.loop-i.invariant.1, c.loop-i.invariant.2 ∙ unplayed_one c.args.turns.now c.loop-i.counts c.loop-i.i t c.loop-i-test.true refl)
 
 pub returns : goal.returns
 returns c =

@@ -12,7 +12,7 @@ returns-then-frame_count-eq0 c = idle_one c.frame_count.ensures.sees c.if-frame_
 
 pub returns-in-Next : goal.returns-in-Next
 returns-in-Next c =
-    moves_one c.frame_count.ensures.sees c.if-frame_count-eq0.false c.turn-step.ensures (these_steps_move c.turn-step.result c.in-Next.keys1)
+    moves_one c.frame_count.ensures.sees c.if-frame_count-eq0.false c.turn-step.ensures (these_steps_move c.turn-step.result c.in-Next.is)
 
 pub returns-in-Waits : goal.returns-in-Waits
 returns-in-Waits c =
@@ -20,4 +20,4 @@ returns-in-Waits c =
 
 pub returns-in_default : goal.returns-in_default
 returns-in_default c =
-    halts_one c.frame_count.ensures.sees c.if-frame_count-eq0.false c.turn-step.ensures (other_steps_stop c.turn-step.result c.in_default.keys3)
+    halts_one c.frame_count.ensures.sees c.if-frame_count-eq0.false c.turn-step.ensures (other_steps_stop c.turn-step.result c.in_default.is)

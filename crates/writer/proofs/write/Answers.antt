@@ -19,13 +19,11 @@ returns-then-buffer-lt16384 c =
 
 pub slice_bounds-read-end : goal.slice_bounds-read-end
 slice_bounds-read-end c =
-    let script = c.put_script-length in
-    sym (length-take-le script.result script.new.0 (omega (arith, script.ensures.most)))
+    sym (length-take-le c.put_script-length.result c.put_script-length.new.buf (omega (arith, c.put_script-length.ensures.most)))
 
 pub slice_bounds-put_text-end : goal.slice_bounds-put_text-end
 slice_bounds-put_text-end c =
-    let script = c.put_script-length in
-    sym (length-take-le script.result script.new.0 (omega (arith, script.ensures.most)))
+    sym (length-take-le c.put_script-length.result c.put_script-length.new.buf (omega (arith, c.put_script-length.ensures.most)))
 
 pub put_text-end-requires : goal.put_text-end-requires
 put_text-end-requires c =

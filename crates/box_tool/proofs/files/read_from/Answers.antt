@@ -3,4 +3,4 @@ use Rattle.streams.proofs.StepLaws.{got_counted}
 use Rattle.box_tool.proofs.files.read_from.Goals as goal
 
 pub returns-in-Got : goal.returns-in-Got
-returns-in-Got c = let call = c.read_all-reading in got_counted call.new.1.0 c.in-Got.is call.ensures
+returns-in-Got c = got_counted c.read_all-reading.new.buf c.in-Got.is c.read_all-reading.ensures

@@ -13,32 +13,28 @@ loop-i-init c = (search rules, refl)
 
 pub returns-then-text-i : goal.returns-then-text-i
 returns-then-text-i c =
-    let loop = c.loop-i in
     let start = c.args in
     let word = start.word.now in
     let text = start.text.now in
-    sym (loop.invariant.1 ∙ text_ends word text loop.i c.loop-i-test.true c.if-text-i.true)
+    sym (c.loop-i.invariant.1 ∙ text_ends word text c.loop-i.i c.loop-i-test.true c.if-text-i.true)
 
 pub returns-then-text-i-2 : goal.returns-then-text-i-2
 returns-then-text-i-2 c =
-    let loop = c.loop-i in
     let start = c.args in
     let word = start.word.now in
     let text = start.text.now in
-    sym (loop.invariant.1 ∙ byte_differs word text loop.i c.loop-i-test.true c.if-text-i.false c.if-text-i-2.true)
+    sym (c.loop-i.invariant.1 ∙ byte_differs word text c.loop-i.i c.loop-i-test.true c.if-text-i.false c.if-text-i-2.true)
 
 pub loop-i-preserved : goal.loop-i-preserved
 loop-i-preserved c =
-    let loop = c.loop-i in
     let start = c.args in
     let word = start.word.now in
     let text = start.text.now in
-    (omega arith, loop.invariant.1 ∙ byte_agrees word text loop.i c.loop-i-test.true c.if-text-i.false c.if-text-i-2.false)
+    (omega arith, c.loop-i.invariant.1 ∙ byte_agrees word text c.loop-i.i c.loop-i-test.true c.if-text-i.false c.if-text-i-2.false)
 
 pub returns : goal.returns
 returns c =
-    let loop = c.loop-i in
     let start = c.args in
     let word = start.word.now in
     let text = start.text.now in
-    sym (loop.invariant.1 ∙ whole_word word text loop.i c.loop-i-test.false)
+    sym (c.loop-i.invariant.1 ∙ whole_word word text c.loop-i.i c.loop-i-test.false)

@@ -14,14 +14,12 @@ overflow_add-w c = omega (arith, §c.before.before.before.before.before.before.b
 
 pub returns : goal.returns
 returns c =
-    let short = c.short_line-l in
-    let x = c.long_operand_at-w.result.word in
     record {
-      parts = (cap_of c.cap_at-cap.result.word, (operand_of x, tt));
+      parts = (cap_of c.cap_at-cap.result.word, (operand_of c.long_operand_at-w.result.word, tt));
       fits = fits_as c.args.at
           (two_words (bytes "(let (") (bytes "cast ") c.begins_at-opened.ensures c.begins_at-named.ensures
           (a_cap c.cap_at-cap.result c.cap_at-cap.ensures.s_value (word (bytes " ") c.begins_at-parted.ensures
           (an_operand c.long_operand_at-w.result c.long_operand_at-w.ensures.s_value (last (bytes "))\n") c.begins_at-closed.ensures)))))
-          (short.ensures.0.0 ∙ rw (c.both-ok.ensures, c.both-4.ensures, c.both-3.ensures, c.both-2.ensures, c.both.ensures)) short.ensures.1.3;
-      tells = cast_tells x refl c.cap_at-cap.result.word c.cap_at-cap.ensures.word_bound.0 (short_row short.result short.ensures.0) c.over.ensures refl;
+          (c.short_line-l.ensures.ok_value.0 ∙ rw (c.both-ok.ensures, c.both-4.ensures, c.both-3.ensures, c.both-2.ensures, c.both.ensures)) c.short_line-l.ensures.over_value.3;
+      tells = cast_tells c.long_operand_at-w.result.word refl c.cap_at-cap.result.word c.cap_at-cap.ensures.word_bound.0 (short_row c.short_line-l.result c.short_line-l.ensures.ok_value) c.over.ensures refl;
     }

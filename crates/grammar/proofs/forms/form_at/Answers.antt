@@ -7,20 +7,20 @@ use Rattle.grammar.proofs.forms.form_at.Goals as goal
 
 pub returns-in-107 : goal.returns-in-107
 unfolding only_form
-returns-in-107 c = let a = c.args in rw (get_or-drop a.at a.s.now 1 0 ∙ sym c.byte-first.ensures ∙ c.in-107.keys1)
+returns-in-107 c = let a = c.args in rw (get_or-drop a.at a.s.now 1 0 ∙ sym c.byte-first.ensures ∙ c.in-107.is)
 
 pub returns-in-116 : goal.returns-in-116
 unfolding only_form
-returns-in-116 c = let a = c.args in rw (get_or-drop a.at a.s.now 1 0 ∙ sym c.byte-first.ensures ∙ c.in-116.keys2)
+returns-in-116 c = let a = c.args in rw (get_or-drop a.at a.s.now 1 0 ∙ sym c.byte-first.ensures ∙ c.in-116.is)
 
 pub returns-in-109 : goal.returns-in-109
 unfolding only_form
-returns-in-109 c = let a = c.args in rw (get_or-drop a.at a.s.now 1 0 ∙ sym c.byte-first.ensures ∙ c.in-109.keys3)
+returns-in-109 c = let a = c.args in rw (get_or-drop a.at a.s.now 1 0 ∙ sym c.byte-first.ensures ∙ c.in-109.is)
 
 pub returns-in-103 : goal.returns-in-103
 unfolding only_form
-returns-in-103 c = let a = c.args in rw (get_or-drop a.at a.s.now 1 0 ∙ sym c.byte-first.ensures ∙ c.in-103.keys4)
+returns-in-103 c = let a = c.args in rw (get_or-drop a.at a.s.now 1 0 ∙ sym c.byte-first.ensures ∙ c.in-103.is)
 
 pub returns-in_default : goal.returns-in_default
 unfolding only_form
-returns-in_default c = let a = c.args in rw (get_or-drop a.at a.s.now 1 0 ∙ sym c.byte-first.ensures, ne_eqb _ _ c.in_default.rest.0.0.0.1, ne_eqb _ _ c.in_default.rest.0.0.1, ne_eqb _ _ c.in_default.rest.0.1, ne_eqb _ _ c.in_default.rest.1) c.let_form.ensures
+returns-in_default c = let a = c.args in rw (get_or-drop a.at a.s.now 1 0 ∙ sym c.byte-first.ensures, ne_eqb _ _ c.in_default.in_default-own.rest.0.0.0.1, ne_eqb _ _ c.in_default.in_default-own.rest.0.0.1, ne_eqb _ _ c.in_default.in_default-own.rest.0.1, ne_eqb _ _ c.in_default.in_default-own.rest.1) c.let_form.ensures

@@ -31,17 +31,15 @@ overflow_add-w c = omega (arith, rest_most §c.before.before.before.before.befor
 
 pub returns : goal.returns
 returns c =
-    let short = c.short_line-l in
-    let x = §operand.Operand-at.result.word in
     give_or_value c.args.at {before = c.if-form-eq-GIVE.opened} {rest = c.if-form-eq-GIVE.rest} (record {
-      c§ = operand_of x;
+      c§ = operand_of c.operand_at-w.result.word;
       fits = after c.if-form-eq-GIVE.opened c.if-form-eq-GIVE.rest
-          (an_operand §operand.Operand-at.result §operand.Operand-at.ensures.0 (last (bytes ")\n") c.begins_at-closed.ensures))
-          (short.ensures.0.0 ∙ rw (c.both-ok.ensures, c.both.ensures)) short.ensures.1.3;
-      words = rw (operand_word_lem x) (short_row short.result short.ensures.0);
-      over = rw (slot_of_word x) c.over.ensures;
-      need = rw (slot_of_word x);
-      own = sym (operand_first x);
+          (an_operand c.operand_at-w.result c.operand_at-w.ensures.s_value (last (bytes ")\n") c.begins_at-closed.ensures))
+          (c.short_line-l.ensures.ok_value.0 ∙ rw (c.both-ok.ensures, c.both.ensures)) c.short_line-l.ensures.over_value.3;
+      words = rw (operand_word_lem c.operand_at-w.result.word) (short_row c.short_line-l.result c.short_line-l.ensures.ok_value);
+      over = rw (slot_of_word c.operand_at-w.result.word) c.over.ensures;
+      need = rw (slot_of_word c.operand_at-w.result.word);
+      own = sym (operand_first c.operand_at-w.result.word);
     })
     (λ four. ⊎_elim (λ w. (w.3 ∙ w.2.ensures, w.4)) (λ w. absurd (w.0.left four)) c.if-form-eq-GIVE.branch)
     (λ five. ⊎_elim (λ w. absurd (let four = w.0.taken in omega arith)) (λ w. (w.1 ∙ c.begins_at-opened.ensures, w.2)) c.if-form-eq-GIVE.branch)

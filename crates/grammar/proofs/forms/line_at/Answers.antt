@@ -9,34 +9,34 @@ pub returns-then-s-lt9 : goal.returns-then-s-lt9
 returns-then-s-lt9 c = line_in_short _ _ _ c.short_line.ensures.ok_value.0 c.if-s-lt9.true
 
 pub returns-in-1 : goal.returns-in-1
-returns-in-1 c = line_by_form 0 (omega arith) (sym c.form_at-form.ensures ∙ c.in-1.keys1) c.kind_at.ensures
+returns-in-1 c = line_by_form 0 (omega arith) (sym c.form_at-form.ensures ∙ c.in-1.is) c.kind_at.ensures
 
 pub returns-in-2 : goal.returns-in-2
-returns-in-2 c = line_by_form 1 (omega arith) (sym c.form_at-form.ensures ∙ c.in-2.keys2) c.thread_at.ensures
+returns-in-2 c = line_by_form 1 (omega arith) (sym c.form_at-form.ensures ∙ c.in-2.is) c.thread_at.ensures
 
 pub returns-in-3 : goal.returns-in-3
-returns-in-3 c = line_by_form 2 (omega arith) (sym c.form_at-form.ensures ∙ c.in-3.keys3) c.method_at.ensures
+returns-in-3 c = line_by_form 2 (omega arith) (sym c.form_at-form.ensures ∙ c.in-3.is) c.method_at.ensures
 
 pub returns-in-6 : goal.returns-in-6
-returns-in-6 c = line_by_form 5 (omega arith) (sym c.form_at-form.ensures ∙ c.in-6.keys4) c.field_at.ensures
+returns-in-6 c = line_by_form 5 (omega arith) (sym c.form_at-form.ensures ∙ c.in-6.is) c.field_at.ensures
 
 pub returns-in-9 : goal.returns-in-9
-returns-in-9 c = line_by_form 8 (omega arith) (sym c.form_at-form.ensures ∙ c.in-9.keys5) c.new_at.ensures
+returns-in-9 c = line_by_form 8 (omega arith) (sym c.form_at-form.ensures ∙ c.in-9.is) c.new_at.ensures
 
 pub returns-in-10 : goal.returns-in-10
-returns-in-10 c = line_by_form 9 (omega arith) (sym c.form_at-form.ensures ∙ c.in-10.keys6) c.cast_at.ensures
+returns-in-10 c = line_by_form 9 (omega arith) (sym c.form_at-form.ensures ∙ c.in-10.is) c.cast_at.ensures
 
 pub returns-in-11 : goal.returns-in-11
-returns-in-11 c = line_by_form 10 (omega arith) (sym c.form_at-form.ensures ∙ c.in-11.keys7) c.spawn_at.ensures
+returns-in-11 c = line_by_form 10 (omega arith) (sym c.form_at-form.ensures ∙ c.in-11.is) c.spawn_at.ensures
 
 pub returns-in-12 : goal.returns-in-12
-returns-in-12 c = line_by_form 11 (omega arith) (sym c.form_at-form.ensures ∙ c.in-12.keys8) §c.IsSend-at.ensures
+returns-in-12 c = line_by_form 11 (omega arith) (sym c.form_at-form.ensures ∙ c.in-12.is) §c.IsSend-at.ensures
 
 pub returns-in-13 : goal.returns-in-13
-returns-in-13 c = line_by_form 12 (omega arith) (sym c.form_at-form.ensures ∙ c.in-13.keys9) c.recv_at.ensures
+returns-in-13 c = line_by_form 12 (omega arith) (sym c.form_at-form.ensures ∙ c.in-13.is) c.recv_at.ensures
 
 pub returns-in-14 : goal.returns-in-14
-returns-in-14 c = line_by_form 13 (omega arith) (sym c.form_at-form.ensures ∙ c.in-14.keys10) c.copy_at.ensures
+returns-in-14 c = line_by_form 13 (omega arith) (sym c.form_at-form.ensures ∙ c.in-14.is) c.copy_at.ensures
 
 pub returns-in-4 : goal.returns-in-4
 returns-in-4 c =
@@ -49,9 +49,8 @@ returns-in-7 c =
 
 pub returns-in_default : goal.returns-in_default
 returns-in_default c =
-    let others = c.in_default-1.rest in
     line_by_none _ _ _ _ c.short_line-in_default.ensures.ok_value.0 c.form_at-form.ensures
     (⊎_elim
     (λ w. let low = w.taken in not_up_to 14 _ (λ j h e. omega arith))
-    (λ w. let high = w.2.left in ((((((not_up_to 8 _ (λ j h e. omega arith), others.0.0.0.0.0.1), others.0.0.0.0.1), others.0.0.0.1), others.0.0.1), others.0.1), others.1))
+    (λ w. let high = w.2.left in ((((((not_up_to 8 _ (λ j h e. omega arith), c.in_default-1.rest.0.0.0.0.0.1), c.in_default-1.rest.0.0.0.0.1), c.in_default-1.rest.0.0.0.1), c.in_default-1.rest.0.0.1), c.in_default-1.rest.0.1), c.in_default-1.rest.1))
     c.in_default.branch)

@@ -10,10 +10,9 @@ use Rattle.grammar.proofs.forms.method_at.Goals as goal
 
 pub returns : goal.returns
 returns c =
-    let short = c.short_line in
     record {
       parts = tt;
       fits = fits_as c.args.at (word (bytes "(method") c.begins_at-opened.ensures (last (bytes ")\n") c.begins_at-closed.ensures))
-          (short.ensures.0.0 ∙ c.both.ensures) (short.ensures.1.3 ∙ omega arith);
-      tells = method_tells (short_row short.result short.ensures.0) short.ensures.1.0 short.ensures.1.1 short.ensures.1.2;
+          (c.short_line.ensures.ok_value.0 ∙ c.both.ensures) (c.short_line.ensures.over_value.3 ∙ omega arith);
+      tells = method_tells (short_row c.short_line.result c.short_line.ensures.ok_value) c.short_line.ensures.over_value.0 c.short_line.ensures.over_value.1 c.short_line.ensures.over_value.2;
     }

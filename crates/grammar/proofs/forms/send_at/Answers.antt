@@ -17,14 +17,12 @@ overflow_add-target-2 c = omega (arith, §c.before.before.before.before.before.b
 
 pub returns : goal.returns
 returns c =
-    let short = c.short_line-l in
-    let x = §operand.Operand-at.result.word in
     record {
-      parts = (c.number_at-target.result.word, (operand_of x, tt));
+      parts = (c.number_at-target.result.word, (operand_of c.operand_at-w.result.word, tt));
       fits = fits_as c.args.at
           (two_words (bytes "(let (") (bytes "send ") c.begins_at-opened.ensures c.begins_at-named.ensures
           (a_number c.number_at-target.result c.number_at-target.ensures.s_value (word (bytes " ") c.begins_at-parted.ensures
-          (an_operand §operand.Operand-at.result §operand.Operand-at.ensures.0 (last (bytes "))\n") c.begins_at-closed.ensures)))))
-          (short.ensures.0.0 ∙ rw (c.both-ok.ensures, c.both-4.ensures, c.both-3.ensures, c.both-2.ensures, c.both.ensures)) short.ensures.1.3;
-      tells = send_tells x refl c.number_at-target.result.word (short_row short.result short.ensures.0) (rw (c.either.ensures, c.over-2.ensures, c.over.ensures)) c.most.ensures;
+          (an_operand c.operand_at-w.result c.operand_at-w.ensures.s_value (last (bytes "))\n") c.begins_at-closed.ensures)))))
+          (c.short_line-l.ensures.ok_value.0 ∙ rw (c.both-ok.ensures, c.both-4.ensures, c.both-3.ensures, c.both-2.ensures, c.both.ensures)) c.short_line-l.ensures.over_value.3;
+      tells = send_tells c.operand_at-w.result.word refl c.number_at-target.result.word (short_row c.short_line-l.result c.short_line-l.ensures.ok_value) (rw (c.either.ensures, c.over-2.ensures, c.over.ensures)) c.most.ensures;
     }

@@ -9,12 +9,11 @@ use Rattle.grammar.proofs.forms.spawn_at.Goals as goal
 
 pub returns : goal.returns
 returns c =
-    let short = c.short_line-l in
     record {
       parts = (c.number_at-block.result.word, tt);
       fits = fits_as c.args.at
           (two_words (bytes "(let (") (bytes "spawn ") c.begins_at-opened.ensures c.begins_at-named.ensures
           (a_number c.number_at-block.result c.number_at-block.ensures.s_value (last (bytes "))\n") c.begins_at-closed.ensures)))
-          (short.ensures.0.0 ∙ rw (c.both-ok.ensures, c.both-2.ensures, c.both.ensures)) short.ensures.1.3;
-      tells = spawn_tells c.number_at-block.result.word (short_row short.result short.ensures.0) c.over.ensures short.ensures.1.1 short.ensures.1.2;
+          (c.short_line-l.ensures.ok_value.0 ∙ rw (c.both-ok.ensures, c.both-2.ensures, c.both.ensures)) c.short_line-l.ensures.over_value.3;
+      tells = spawn_tells c.number_at-block.result.word (short_row c.short_line-l.result c.short_line-l.ensures.ok_value) c.over.ensures c.short_line-l.ensures.over_value.1 c.short_line-l.ensures.over_value.2;
     }

@@ -21,10 +21,6 @@ overflow_add-result c = omega (arith, taken_most §c.before.before.before.before
 
 pub returns : goal.returns
 returns c =
-    let a = c.args in
-    let n = c.number_at-slot in (
-      rw (c.both-2.ensures, c.either.ensures, c.both.ensures, c.begins_at-closed.ensures)
-          (operand_begins a.s.now a.at n.result.word n.result.end n.result.ok n.ensures.0
-          _ _ _ c.begins_at-reads.ensures c.begins_at-takes.ensures (taken_flag c§)),
-      omega (arith, taken_most c§, n.ensures.1),
-    )
+    let a = c.args in record { s_value = rw (c.both-2.ensures, c.either.ensures, c.both.ensures, c.begins_at-closed.ensures)
+          (operand_begins a.s.now a.at c.number_at-slot.result.word c.number_at-slot.result.end c.number_at-slot.result.ok c.number_at-slot.ensures.s_value
+          _ _ _ c.begins_at-reads.ensures c.begins_at-takes.ensures (taken_flag c§)); word_bound = omega (arith, taken_most c§, c.number_at-slot.ensures.word_bound) }

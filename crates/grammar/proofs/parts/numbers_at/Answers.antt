@@ -24,11 +24,10 @@ record NumbersTo (s : List ℕ) (at : ℕ) (l : Items) (more : Bool) : Type 0 wh
 
 pub loop-more-init : goal.loop-more-init
 loop-more-init c =
-    let fresh = c.no_items-l.ensures in
     record {
       items = [];
-      read = read_none fresh.1.0 fresh.1.3 c.byte-more.ensures;
-      listed = fresh.0;
+      read = read_none c.no_items-l.ensures.ok_value.0 c.no_items-l.ensures.ok_value.3 c.byte-more.ensures;
+      listed = c.no_items-l.ensures.listed;
       start = omega arith;
       limit = omega arith;
     }
@@ -40,25 +39,18 @@ loop-more-smaller c =
 
 pub loop-more-preserved : goal.loop-more-preserved
 loop-more-preserved c =
-    let part = c.number_at-w in
-    let so_far = c.loop-more.invariant in
-    let inside = read_inside so_far.read c.loop-more-test.true in
-    let w = part.result.word in
+    let inside = read_inside c.loop-more.invariant.read c.loop-more-test.true in
     record {
-      items = so_far.items ++ (w ∷ []);
-      read = read_more so_far.read w number_shortens c.loop-more-test.true part.ensures.0 c.byte.ensures c.both-more.ensures;
-      listed = listed_more suc (λ n. n) so_far.items w so_far.listed c.with_item-next.ensures.adds (add-one w) refl refl refl refl;
+      items = c.loop-more.invariant.items ++ (c.number_at-w.result.word ∷ []);
+      read = read_more c.loop-more.invariant.read c.number_at-w.result.word number_shortens c.loop-more-test.true c.number_at-w.ensures.s_value c.byte.ensures c.both-more.ensures;
+      listed = listed_more suc (λ n. n) c.loop-more.invariant.items c.number_at-w.result.word c.loop-more.invariant.listed c.with_item-next.ensures.adds (add-one c.number_at-w.result.word) refl refl refl refl;
       start = omega arith;
       limit = omega arith;
     }
 
 pub returns : goal.returns
-returns c =
-    let so_far = c.loop-more.invariant in (
-      record {
-        items = so_far.items;
-        fits = read_all _ so_far.read c.loop-more-test.false;
-        listed = rw map-id at so_far.listed;
-      },
-      (so_far.start, so_far.limit),
-    )
+returns c = record { numbers_at = record {
+        items = c.loop-more.invariant.items;
+        fits = read_all _ c.loop-more.invariant.read c.loop-more-test.false;
+        listed = rw map-id at c.loop-more.invariant.listed;
+      }; at_le_end = (c.loop-more.invariant.start, c.loop-more.invariant.limit) }

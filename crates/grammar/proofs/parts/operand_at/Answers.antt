@@ -24,11 +24,7 @@ overflow_add-result c = omega (arith, taken_most §c.before.before.before)
 pub returns : goal.returns
 returns c =
     let a = c.args in
-    let value = c.value in
-    let short = and_true _ _ (sym c.both.ensures ∙ not-false _ c.if-not-both.false-raw) in (
-      rw c.either.ensures
-          (operand_short a.s.now a.at c.byte-digit.result c.byte.result value.result
-          c.byte-digit.ensures c.byte.ensures (sym c.is_digit.ensures ∙ short.0) short.1 value.ensures.1
-          _ _ _ c.begins_at-reads.ensures c.begins_at-takes.ensures (taken_flag c§)),
-      omega (arith, taken_most c§, value.ensures.0),
-    )
+    let short = and_true _ _ (sym c.both.ensures ∙ not-false _ c.if-not-both.false-raw) in record { s_value = rw c.either.ensures
+          (operand_short a.s.now a.at c.byte-digit.result c.byte.result c.value.result
+          c.byte-digit.ensures c.byte.ensures (sym c.is_digit.ensures ∙ short.0) short.1 c.value.ensures.value
+          _ _ _ c.begins_at-reads.ensures c.begins_at-takes.ensures (taken_flag c§)); word_bound = omega (arith, taken_most c§, c.value.ensures.upper_bound) }

@@ -32,49 +32,40 @@ record OperandsTo (s : List ℕ) (at : ℕ) (l : Items) (more : Bool) : Type 0 w
 pub loop-more-init : goal.loop-more-init
 unfolding past any
 loop-more-init c =
-    let fresh = c.no_items-l.ensures in
     record {
       items = [];
-      read = read_none fresh.1.0 fresh.1.3 c.byte-more.ensures;
-      listed = fresh.0;
-      need = fresh.1.1;
-      own = fresh.1.2;
+      read = read_none c.no_items-l.ensures.ok_value.0 c.no_items-l.ensures.ok_value.3 c.byte-more.ensures;
+      listed = c.no_items-l.ensures.listed;
+      need = c.no_items-l.ensures.ok_value.1;
+      own = c.no_items-l.ensures.ok_value.2;
       start = omega arith;
       limit = omega arith;
     }
 
 pub loop-more-smaller : goal.loop-more-smaller
 loop-more-smaller c =
-    let part = §c.before.before.before.before.before.before.before.before.Operand-at in
     let inside = read_inside c.loop-more.invariant.read c.loop-more-test.true in
     omega arith
 
 pub loop-more-preserved : goal.loop-more-preserved
 loop-more-preserved c =
-    let part = §listing.before.before.before.Operand-at in
-    let so_far = c.loop-more.invariant in
-    let inside = read_inside so_far.read c.loop-more-test.true in
-    let word = part.result.word in
-    let w = operand_of word in
+    let inside = read_inside c.loop-more.invariant.read c.loop-more-test.true in
+    let w = operand_of c.operand_at-w.result.word in
     record {
-      items = so_far.items ++ (w ∷ []);
-      read = read_more so_far.read w operand_shortens c.loop-more-test.true part.ensures.0 c.byte.ensures c.both-more.ensures;
-      listed = listed_more operand_item slot_of so_far.items w so_far.listed c.with_item-next.ensures.adds (operand_item_lem word) (sym (slot_of_word word)) refl refl refl;
-      need = c.most.ensures ∙ past_more slot_of so_far.items w so_far.need (sym (slot_of_word word));
-      own = c.either.ensures ∙ any_more takes_first so_far.items w so_far.own (sym (operand_first word));
+      items = c.loop-more.invariant.items ++ (w ∷ []);
+      read = read_more c.loop-more.invariant.read w operand_shortens c.loop-more-test.true c.operand_at-w.ensures.s_value c.byte.ensures c.both-more.ensures;
+      listed = listed_more operand_item slot_of c.loop-more.invariant.items w c.loop-more.invariant.listed c.with_item-next.ensures.adds (operand_item_lem c.operand_at-w.result.word) (sym (slot_of_word c.operand_at-w.result.word)) refl refl refl;
+      need = c.most.ensures ∙ past_more slot_of c.loop-more.invariant.items w c.loop-more.invariant.need (sym (slot_of_word c.operand_at-w.result.word));
+      own = c.either.ensures ∙ any_more takes_first c.loop-more.invariant.items w c.loop-more.invariant.own (sym (operand_first c.operand_at-w.result.word));
       start = omega arith;
       limit = omega arith;
     }
 
 pub returns : goal.returns
-returns c =
-    let so_far = c.loop-more.invariant in (
-      record {
-        items = so_far.items;
-        fits = read_all _ so_far.read c.loop-more-test.false;
-        listed = so_far.listed;
-        need = so_far.need;
-        own = so_far.own;
-      },
-      (so_far.start, so_far.limit),
-    )
+returns c = record { operands_at = record {
+        items = c.loop-more.invariant.items;
+        fits = read_all _ c.loop-more.invariant.read c.loop-more-test.false;
+        listed = c.loop-more.invariant.listed;
+        need = c.loop-more.invariant.need;
+        own = c.loop-more.invariant.own;
+      }; at_le_end = (c.loop-more.invariant.start, c.loop-more.invariant.limit) }

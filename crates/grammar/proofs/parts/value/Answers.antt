@@ -13,8 +13,7 @@ pub returns-then-is_digit : goal.returns-then-is_digit
 returns-then-is_digit c =
     let t = sym c.is_digit.ensures ∙ c.if-is_digit.true in
     let e = digit_code c.args.b t in
-    let h = ltb-true (digit_of c.args.b) 10 t in
-    (omega arith, omega arith)
+    let h = ltb-true (digit_of c.args.b) 10 t in record { upper_bound = omega arith; value = omega arith }
 
 pub returns-else-is_digit : goal.returns-else-is_digit
 returns-else-is_digit c = record { upper_bound = omega arith; value = rw (digit_none c.args.b (sym c.is_digit.ensures ∙ c.if-is_digit.false)) }

@@ -11,5 +11,4 @@ nonzero_rem-result c = omega (arith, one-le-pow (length c.args.w.now) 256 (omega
 pub returns : goal.returns
 returns c =
     let a = c.args in
-    let p = c.requires in
-    rw (c.eight.ensures.0, c.span.ensures, c.word.ensures.0) (begins_word a.w.now (drop a.at a.s.now) p.2 p.3 c.word.ensures.1 c.eight.ensures.1)
+    rw (c.eight.ensures.0, c.span.ensures, c.word.ensures.0) (begins_word a.w.now (drop a.at a.s.now) c.requires.2 c.requires.3 c.word.ensures.1 c.eight.ensures.1)

@@ -15,5 +15,4 @@ returns-then-s-at c =
 pub returns : goal.returns
 returns c =
     let a = c.args in
-    let p = c.requires in
-    rw c.load-last.ensures.0 (word_last a.s.now a.at p.0 p.1 (omega arith) c.load-last.ensures.1)
+    rw c.load-last.ensures.0 (word_last a.s.now a.at c.requires.0 c.requires.1 (omega arith) c.load-last.ensures.1)

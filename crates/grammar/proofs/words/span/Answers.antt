@@ -25,6 +25,5 @@ loop-i-preserved c = (omega arith, rw (c.loop-i.invariant.1, add-one, pow-suc))
 
 pub returns : goal.returns
 returns c =
-    let w = c.args.w.now in
-    let e : c.loop-i.i ≡ length w = omega arith in
+    let e : c.loop-i.i ≡ length c.args.w.now = omega arith in
     c.loop-i.invariant.1 ∙ rw e

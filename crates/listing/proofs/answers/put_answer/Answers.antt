@@ -6,7 +6,7 @@ use Rattle.listing.proofs.LineTexts.{finished_end, stuck_end, open_end}
 use Rattle.listing.proofs.answers.put_answer.Goals as goal
 
 pub returns-in-Refused : goal.returns-in-Refused
-returns-in-Refused c = rw c.in-Refused.is (same_text 40 refl (omega arith) §c.before.before.Put-refused.ensures)
+returns-in-Refused c = rw c.in-Refused.is (same_text 40 refl (omega arith) c.put_refused.ensures)
 
 pub returns-in-Finished : goal.returns-in-Finished
 returns-in-Finished c =

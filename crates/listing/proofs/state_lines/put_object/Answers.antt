@@ -7,8 +7,7 @@ use Rattle.listing.proofs.state_lines.put_object.Goals as goal
 
 pub returns : goal.returns
 returns c =
-    let number = c.args.o in
-    same_texts 86 (λ P n S rest held fits made. object_line_lem number (object_at S.objects number)) (omega arith)
+    same_texts 86 (λ P n S rest held fits made. object_line_lem c.args.o (object_at S.objects c.args.o)) (omega arith)
     (fixed c.put_text-a.ensures
     ▹ fixed c.put_number-b.ensures
     ▹ c.put_traits-c.ensures ▹ fixed c.put_text.ensures)

@@ -8,32 +8,24 @@ use Rattle.races.proofs.events.line_event.Goals as goal
 
 pub returns-in-Field : goal.returns-in-Field
 returns-in-Field c =
-    let number = number_told c.form_of-form.ensures c.in-Field.keys1 (omega arith) in
-    (c.reads_field.ensures.1, field_tells c.part.ensures c.part-a.ensures c.part-b.ensures number c.slot.ensures.sees c.reads_field.ensures.0)
+    let number = number_told c.form_of-form.ensures c.in-Field.is (omega arith) in record { object_below = c.reads_field.ensures.1; line_tells = field_tells c.part.ensures c.part-a.ensures c.part-b.ensures number c.slot.ensures.sees c.reads_field.ensures.0 }
 
 pub returns-in-Swap : goal.returns-in-Swap
 returns-in-Swap c =
-    let number = number_told c.form_of-form.ensures c.in-Swap.keys2 (omega arith) in
-    (c.swaps_field.ensures.1, swap_tells c.part.ensures c.part-a.ensures c.part-b.ensures number c.slot-in-Swap.ensures.sees c.swaps_field.ensures.0)
+    let number = number_told c.form_of-form.ensures c.in-Swap.is (omega arith) in record { object_below = c.swaps_field.ensures.1; line_tells = swap_tells c.part.ensures c.part-a.ensures c.part-b.ensures number c.slot-in-Swap.ensures.sees c.swaps_field.ensures.0 }
 
 pub returns-in-Send : goal.returns-in-Send
 returns-in-Send c =
-    let number = number_told c.form_of-form.ensures c.in-Send.keys3 (omega arith) in
-    (c.put_event.ensures.object_below, send_tells c.part.ensures c.part-a.ensures c.part-b.ensures number c.put_event.ensures.sees)
+    let number = number_told c.form_of-form.ensures c.in-Send.is (omega arith) in record { object_below = c.put_event.ensures.object_below; line_tells = send_tells c.part.ensures c.part-a.ensures c.part-b.ensures number c.put_event.ensures.sees }
 
 pub returns-in-Recv : goal.returns-in-Recv
 returns-in-Recv c =
-    let number = number_told c.form_of-form.ensures c.in-Recv.keys4 (omega arith) in
-    (c.receives_message.ensures.1, recv_tells c.part.ensures c.part-a.ensures number c.slot-in-Recv.ensures.sees c.message_in.ensures.sees c.receives_message.ensures.0)
+    let number = number_told c.form_of-form.ensures c.in-Recv.is (omega arith) in record { object_below = c.receives_message.ensures.1; line_tells = recv_tells c.part.ensures c.part-a.ensures number c.slot-in-Recv.ensures.sees c.message_in.ensures.sees c.receives_message.ensures.0 }
 
 pub returns-in-Copy : goal.returns-in-Copy
 returns-in-Copy c =
-    let number = number_told c.form_of-form.ensures c.in-Copy.keys5 (omega arith) in
-    (c.copies_object.ensures.1, copy_tells c.part.ensures c.part-a.ensures c.part-b.ensures number c.slot-in-Copy.ensures.sees c.copies_object.ensures.0)
+    let number = number_told c.form_of-form.ensures c.in-Copy.is (omega arith) in record { object_below = c.copies_object.ensures.1; line_tells = copy_tells c.part.ensures c.part-a.ensures c.part-b.ensures number c.slot-in-Copy.ensures.sees c.copies_object.ensures.0 }
 
 pub returns-in-NoForm : goal.returns-in-NoForm
 returns-in-NoForm c =
-    let told = c.form_of-form.ensures in
-    let ks = all_but (Field ∷ Swap ∷ Send ∷ Recv ∷ Copy ∷ []) in
-    let one = c.in-NoForm.keys6 in
-    (tt, others_quiet c.part.ensures (not_told ks told one tt) (not_told ks told one tt) (not_told ks told one tt) (not_told ks told one tt) (not_told ks told one tt))
+    let ks = all_but (Field ∷ Swap ∷ Send ∷ Recv ∷ Copy ∷ []) in record { object_below = tt; line_tells = others_quiet c.part.ensures (not_told ks c.form_of-form.ensures c.in-NoForm.is tt) (not_told ks c.form_of-form.ensures c.in-NoForm.is tt) (not_told ks c.form_of-form.ensures c.in-NoForm.is tt) (not_told ks c.form_of-form.ensures c.in-NoForm.is tt) (not_told ks c.form_of-form.ensures c.in-NoForm.is tt) }

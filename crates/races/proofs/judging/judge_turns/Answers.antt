@@ -24,7 +24,7 @@ pub play-played-requires : goal.play-played-requires
 play-played-requires c = record { in_bounds = (c.requires.in_bounds.0, omega (arith, c.requires.in_bounds.2, c.loop-k.invariant.same_length)); in_bounds_2 = (omega (arith, c.loop-k.invariant.wide.receives), omega (arith, c.loop-k.invariant.wide.reads), omega (arith, c.loop-k.invariant.wide.read_puts), omega (arith, c.loop-k.invariant.wide.swaps), omega (arith, c.loop-k.invariant.wide.swap_puts)) }
 
 pub enum_told-1 : goal.enum_told-1
-enum_told-1 c = c.in-Halted.keys1
+enum_told-1 c = c.in-Halted.is
 
 pub shape_of-s-in-Halted : goal.shape_of-s-in-Halted
 shape_of-s-in-Halted c =
@@ -55,7 +55,7 @@ returns-in-Halted c =
     let a = c.args in judging_stops c.loop-k.invariant c.loop-k-test.true c.requires.in_bounds.1 (subst (λ r. Plays a.p.now c.loop-k.s (get_or a.turns.now c.loop-k.k 0) (c.loop-k.k + 1) (marks c.loop-k.receives c.loop-k.reads c.loop-k.read-puts c.loop-k.swaps c.loop-k.swap-puts) r c.play-played.new.s (marks c.play-played.new.receives c.play-played.new.reads c.play-played.new.read_puts c.play-played.new.swaps c.play-played.new.swap_puts)) c.in-Halted.is c.play-played.ensures)
 
 pub enum_known-played : goal.enum_known-played
-enum_known-played c = c.in-Goes.keys2
+enum_known-played c = c.in-Goes.is
 
 pub overflow_sub-result : goal.overflow_sub-result
 overflow_sub-result c = omega (arith, c.if-found-ne0.true)

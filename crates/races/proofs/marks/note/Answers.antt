@@ -9,8 +9,7 @@ use Rattle.races.proofs.marks.note.Goals as goal
 pub latest_on-last-requires : goal.latest_on-last-requires
 latest_on-last-requires c =
     let below = subst (ObjectBelow 256) §at-event.event.given.1 c.requires.object_below.0 in
-    let wide = c.requires.in_bounds in
-    (omega (arith, wide.1, wide.2, wide.3, wide.4), omega (arith, wide.1, wide.2, wide.3, wide.4), wide.0, c.requires.object_below.2, below, omega arith)
+    (omega (arith, c.requires.in_bounds.1, c.requires.in_bounds.2, c.requires.in_bounds.3, c.requires.in_bounds.4), omega (arith, c.requires.in_bounds.1, c.requires.in_bounds.2, c.requires.in_bounds.3, c.requires.in_bounds.4), c.requires.in_bounds.0, c.requires.object_below.2, below, omega arith)
 
 pub bounds-reads-at : goal.bounds-reads-at
 bounds-reads-at c =
@@ -23,14 +22,12 @@ bounds-read_puts-at c =
 pub latest_on-x-requires : goal.latest_on-x-requires
 latest_on-x-requires c =
     let below = subst (ObjectBelow 256) §at-event2.event2.given.1 c.requires.object_below.0 in
-    let wide = c.requires.in_bounds in
-    (omega (arith, wide.1, wide.2, wide.3, wide.4), omega (arith, wide.1, wide.2, wide.3, wide.4), wide.0, c.requires.object_below.2, below, omega arith)
+    (omega (arith, c.requires.in_bounds.1, c.requires.in_bounds.2, c.requires.in_bounds.3, c.requires.in_bounds.4), omega (arith, c.requires.in_bounds.1, c.requires.in_bounds.2, c.requires.in_bounds.3, c.requires.in_bounds.4), c.requires.in_bounds.0, c.requires.object_below.2, below, omega arith)
 
 pub latest_on-y-requires : goal.latest_on-y-requires
 latest_on-y-requires c =
     let below = subst (ObjectBelow 256) §at-event2.event2.given.1 c.requires.object_below.0 in
-    let wide = c.requires.in_bounds in
-    (omega (arith, wide.1, wide.2, wide.3, wide.4), omega (arith, wide.1, wide.2, wide.3, wide.4), wide.0, c.requires.object_below.2, below, omega arith)
+    (omega (arith, c.requires.in_bounds.1, c.requires.in_bounds.2, c.requires.in_bounds.3, c.requires.in_bounds.4), omega (arith, c.requires.in_bounds.1, c.requires.in_bounds.2, c.requires.in_bounds.3, c.requires.in_bounds.4), c.requires.in_bounds.0, c.requires.object_below.2, below, omega arith)
 
 pub bounds-swaps-at : goal.bounds-swaps-at
 bounds-swaps-at c =

@@ -18,27 +18,21 @@ message_for-requires c =
 
 pub returns-in-Absent : goal.returns-in-Absent
 returns-in-Absent c =
-    let is-send = number_told c.form_of-form.ensures c.in-Send.keys1 (omega arith) in
-    let place = locates c.frame_count-n.ensures.sees c.if-n-eq0.false c.locate-h.ensures.placed.1 c.locate-h.ensures.stands in
-    (tt, target_absent place c.locate-h.ensures.placed.1 c.part.ensures c.part-in-Send.ensures is-send c.slot-x.ensures.sees c.in-Absent.is)
+    let is-send = number_told c.form_of-form.ensures c.in-Send.is (omega arith) in
+    let place = locates c.frame_count-n.ensures.sees c.if-n-eq0.false c.locate-h.ensures.placed.1 c.locate-h.ensures.stands in record { in_table = tt; sees_in_flight = target_absent place c.locate-h.ensures.placed.1 c.part.ensures c.part-in-Send.ensures is-send c.slot-x.ensures.sees c.in-Absent.is }
 
 pub returns-in-Obj : goal.returns-in-Obj
 returns-in-Obj c =
-    let is-send = number_told c.form_of-form.ensures c.in-Send.keys1 (omega arith) in
-    let place = locates c.frame_count-n.ensures.sees c.if-n-eq0.false c.locate-h.ensures.placed.1 c.locate-h.ensures.stands in
-    (tt, target_object place c.locate-h.ensures.placed.1 c.part.ensures c.part-in-Send.ensures is-send c.slot-x.ensures.sees c.in-Obj.is)
+    let is-send = number_told c.form_of-form.ensures c.in-Send.is (omega arith) in
+    let place = locates c.frame_count-n.ensures.sees c.if-n-eq0.false c.locate-h.ensures.placed.1 c.locate-h.ensures.stands in record { in_table = tt; sees_in_flight = target_object place c.locate-h.ensures.placed.1 c.part.ensures c.part-in-Send.ensures is-send c.slot-x.ensures.sees c.in-Obj.is }
 
 pub returns-in-Chan : goal.returns-in-Chan
 returns-in-Chan c =
-    let is-send = number_told c.form_of-form.ensures c.in-Send.keys1 (omega arith) in
-    let place = locates c.frame_count-n.ensures.sees c.if-n-eq0.false c.locate-h.ensures.placed.1 c.locate-h.ensures.stands in (
-      c.message_for.ensures.in_table,
-      target_channel place c.locate-h.ensures.placed.1 c.part.ensures c.part-in-Send.ensures is-send c.slot-x.ensures.sees
-          c.in-Chan.is c.sender.ensures.sees c.message_for.ensures.sees,
-    )
+    let is-send = number_told c.form_of-form.ensures c.in-Send.is (omega arith) in
+    let place = locates c.frame_count-n.ensures.sees c.if-n-eq0.false c.locate-h.ensures.placed.1 c.locate-h.ensures.stands in record { in_table = c.message_for.ensures.in_table; sees_in_flight = target_channel place c.locate-h.ensures.placed.1 c.part.ensures c.part-in-Send.ensures is-send c.slot-x.ensures.sees
+          c.in-Chan.is c.sender.ensures.sees c.message_for.ensures.sees }
 
 pub returns-in-NoForm : goal.returns-in-NoForm
 returns-in-NoForm c =
-    let no-send = not_told (all_but (Send ∷ [])) c.form_of-form.ensures c.in-NoForm.keys2 tt in
-    let place = locates c.frame_count-n.ensures.sees c.if-n-eq0.false c.locate-h.ensures.placed.1 c.locate-h.ensures.stands in
-    (tt, at_no_send place c.locate-h.ensures.placed.1 c.part.ensures no-send)
+    let no-send = not_told (all_but (Send ∷ [])) c.form_of-form.ensures c.in-NoForm.is tt in
+    let place = locates c.frame_count-n.ensures.sees c.if-n-eq0.false c.locate-h.ensures.placed.1 c.locate-h.ensures.stands in record { in_table = tt; sees_in_flight = at_no_send place c.locate-h.ensures.placed.1 c.part.ensures no-send }

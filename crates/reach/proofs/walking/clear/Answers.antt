@@ -15,16 +15,13 @@ loop-i-init c = (search rules, refl, refl)
 
 pub loop-i-preserved : goal.loop-i-preserved
 loop-i-preserved c =
-    let l = c.args.list.now in
-    let lp = c.loop-i in (
+    (
       omega arith,
-      simp length-set lp.invariant.1,
-      ap (λ x. set x lp.i 0) lp.invariant.2 ∙ zero_more l 0 256 lp.i lp.i (sym (zero-add lp.i)) (omega arith) (omega arith),
+      simp length-set c.loop-i.invariant.1,
+      ap (λ x. set x c.loop-i.i 0) c.loop-i.invariant.2 ∙ zero_more c.args.list.now 0 256 c.loop-i.i c.loop-i.i (sym (zero-add c.loop-i.i)) (omega arith) (omega arith),
     )
 
 pub returns : goal.returns
 returns c =
-    let l = c.args.list.now in
-    let lp = c.loop-i in
-    let all : lp.i ≡ 256 = omega arith in
-    lp.invariant.2 ∙ ap (paste l 0 (zeros 256)) all ∙ all_cleared l
+    let all : c.loop-i.i ≡ 256 = omega arith in
+    c.loop-i.invariant.2 ∙ ap (paste c.args.list.now 0 (zeros 256)) all ∙ all_cleared c.args.list.now

@@ -16,11 +16,10 @@ loop-i-init c =
 
 pub put_if-n-requires : goal.put_if-n-requires
 put_if-n-requires c =
-    let loop = c.loop-i in
     omega (
       arith,
-      loop.invariant.2.few,
-      loop.invariant.1,
+      c.loop-i.invariant.2.few,
+      c.loop-i.invariant.1,
       c.clear.auto.0,
       c.requires.1,
       c.loop-i-test.true,
@@ -28,14 +27,10 @@ put_if-n-requires c =
 
 pub loop-i-preserved : goal.loop-i-preserved
 loop-i-preserved c =
-    let loop = c.loop-i in
-    let put = c.put_if-n in
-    (omega arith, put.auto.0 ∙ loop.invariant.1, number_next loop.invariant.2 c.loop-i-test.true _ refl put.ensures.0 put.ensures.1)
+    (omega arith, c.put_if-n.auto.0 ∙ c.loop-i.invariant.1, number_next c.loop-i.invariant.2 c.loop-i-test.true _ refl c.put_if-n.ensures.0 c.put_if-n.ensures.1)
 
 pub shape_of-list : goal.shape_of-list
 shape_of-list c = c.loop-i.invariant.1 ∙ c.clear.auto.0
 
 pub returns : goal.returns
-returns c =
-    let loop = c.loop-i in
-    all_listed c.args.list.now c.clear.ensures c.loop-i-test.false loop.invariant.0 loop.invariant.2
+returns c = let all = all_listed c.args.list.now c.clear.ensures c.loop-i-test.false c.loop-i.invariant.0 c.loop-i.invariant.2 in record { value = all.0; list_after = all.1 }

@@ -14,29 +14,27 @@ pub loop-i-init : goal.loop-i-init
 loop-i-init c = let a = c.args in (omega arith, refl, refl, row_begins (λ S. (frame_at S a.t a.k).slots), same_tally)
 
 pub frame_slot-requires : goal.frame_slot-requires
-frame_slot-requires c = let pre = c.requires in (pre.0, pre.4, pre.5, c.loop-i-test.true)
+frame_slot-requires c = (c.requires.0, c.requires.4, c.requires.5, c.loop-i-test.true)
 
 pub walk-met-requires : goal.walk-met-requires
 walk-met-requires c =
-    let pre = c.requires in
-    let inv = c.loop-i.invariant in (
-      pre.0,
-      omega (arith, inv.1, pre.1),
-      omega (arith, inv.2, pre.2),
+    (
+      c.requires.0,
+      omega (arith, c.loop-i.invariant.1, c.requires.1),
+      omega (arith, c.loop-i.invariant.2, c.requires.2),
       c.frame_slot.ensures.value.1,
-      omega (arith, inv.4.room, pre.3),
+      omega (arith, c.loop-i.invariant.4.room, c.requires.3),
     )
 
 pub loop-i-preserved : goal.loop-i-preserved
 loop-i-preserved c =
     let a = c.args in
-    let loop = c.loop-i in
-    let walk = c.walk-met in (
+    (
       omega arith,
-      walk.auto.1.0 ∙ loop.invariant.1,
-      walk.auto.1.1.0 ∙ loop.invariant.2,
-      row_next (λ S. (frame_at S a.t a.k).slots) loop.i (slot_seen a.t a.k loop.i c.frame_slot.ensures.sees) loop.invariant.3 walk.ensures.0,
-      grows_then loop.invariant.4 walk.ensures.1,
+      c.walk-met.auto.1.0 ∙ c.loop-i.invariant.1,
+      c.walk-met.auto.1.1.0 ∙ c.loop-i.invariant.2,
+      row_next (λ S. (frame_at S a.t a.k).slots) c.loop-i.i (slot_seen a.t a.k c.loop-i.i c.frame_slot.ensures.sees) c.loop-i.invariant.3 c.walk-met.ensures.walks,
+      grows_then c.loop-i.invariant.4 c.walk-met.ensures.grows,
     )
 
 pub shape_of-places : goal.shape_of-places
@@ -47,4 +45,4 @@ shape_of-order c = c.loop-i.invariant.2
 
 pub returns : goal.returns
 returns c =
-    let a = c.args in (frame_walked a.t a.k c.loop-i.i c.loop-i-test.false c.loop-i.invariant.3, c.loop-i.invariant.4)
+    let a = c.args in record { walks = frame_walked a.t a.k c.loop-i.i c.loop-i-test.false c.loop-i.invariant.3; grows = c.loop-i.invariant.4 }

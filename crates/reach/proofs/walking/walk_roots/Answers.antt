@@ -6,13 +6,12 @@ use Rattle.reach.proofs.walking.walk_roots.Goals as goal
 
 pub walk-requires : goal.walk-requires
 walk-requires c =
-    let pre = c.requires in
-    let thread = c.walk_thread-n in (
-      pre.1,
-      omega (arith, thread.auto.1.0, pre.2),
-      omega (arith, thread.auto.1.1.0, pre.3),
+    (
+      c.requires.1,
+      omega (arith, c.walk_thread-n.auto.1.0, c.requires.2),
+      omega (arith, c.walk_thread-n.auto.1.1.0, c.requires.3),
       c.in_flight.ensures.in_table,
-      omega (arith, thread.ensures.1.room, few_unmet 256 c.args.places.now),
+      omega (arith, c.walk_thread-n.ensures.grows.room, few_unmet 256 c.args.places.now),
     )
 
 pub returns : goal.returns

@@ -20,19 +20,15 @@ past_mosts c e =
 
 pub returns-then-not-in_place : goal.returns-then-not-in_place
 returns-then-not-in_place c =
-    let p = c.in_place in
-    faults_alone p.ensures (λ full. rw (not-true p.result c.if-not-in_place.true-raw))
+    faults_alone c.in_place.ensures (λ full. rw (not-true c.in_place.result c.if-not-in_place.true-raw))
 
 pub returns-then-l : goal.returns-then-l
 returns-then-l c =
-    let p = c.in_place in
-    faults_alone p.ensures (λ full. rw (not-false p.result c.if-not-in_place.false-raw, c.if-l.true))
+    faults_alone c.in_place.ensures (λ full. rw (not-false c.in_place.result c.if-not-in_place.false-raw, c.if-l.true))
 
 pub returns-then-is_full : goal.returns-then-is_full
 returns-then-is_full c =
-    let p = c.in_place in
-    let f = c.is_full in
-    faults p.ensures f.ensures (rw (not-false p.result c.if-not-in_place.false-raw, c.if-l.false, c.if-is_full.true))
+    faults c.in_place.ensures c.is_full.ensures (rw (not-false c.in_place.result c.if-not-in_place.false-raw, c.if-l.false, c.if-is_full.true))
 
 pub returns-then-r-l : goal.returns-then-r-l
 returns-then-r-l c =

@@ -19,23 +19,21 @@ use Rattle.reader.proofs.faults.in_place.Goals as goal
 pub returns-then-r-eq0 : goal.returns-then-r-eq0
 unfolding in_place
 returns-then-r-eq0 c =
-    let r = c.args.r in
     record {
       is = λ F e p.
-          let (k, s, q) = is_copy F e (number_told c.form_of-named.ensures c.in-Copy.keys3 (omega arith)) in
-          rw (q, place_outside r.opener r.filled, eq-eqb r.opener 0 c.if-r-eq0.true);
+          let (k, s, q) = is_copy F e (number_told c.form_of-named.ensures c.in-Copy.is (omega arith)) in
+          rw (q, place_outside c.args.r.opener c.args.r.filled, eq-eqb c.args.r.opener 0 c.if-r-eq0.true);
     }
 
 pub returns-in-Kind : goal.returns-in-Kind
 unfolding in_place
-returns-in-Kind c = record { is = λ F e p. let (K, k) = is_kind F (told F e) (number_told c.form_of-named.ensures c.in-Kind.keys1 (omega arith)) in rw k }
+returns-in-Kind c = record { is = λ F e p. let (K, k) = is_kind F (told F e) (number_told c.form_of-named.ensures c.in-Kind.is (omega arith)) in rw k }
 
 pub returns-in-Thread : goal.returns-in-Thread
 unfolding in_place
 returns-in-Thread c =
-    let r = c.args.r in
-    let between = opener_number c.form_of-named.ensures c.in-Thread.keys2 in
-    record { is = λ F e p. let (o, k, n) = is_opener F (told F e) between.0 between.1 in rw (k, place_outside r.opener r.filled) }
+    let between = opener_number c.form_of-named.ensures c.in-Thread.is in
+    record { is = λ F e p. let (o, k, n) = is_opener F (told F e) between.0 between.1 in rw (k, place_outside c.args.r.opener c.args.r.filled) }
 
 pub returns-else-r-eq0 : goal.returns-else-r-eq0
 unfolding in_place in_edition
@@ -44,7 +42,7 @@ returns-else-r-eq0 c =
     let d = edition_of a.r.second in
     record {
       is = λ F e p.
-          let (k, s, q) = is_copy F e (number_told c.form_of-named.ensures c.in-Copy.keys3 (omega arith)) in
+          let (k, s, q) = is_copy F e (number_told c.form_of-named.ensures c.in-Copy.is (omega arith)) in
           let cap : cap_of a.part ≡ k = ap cap_of (p ∙ ap (λ (X : Form). get_or (row X) 1 0) q ∙ copy_part k s) ∙ cap_of_rank k in
           rw (q, place_outside a.r.opener a.r.filled, ne_eqb a.r.opener 0 c.if-r-eq0.false) (c.may_copy.ensures ∙ ap (may_copy d) cap);
     }
@@ -52,13 +50,10 @@ returns-else-r-eq0 c =
 pub returns-in-NoForm : goal.returns-in-NoForm
 unfolding in_place
 returns-in-NoForm c =
-    let r = c.args.r in
-    let told-by = c.form_of-named.ensures in
-    let others = c.in-NoForm.keys4 in
     let ks = all_but (Kind ∷ Thread ∷ Method ∷ Copy ∷ []) in
     record {
       is = λ F e p.
-          let (x, k) = is_line F (told F e) (not_told ks told-by others tt) (no_opener told-by ks others tt tt) in
-          let both = in_both_editions (edition_of r.second) x (e ∙ ap number_of k) (not_told ks told-by others tt) in
-          rw (k, place_outside r.opener r.filled, both) (sym (and-true (not (eqb r.opener 0))));
+          let (x, k) = is_line F (told F e) (not_told ks c.form_of-named.ensures c.in-NoForm.is tt) (no_opener c.form_of-named.ensures ks c.in-NoForm.is tt tt) in
+          let both = in_both_editions (edition_of c.args.r.second) x (e ∙ ap number_of k) (not_told ks c.form_of-named.ensures c.in-NoForm.is tt) in
+          rw (k, place_outside c.args.r.opener c.args.r.filled, both) (sym (and-true (not (eqb c.args.r.opener 0))));
     }

@@ -14,15 +14,12 @@ loop-i-init c = (search rules, search rules, refl)
 
 pub returns-then-s-i-eq10 : goal.returns-then-s-i-eq10
 returns-then-s-i-eq10 c =
-    let s = c.args.s.now in
-    (sym (c.loop-i.invariant.2 ∙ rw (lf_here s c.loop-i.i c.loop-i-test.true c.if-s-i-eq10.true, add-zero)), omega arith)
+    (sym (c.loop-i.invariant.2 ∙ rw (lf_here c.args.s.now c.loop-i.i c.loop-i-test.true c.if-s-i-eq10.true, add-zero)), omega arith)
 
 pub loop-i-preserved : goal.loop-i-preserved
 loop-i-preserved c =
-    let s = c.args.s.now in
-    (omega arith, omega arith, c.loop-i.invariant.2 ∙ lf_further s c.loop-i.i c.loop-i-test.true c.if-s-i-eq10.false)
+    (omega arith, omega arith, c.loop-i.invariant.2 ∙ lf_further c.args.s.now c.loop-i.i c.loop-i-test.true c.if-s-i-eq10.false)
 
 pub returns : goal.returns
 returns c =
-    let s = c.args.s.now in
-    (sym (c.loop-i.invariant.2 ∙ rw (lf_nowhere s c.loop-i.i c.loop-i-test.false, add-zero)), c.loop-i.invariant.1)
+    (sym (c.loop-i.invariant.2 ∙ rw (lf_nowhere c.args.s.now c.loop-i.i c.loop-i-test.false, add-zero)), c.loop-i.invariant.1)

@@ -6,8 +6,4 @@ use Rattle.reader.proofs.finder.find_line.Goals as goal
 
 pub returns : goal.returns
 unfolding find_line
-returns c =
-    let f = c.find_lf-end in
-    let l = c.line_start-at in
-    let s = c.args.s.now in
-    (part_without_lf s l.result f.result f.ensures.0 ∙ ap without_lf (sym l.ensures.0), rw (← l.ensures.2))
+returns c = record { result_value = part_without_lf c.args.s.now c.line_start-at.result c.find_lf-end.result c.find_lf-end.ensures.0 ∙ ap without_lf (sym c.line_start-at.ensures.0); ref_ptr_value = rw (← c.line_start-at.ensures.2) }

@@ -15,24 +15,19 @@ loop-i-init c = (search rules, search rules, rw sub-zero, rw (sub-zero, zero-add
 
 pub returns-then-s-e : goal.returns-then-s-e
 returns-then-s-e c =
-    let f = c.find_lf-e in
-    let l = c.loop-i in
     let a = c.args in
-    let r = past_last a.s.now l.at f.result a.n l.i f.ensures.0 l.invariant.0 c.if-s-e.true c.loop-i-test.true in
-    (l.invariant.2 ∙ r.0, omega arith, sym r.1 ∙ l.invariant.3)
+    let r = past_last a.s.now c.loop-i.at c.find_lf-e.result a.n c.loop-i.i c.find_lf-e.ensures.0 c.loop-i.invariant.0 c.if-s-e.true c.loop-i-test.true in
+    (c.loop-i.invariant.2 ∙ r.0, omega arith, sym r.1 ∙ c.loop-i.invariant.3)
 
 pub loop-i-preserved : goal.loop-i-preserved
 loop-i-preserved c =
-    let f = c.find_lf-e in
-    let l = c.loop-i in
     let a = c.args in
-    let r = past_lf a.s.now l.at f.result a.n l.i f.ensures.0 c.if-s-e.false c.loop-i-test.true in
-    (omega arith, omega arith, l.invariant.2 ∙ r.0, sym r.1 ∙ l.invariant.3)
+    let r = past_lf a.s.now c.loop-i.at c.find_lf-e.result a.n c.loop-i.i c.find_lf-e.ensures.0 c.if-s-e.false c.loop-i-test.true in
+    (omega arith, omega arith, c.loop-i.invariant.2 ∙ r.0, sym r.1 ∙ c.loop-i.invariant.3)
 
 pub returns : goal.returns
 returns c =
-    let l = c.loop-i in
     let a = c.args in
-    let here = lines (drop l.at a.s.now) in
-    let none : a.n - l.i ≡ 0 = omega arith in
-    (l.invariant.2 ∙ ap (λ (k : ℕ). get_or here k []) none, l.invariant.0, omega (arith, ap (λ (k : ℕ). start_of k here) none, start_of_first here))
+    let here = lines (drop c.loop-i.at a.s.now) in
+    let none : a.n - c.loop-i.i ≡ 0 = omega arith in
+    (c.loop-i.invariant.2 ∙ ap (λ (k : ℕ). get_or here k []) none, c.loop-i.invariant.0, omega (arith, ap (λ (k : ℕ). start_of k here) none, start_of_first here))

@@ -10,16 +10,11 @@ loop-n-init c =
     (omega arith, at_first_line a.t.now a.kinds a.blocks a.lines)
 
 pub returns-then-line_dangles : goal.returns-then-line_dangles
-returns-then-line_dangles c =
-    let lp = c.loop-n in
-    (line_found lp.invariant.1 c.line_dangles.ensures c.if-line_dangles.true c.loop-n-test.true, omega arith)
+returns-then-line_dangles c = record { first_dangling = line_found c.loop-n.invariant.1 c.line_dangles.ensures c.if-line_dangles.true c.loop-n-test.true; upper_bound = omega arith }
 
 pub loop-n-preserved : goal.loop-n-preserved
 loop-n-preserved c =
-    let lp = c.loop-n in
-    (omega arith, line_passed lp.invariant.1 c.line_dangles.ensures c.if-line_dangles.false c.loop-n-test.true)
+    (omega arith, line_passed c.loop-n.invariant.1 c.line_dangles.ensures c.if-line_dangles.false c.loop-n-test.true)
 
 pub returns : goal.returns
-returns c =
-    let lp = c.loop-n in
-    (no_line_left lp.invariant.1 c.loop-n-test.false, omega arith)
+returns c = record { first_dangling = no_line_left c.loop-n.invariant.1 c.loop-n-test.false; upper_bound = omega arith }

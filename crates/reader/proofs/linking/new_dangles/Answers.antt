@@ -10,20 +10,18 @@ use Rattle.reader.proofs.linking.new_dangles.Goals as goal
 pub returns-then-kinds-kind : goal.returns-then-kinds-kind
 returns-then-kinds-kind c =
     let a = c.args in
-    let kind = c.line_word-kind in
     record {
       is = λ P b table k h nine.
-          no_such_kind P b (form_at P a.n) (small_line table a.n h) nine kind.result (line_word_is table kind.ensures.1 h) (omega (arith, c.if-kinds-kind.true));
+          no_such_kind P b (form_at P a.n) (small_line table a.n h) nine c.line_word-kind.result (line_word_is table c.line_word-kind.ensures.line_word h) (omega (arith, c.if-kinds-kind.true));
     }
 
 pub returns : goal.returns
 returns c =
     let a = c.args in
-    let kind = c.line_word-kind in
     record {
       is = λ P b table k h nine.
-          let there : kind.result < length P.kinds = omega (arith, c.if-kinds-kind.false) in
-          fields_given P b (form_at P a.n) (small_line table a.n h) nine kind.result (line_word_is table kind.ensures.1 h)
+          let there : c.line_word-kind.result < length P.kinds = omega (arith, c.if-kinds-kind.false) in
+          fields_given P b (form_at P a.n) (small_line table a.n h) nine c.line_word-kind.result (line_word_is table c.line_word-kind.ensures.line_word h)
           c.kind_fields.result c.given.result c.given-2.result c.given-3.result c.given-4.result there
           (c.kind_fields.ensures.kind_fields.is P table.counts table.rest table.filled there)
           (c.given.ensures.0 ∙ ap given (line_word_is table c.line_word.ensures.line_word h))

@@ -11,21 +11,15 @@ returns-then-r-eq0 c = record { finishes = record { is = rw (eq-eqb c.args.r.blo
 
 pub returns-then-r-ne0 : goal.returns-then-r-ne0
 unfolding R.finish
-returns-then-r-ne0 c =
-    let r = c.args.r in
-    (record { is = rw (ne_eqb r.blocks 0 c.if-r-eq0.false, place_outside r.opener r.filled, ne_eqb r.opener 0 c.if-r-ne0.true) }, refl)
+returns-then-r-ne0 c = record { finishes = record { is = rw (ne_eqb c.args.r.blocks 0 c.if-r-eq0.false, place_outside c.args.r.opener c.args.r.filled, ne_eqb c.args.r.opener 0 c.if-r-ne0.true) }; result_value = refl }
 
 pub returns : goal.returns
 unfolding R.finish
-returns c =
-    let r = c.args.r in (
-      record {
+returns c = record { finishes = record {
         is = (
-          rw (ne_eqb r.blocks 0 c.if-r-eq0.false, place_outside r.opener r.filled, eq-eqb r.opener 0 c.if-r-ne0.false),
+          rw (ne_eqb c.args.r.blocks 0 c.if-r-eq0.false, place_outside c.args.r.opener c.args.r.filled, eq-eqb c.args.r.opener 0 c.if-r-ne0.false),
           refl,
           refl,
           refl,
         );
-      },
-      refl,
-    )
+      }; result_value = refl }

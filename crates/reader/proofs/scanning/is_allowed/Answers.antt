@@ -33,9 +33,7 @@ returns-in-97-to-122 c = sym (passes allowed 97 26 c.args.b refl (omega arith) (
 
 pub returns-in_default : goal.returns-in_default
 returns-in_default c =
-    let b = c.args.b in
-    let r = c.in_default-1.rest.1 in
-    sym (not-true _ (rw (ne_eqb b lf (λ e. r (inl e)), ne_eqb b space (λ e. r (inr e))) at (before_brackets b (omega arith))))
+    sym (not-true _ (rw (ne_eqb c.args.b lf (λ e. c.in_default-1.rest.1 (inl e)), ne_eqb c.args.b space (λ e. c.in_default-1.rest.1 (inr e))) at (before_brackets c.args.b (omega arith))))
 
 -- between the brackets and 0
 pub returns-in_default-2 : goal.returns-in_default-2
@@ -55,7 +53,7 @@ returns-in_default-4 c = sym (not-true _ (passes (λ x. not (allowed x)) 123 133
 -- LF and space
 pub returns-in-40 : goal.returns-in-40
 unfolding allowed
-returns-in-40 c = ⊎_elim (λ e. rw e) (λ e. rw e) c.in-40.keys1
+returns-in-40 c = ⊎_elim (λ e. rw e) (λ e. rw e) c.in-40.is
 
 -- the brackets
 pub returns-in-40-2 : goal.returns-in-40-2

@@ -14,17 +14,12 @@ loop-i-init c = (search rules, refl)
 
 pub returns-then-not-is_allowed : goal.returns-then-not-is_allowed
 returns-then-not-is_allowed c =
-    let r = c.is_allowed in
-    let s = c.args.s.now in
-    sym (c.loop-i.invariant.1 ∙ stray_here s c.loop-i.i c.loop-i-test.true (sym r.ensures ∙ not-true _ c.if-not-is_allowed.true-raw))
+    sym (c.loop-i.invariant.1 ∙ stray_here c.args.s.now c.loop-i.i c.loop-i-test.true (sym c.is_allowed.ensures ∙ not-true _ c.if-not-is_allowed.true-raw))
 
 pub loop-i-preserved : goal.loop-i-preserved
 loop-i-preserved c =
-    let r = c.is_allowed in
-    let s = c.args.s.now in
-    (omega arith, c.loop-i.invariant.1 ∙ stray_further s c.loop-i.i c.loop-i-test.true (sym r.ensures ∙ not-false _ c.if-not-is_allowed.false-raw))
+    (omega arith, c.loop-i.invariant.1 ∙ stray_further c.args.s.now c.loop-i.i c.loop-i-test.true (sym c.is_allowed.ensures ∙ not-false _ c.if-not-is_allowed.false-raw))
 
 pub returns : goal.returns
 returns c =
-    let s = c.args.s.now in
-    sym (c.loop-i.invariant.1 ∙ stray_nowhere s c.loop-i.i c.loop-i-test.false)
+    sym (c.loop-i.invariant.1 ∙ stray_nowhere c.args.s.now c.loop-i.i c.loop-i-test.false)

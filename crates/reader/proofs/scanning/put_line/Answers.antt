@@ -10,17 +10,17 @@ use Rattle.reader.proofs.scanning.put_line.Goals as goal
 pub returns-then-b-lt64 : goal.returns-then-b-lt64
 returns-then-b-lt64 c =
     let a = c.args in
-    let between = opener_number c.form_of-named.ensures c.in-Thread.keys1 in
+    let between = opener_number c.form_of-named.ensures c.in-Thread.is in
     put_opener a.n a.b a.l _ _ (omega arith) (omega arith) between.0 between.1 c.add_opener.ensures.opener_added
 
 pub returns-else-b-lt64 : goal.returns-else-b-lt64
 returns-else-b-lt64 c =
     let a = c.args in
-    let between = opener_number c.form_of-named.ensures c.in-Thread.keys1 in
+    let between = opener_number c.form_of-named.ensures c.in-Thread.is in
     put_none a.n a.b a.l _ _ (omega arith) between.0 between.1
 
 pub returns-in-NoForm : goal.returns-in-NoForm
 returns-in-NoForm c =
     let a = c.args in
-    let other = no_opener c.form_of-named.ensures (all_but (Thread ∷ Method ∷ [])) c.in-NoForm.keys2 tt tt in
+    let other = no_opener c.form_of-named.ensures (all_but (Thread ∷ Method ∷ [])) c.in-NoForm.is tt tt in
     put_other a.n a.b a.l _ _ (omega arith) other c.add_line.ensures.line_added

@@ -20,8 +20,7 @@ line_passes c =
 pub loop-at-init : goal.loop-at-init
 loop-at-init c =
     let a = c.args in
-    let h = c.requires in
-    at_start a.second a.text.now a.words.now (record { kinds = h.0; blocks = h.1; lets = h.2 })
+    at_start a.second a.text.now a.words.now (record { kinds = c.requires.0; blocks = c.requires.1; lets = c.requires.2 })
 
 pub line_at-l-requires : goal.line_at-l-requires
 line_at-l-requires c = (omega arith, omega arith)
@@ -33,9 +32,7 @@ pub shape_of-words-then-not-l : goal.shape_of-words-then-not-l
 shape_of-words-then-not-l c = c.loop-at.invariant.same_length
 
 pub returns-then-not-l : goal.returns-then-not-l
-returns-then-not-l c =
-    let s = c.loop-at.invariant in
-    (unfit_line s c.line_at-l.ensures c.loop-at-test.true (not-true _ c.if-not-l.true) c.unfit_fault.ensures, few_lines s)
+returns-then-not-l c = record { scans = unfit_line c.loop-at.invariant c.line_at-l.ensures c.loop-at-test.true (not-true _ c.if-not-l.true) c.unfit_fault.ensures; result_bound = few_lines c.loop-at.invariant }
 
 pub fault-k-requires : goal.fault-k-requires
 fault-k-requires c = tt
@@ -44,34 +41,27 @@ pub shape_of-words-then-k-ne0 : goal.shape_of-words-then-k-ne0
 shape_of-words-then-k-ne0 c = c.loop-at.invariant.same_length
 
 pub returns-then-k-ne0 : goal.returns-then-k-ne0
-returns-then-k-ne0 c =
-    let s = c.loop-at.invariant in
-    (refused_line s c.line_at-l.ensures (not-false _ c.if-not-l.false) c.fault-k.ensures c.if-k-ne0.true, few_lines s)
+returns-then-k-ne0 c = record { scans = refused_line c.loop-at.invariant c.line_at-l.ensures (not-false _ c.if-not-l.false) c.fault-k.ensures c.if-k-ne0.true; result_bound = few_lines c.loop-at.invariant }
 
 pub put_line-requires : goal.put_line-requires
 put_line-requires c =
-    let s = c.loop-at.invariant in
-    (omega (arith, s.same_length), room s (line_passes §c.before))
+    (omega (arith, c.loop-at.invariant.same_length), room c.loop-at.invariant (line_passes §c.before))
 
 pub after_line-next-requires : goal.after_line-next-requires
 after_line-next-requires c = small c.loop-at.invariant
 
 pub overflow_add-n : goal.overflow_add-n
 overflow_add-n c =
-    let s = c.loop-at.invariant in
-    let h = room s (line_passes §c.before.before.before.before.before) in
+    let h = room c.loop-at.invariant (line_passes §c.before.before.before.before.before) in
     omega arith
 
 pub loop-at-smaller : goal.loop-at-smaller
 loop-at-smaller c =
-    let s = c.loop-at.invariant in
-    further s (line_passes §c.before.before.before.before.before) c.loop-at-test.true
+    further c.loop-at.invariant (line_passes §c.before.before.before.before.before) c.loop-at-test.true
 
 pub loop-at-preserved : goal.loop-at-preserved
 loop-at-preserved c =
-    let s = c.loop-at.invariant in
-    let put = c.put_line in
-    next_line s (line_passes §c.before.before.before.before.before) put.ensures §c.after_Line.ensures put.auto.0
+    next_line c.loop-at.invariant (line_passes §c.before.before.before.before.before) c.put_line.ensures §c.after_Line.ensures c.put_line.auto.0
 
 pub finish-requires : goal.finish-requires
 finish-requires c = tt
@@ -80,6 +70,4 @@ pub shape_of-words : goal.shape_of-words
 shape_of-words c = c.loop-at.invariant.same_length
 
 pub returns : goal.returns
-returns c =
-    let s = c.loop-at.invariant in
-    (at_end s c.loop-at-test.false c.finish.ensures.finishes, omega (arith, c.finish.ensures.result_value, few_lines s))
+returns c = record { scans = at_end c.loop-at.invariant c.loop-at-test.false c.finish.ensures.finishes; result_bound = omega (arith, c.finish.ensures.result_value, few_lines c.loop-at.invariant) }

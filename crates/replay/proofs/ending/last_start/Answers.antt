@@ -13,26 +13,19 @@ returns-then-s-eq0 c =
 
 pub loop-at-init : goal.loop-at-init
 loop-at-init c =
-    let s = c.args.s.now in
-    (omega arith, last_byte s (length s - 1) (omega arith) (omega arith))
+    (omega arith, last_byte c.args.s.now (length c.args.s.now - 1) (omega arith) (omega arith))
 
 pub returns-then-s-at-eq10 : goal.returns-then-s-at-eq10
 returns-then-s-at-eq10 c =
-    let loop = c.loop-at in
-    let s = c.args.s.now in
-    let cut = after_lf s (loop.at - 1) loop.at (omega arith) (omega arith) c.if-s-at-eq10.true loop.invariant.1 in
+    let cut = after_lf c.args.s.now (c.loop-at.at - 1) c.loop-at.at (omega arith) (omega arith) c.if-s-at-eq10.true c.loop-at.invariant.1 in
     (cut.before, cut.last, omega arith)
 
 pub loop-at-preserved : goal.loop-at-preserved
 loop-at-preserved c =
-    let loop = c.loop-at in
-    let s = c.args.s.now in
-    (omega arith, byte_before s (loop.at - 1) loop.at (omega arith) (omega arith) c.if-s-at-eq10.false loop.invariant.1)
+    (omega arith, byte_before c.args.s.now (c.loop-at.at - 1) c.loop-at.at (omega arith) (omega arith) c.if-s-at-eq10.false c.loop-at.invariant.1)
 
 pub returns : goal.returns
 returns c =
-    let loop = c.loop-at in
-    let s = c.args.s.now in
-    let start : 0 ≡ loop.at = omega arith in
-    let cut = subst (Cut s) start (none_before s (subst (OneLine s) (sym start) loop.invariant.1)) in
+    let start : 0 ≡ c.loop-at.at = omega arith in
+    let cut = subst (Cut c.args.s.now) start (none_before c.args.s.now (subst (OneLine c.args.s.now) (sym start) c.loop-at.invariant.1)) in
     (cut.before, cut.last, omega arith)

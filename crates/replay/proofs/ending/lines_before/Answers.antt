@@ -15,14 +15,9 @@ loop-i-init c = (search rules, search rules, rw zero-add)
 
 pub loop-i-preserved : goal.loop-i-preserved
 loop-i-preserved c =
-    let loop = c.loop-i in
-    let here = c.lf_here-n.ensures in
-    let s = c.args.s.now in
-    let next = count_byte s loop.i c.loop-i-test.true in
-    (omega arith, omega arith, omega (arith, loop.invariant.2, next, here.0))
+    let next = count_byte c.args.s.now c.loop-i.i c.loop-i-test.true in
+    (omega arith, omega arith, omega (arith, c.loop-i.invariant.2, next, c.lf_here-n.ensures.0))
 
 pub returns : goal.returns
 returns c =
-    let loop = c.loop-i in
-    let s = c.args.s.now in
-    omega (arith, loop.invariant.2, count_last s loop.i (omega arith))
+    omega (arith, c.loop-i.invariant.2, count_last c.args.s.now c.loop-i.i (omega arith))

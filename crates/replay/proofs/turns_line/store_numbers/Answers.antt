@@ -12,18 +12,17 @@ loop-more-init c =
     (none_stored refl refl refl refl c.requires.1 c.byte-more.ensures, refl)
 
 pub overflow_add-l : goal.overflow_add-l
-overflow_add-l c = let l = c.loop-more.invariant.0.limit in omega arith
+overflow_add-l c = omega arith
 
 pub number_at-w-requires : goal.number_at-w-requires
-number_at-w-requires c = let l = c.loop-more.invariant.0.limit in omega arith
+number_at-w-requires c = omega arith
 
 pub bounds-turns-n : goal.bounds-turns-n
 bounds-turns-n c =
-    let so_far = c.loop-more.invariant in
-    omega (arith, room_left so_far.0 c.loop-more-test.true c.requires.0, so_far.1, c.requires.2)
+    omega (arith, room_left c.loop-more.invariant.0 c.loop-more-test.true c.requires.0, c.loop-more.invariant.1, c.requires.2)
 
 pub overflow_add-l-in-loop-more : goal.overflow_add-l-in-loop-more
-overflow_add-l-in-loop-more c = let l = c.loop-more.invariant.0.few in omega arith
+overflow_add-l-in-loop-more c = omega arith
 
 pub loop-more-smaller : goal.loop-more-smaller
 loop-more-smaller c =
@@ -32,19 +31,15 @@ loop-more-smaller c =
 
 pub loop-more-preserved : goal.loop-more-preserved
 loop-more-preserved c =
-    let part = c.number_at-w in
-    let loop = c.loop-more in
-    let room = room_left loop.invariant.0 c.loop-more-test.true c.requires.0 in (
-      number_stored loop.invariant.0 c.loop-more-test.true part.result part.ensures.0 c.requires.0 part.ensures.1.2
-          (omega (arith, room, loop.invariant.1, c.requires.2)) refl c.over.ensures refl refl c.either.ensures refl
+    let room = room_left c.loop-more.invariant.0 c.loop-more-test.true c.requires.0 in (
+      number_stored c.loop-more.invariant.0 c.loop-more-test.true c.number_at-w.result c.number_at-w.ensures.s_value c.requires.0 c.number_at-w.ensures.word_bound.2
+          (omega (arith, room, c.loop-more.invariant.1, c.requires.2)) refl c.over.ensures refl refl c.either.ensures refl
           c.byte.ensures c.both-more.ensures,
-      length-set loop.turns _ _ ∙ loop.invariant.1,
+      length-set c.loop-more.turns _ _ ∙ c.loop-more.invariant.1,
     )
 
 pub shape_of-turns : goal.shape_of-turns
 shape_of-turns c = c.loop-more.invariant.1
 
 pub returns : goal.returns
-returns c =
-    let so_far = c.loop-more.invariant.0 in
-    (all_stored so_far c.loop-more-test.false, (so_far.few, so_far.limit))
+returns c = record { numbers_stored = all_stored c.loop-more.invariant.0 c.loop-more-test.false; count_bound = (c.loop-more.invariant.0.few, c.loop-more.invariant.0.limit) }

@@ -7,10 +7,8 @@ use Rattle.replay.proofs.TurnsLine.{turns_short, line_told}
 use Rattle.replay.proofs.turns_line.turns_line.Goals as goal
 
 pub returns-then-s-lt8 : goal.returns-then-s-lt8
-returns-then-s-lt8 c =
-    rw c.line_by.ensures (turns_short c.args.s.now c.args.at c.if-s-lt8.true, omega arith)
+returns-then-s-lt8 c = let all = rw c.line_by.ensures (turns_short c.args.s.now c.args.at c.if-s-lt8.true, omega arith) in record { s_value = all.0; result_bound = all.1 }
 
 pub returns : goal.returns
-returns c =
-    line_told c.args.at c.store_numbers-list.ensures.numbers_stored c.begins_at-opened.ensures c.begins_at-closed.ensures c.line_by-2.result
-    (c.both-fits.ensures ∙ rw c.both.ensures) c.both-whole.ensures c.line_by-2.ensures c.store_numbers-list.ensures.count_bound.0
+returns c = let all = line_told c.args.at c.store_numbers-list.ensures.numbers_stored c.begins_at-opened.ensures c.begins_at-closed.ensures c.line_by-2.result
+    (c.both-fits.ensures ∙ rw c.both.ensures) c.both-whole.ensures c.line_by-2.ensures c.store_numbers-list.ensures.count_bound.0 in record { s_value = all.0; result_bound = all.1 }

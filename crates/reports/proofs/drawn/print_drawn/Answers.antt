@@ -9,8 +9,7 @@ use Rattle.std.proofs.Common.{rules}
 use Rattle.reports.proofs.drawn.print_drawn.Goals as goal
 
 pub returns-then-output-lt65536 : goal.returns-then-output-lt65536
-returns-then-output-lt65536 c =
-    short_in Most.drawing (drawn_text c.args.input.now) c.args.output.now c.if-output-lt65536.true
+returns-then-output-lt65536 c = let all = short_in Most.drawing (drawn_text c.args.input.now) c.args.output.now c.if-output-lt65536.true in record { value = all.0; output_after = all.1 }
 
 pub print_graph_cut-requires : goal.print_graph_cut-requires
 print_graph_cut-requires c =
@@ -18,15 +17,12 @@ print_graph_cut-requires c =
     (fit.0, fit.1, search rules)
 
 pub returns-in-Away : goal.returns-in-Away
-returns-in-Away c =
-    rw (drawn_told c.split-parts.ensures (search rules) _ c.in-Away.is)
-    (long_in Most.drawing _ c.args.output.now (omega arith) c.if-output-lt65536.false c.print_refusal.ensures)
+returns-in-Away c = let all = rw (drawn_told c.split-parts.ensures (search rules) _ c.in-Away.is)
+    (long_in Most.drawing _ c.args.output.now (omega arith) c.if-output-lt65536.false c.print_refusal.ensures) in record { value = all.0; output_after = all.1 }
 
 pub returns-in-Fault : goal.returns-in-Fault
-returns-in-Fault c =
-    rw (drawn_told c.split-parts.ensures (search rules) _ c.in-Fault.is)
-    (long_in Most.drawing _ c.args.output.now (omega arith) c.if-output-lt65536.false c.print_refusal-in-Fault.ensures)
+returns-in-Fault c = let all = rw (drawn_told c.split-parts.ensures (search rules) _ c.in-Fault.is)
+    (long_in Most.drawing _ c.args.output.now (omega arith) c.if-output-lt65536.false c.print_refusal-in-Fault.ensures) in record { value = all.0; output_after = all.1 }
 
 pub returns-in-Turns : goal.returns-in-Turns
-returns-in-Turns c =
-    rw (drawn_told c.split-parts.ensures (search rules) _ c.in-Turns.is) c.print_graph_cut.ensures
+returns-in-Turns c = let all = rw (drawn_told c.split-parts.ensures (search rules) _ c.in-Turns.is) c.print_graph_cut.ensures in record { value = all.0; output_after = all.1 }

@@ -7,8 +7,7 @@ use Rattle.std.proofs.Common.{rules}
 use Rattle.reports.proofs.raced.print_race.Goals as goal
 
 pub returns-then-output-lt32768 : goal.returns-then-output-lt32768
-returns-then-output-lt32768 c =
-    short_output (race_text c.args.input.now) c.args.output.now c.if-output-lt32768.true
+returns-then-output-lt32768 c = let all = short_output (race_text c.args.input.now) c.args.output.now c.if-output-lt32768.true in record { value = all.0; output_after = all.1 }
 
 pub print_verdict_cut-requires : goal.print_verdict_cut-requires
 print_verdict_cut-requires c =
@@ -16,13 +15,10 @@ print_verdict_cut-requires c =
     (fit.0, fit.1, search rules)
 
 pub returns-in-Away : goal.returns-in-Away
-returns-in-Away c =
-    rw (race_told c.split-parts.ensures (search rules) _ c.in-Away.is) c.print_refusal.ensures
+returns-in-Away c = let all = rw (race_told c.split-parts.ensures (search rules) _ c.in-Away.is) c.print_refusal.ensures in record { value = all.0; output_after = all.1 }
 
 pub returns-in-Fault : goal.returns-in-Fault
-returns-in-Fault c =
-    rw (race_told c.split-parts.ensures (search rules) _ c.in-Fault.is) c.print_refusal-in-Fault.ensures
+returns-in-Fault c = let all = rw (race_told c.split-parts.ensures (search rules) _ c.in-Fault.is) c.print_refusal-in-Fault.ensures in record { value = all.0; output_after = all.1 }
 
 pub returns-in-Turns : goal.returns-in-Turns
-returns-in-Turns c =
-    rw (race_told c.split-parts.ensures (search rules) _ c.in-Turns.is) c.print_verdict_cut.ensures
+returns-in-Turns c = let all = rw (race_told c.split-parts.ensures (search rules) _ c.in-Turns.is) c.print_verdict_cut.ensures in record { value = all.0; output_after = all.1 }

@@ -19,14 +19,11 @@ returns-in-Ended c = plays_all (c.loop-stretch.invariant.0 _ c.play_from-stretch
 
 pub play_past-stretch-requires : goal.play_past-stretch-requires
 play_past-stretch-requires c =
-    let inv = c.loop-stretch.invariant in
-    let first = c.play_from-stretch in
-    (c.requires.0, omega (arith, inv.1, first.auto.1.0, c.requires.1), c.requires.2, ((inv.0 _ first.ensures).next _ _ _ c.in-AtCopy.is).1)
+    (c.requires.0, omega (arith, c.loop-stretch.invariant.1, c.play_from-stretch.auto.1.0, c.requires.1), c.requires.2, ((c.loop-stretch.invariant.0 _ c.play_from-stretch.ensures).next _ _ _ c.in-AtCopy.is).1)
 
 pub loop-stretch-smaller : goal.loop-stretch-smaller
 loop-stretch-smaller c = fewer_left (c.loop-stretch.invariant.0 _ c.play_from-stretch.ensures) c.in-AtCopy.is c.play_past-stretch.ensures
 
 pub loop-stretch-preserved : goal.loop-stretch-preserved
 loop-stretch-preserved c =
-    let inv = c.loop-stretch.invariant in
-    (λ l plays. plays_past (inv.0 l plays) c.in-AtCopy.is c.play_past-stretch.ensures, c.play_past-stretch.auto.1.0 ∙ inv.1)
+    (λ l plays. plays_past (c.loop-stretch.invariant.0 l plays) c.in-AtCopy.is c.play_past-stretch.ensures, c.play_past-stretch.auto.1.0 ∙ c.loop-stretch.invariant.1)

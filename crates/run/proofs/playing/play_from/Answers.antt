@@ -66,25 +66,23 @@ returns-in_default c =
 
 pub loop-i-preserved : goal.loop-i-preserved
 loop-i-preserved c =
-    let few = c.requires.2 in
-    let more = c.loop-i-test.true in
     ⊎_elim
     (λ w. let at = (looked (record { before = record { before = §c.before; if1 = w.0 }; if2 = w.1 })).playing in
     same_playing w.12 w.13 w.14 w.15 w.16
-    (turn_goes_next at more refl few w.2.taken w.10.given.1 w.6.ensures w.6.kept.1.0 w.11.ensures.0 w.11.ensures.3))
+    (turn_goes_next at c.loop-i-test.true refl c.requires.2 w.2.taken w.10.given.1 w.6.ensures w.6.kept.1.0 w.11.ensures.0 w.11.ensures.3))
     (⊎_elim
     (λ w. let at = (looked (record { before = record { before = §c.before; if1 = w.0 }; if2 = w.1 })).playing in
-    same_playing w.11 w.12 w.13 w.14 w.15 (turn_stays at more refl few w.2.taken w.10.given.1 w.6.ensures w.6.kept.1.0))
+    same_playing w.11 w.12 w.13 w.14 w.15 (turn_stays at c.loop-i-test.true refl c.requires.2 w.2.taken w.10.given.1 w.6.ensures w.6.kept.1.0))
     (⊎_elim
     (λ w. let at = (looked (record { before = record { before = §c.before; if1 = w.0 }; if2 = w.1 })).playing in
-    same_playing w.11 w.12 w.13 w.14 w.15 (turn_leaves_frame at more refl few w.2.taken w.10.given.1 w.6.ensures w.6.kept.1.0))
+    same_playing w.11 w.12 w.13 w.14 w.15 (turn_leaves_frame at c.loop-i-test.true refl c.requires.2 w.2.taken w.10.given.1 w.6.ensures w.6.kept.1.0))
     (⊎_elim
     (λ w. let at = (looked (record { before = record { before = §c.before; if1 = w.0 }; if2 = w.1 })).playing in
-    same_playing w.11 w.12 w.13 w.14 w.15 (turn_waits at more refl few w.2.taken w.10.given.1 w.6.ensures w.6.kept.1.0))
+    same_playing w.11 w.12 w.13 w.14 w.15 (turn_waits at c.loop-i-test.true refl c.requires.2 w.2.taken w.10.given.1 w.6.ensures w.6.kept.1.0))
     (⊎_elim
     (λ w. same_playing w.3 w.4 w.5 w.6 w.7
-    (turn_idles (looked (record { before = record { before = §c.before; if1 = w.0 }; if2 = w.1 })) more refl w.2.left))
-    (λ w. same_playing w.1 w.2 w.3 w.4 w.5 (no_turn c.loop-i.invariant more refl w.0.left))))))
+    (turn_idles (looked (record { before = record { before = §c.before; if1 = w.0 }; if2 = w.1 })) c.loop-i-test.true refl w.2.left))
+    (λ w. same_playing w.1 w.2 w.3 w.4 w.5 (no_turn c.loop-i.invariant c.loop-i-test.true refl w.0.left))))))
     c.if-t-lt16.branch
 
 pub returns : goal.returns

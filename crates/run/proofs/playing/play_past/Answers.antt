@@ -7,7 +7,7 @@ use Rattle.run.proofs.playing.play_past.Goals as goal
 
 pub returns-in-Next : goal.returns-in-Next
 returns-in-Next c =
-    moves_past c.requires.3 c.requires.2 c.perform_copy-step.ensures (these_steps_move c.perform_copy-step.result c.in-Next.keys1) c.play_from.ensures
+    moves_past c.requires.3 c.requires.2 c.perform_copy-step.ensures (these_steps_move c.perform_copy-step.result c.in-Next.is) c.play_from.ensures
 
 pub returns-in-Waits : goal.returns-in-Waits
 returns-in-Waits c =

@@ -7,7 +7,7 @@ use Rattle.sheet.proofs.cap_lines.cap_named.Goals as goal
 
 pub returns-in-New : goal.returns-in-New
 returns-in-New c =
-    named_some c.line_word.ensures.line_word c.form_of-form.ensures c.line_word-in-New.ensures.line_word (c.cap_number.ensures ∙ ap (λ k. suc (rank k)) c.cap_of.ensures) c.in-New.keys1
+    named_some c.line_word.ensures.line_word c.form_of-form.ensures c.line_word-in-New.ensures.line_word (c.cap_number.ensures ∙ ap (λ k. suc (rank k)) c.cap_of.ensures) c.in-New.is
 
 pub returns-in-NoForm : goal.returns-in-NoForm
-returns-in-NoForm c = named_none c.line_word.ensures.line_word c.form_of-form.ensures c.in-NoForm.keys2
+returns-in-NoForm c = named_none c.line_word.ensures.line_word c.form_of-form.ensures c.in-NoForm.is

@@ -8,5 +8,4 @@ returns-then-line-eq0 c = rw (← c.find_line-line.ensures.result_value) (none_l
 
 pub returns : goal.returns
 returns c =
-    let found = c.find_line-line in
-    rw (last_byte found.result.now, found.ensures.0) refl
+    rw (last_byte c.find_line-line.result.now, c.find_line-line.ensures.result_value) refl

@@ -13,6 +13,5 @@ returns-then-line-eq0 c =
 pub returns : goal.returns
 returns c =
     let start = c.args in
-    let n = c.width-n in
-    same_text 216 (shown_some start.number start.line.now n.result c.if-line-eq0.false n.ensures.0) (omega (arith, n.ensures.2))
+    same_text 216 (shown_some start.number start.line.now c.width-n.result c.if-line-eq0.false c.width-n.ensures.0) (omega (arith, c.width-n.ensures.2))
     (c.put_text-a.ensures ▹ c.put_visible-b.ensures ▹ c.put_text-c.ensures ▹ c.put_marks-d.ensures ▹ c.put_text.ensures)

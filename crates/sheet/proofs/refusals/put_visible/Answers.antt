@@ -18,8 +18,7 @@ loop-i-init c = (search rules, search rules, rw (add-zero c.args.at) (nothing 0 
 pub loop-i-preserved : goal.loop-i-preserved
 loop-i-preserved c =
     let start = c.args in
-    let turn = c.loop-i in
-    (search rules, search rules, rw c.visible.ensures (one_more_as visibleByte start.line.now turn.i (search rules) (search rules) turn.invariant.2))
+    (search rules, search rules, rw c.visible.ensures (one_more_as visibleByte start.line.now c.loop-i.i (search rules) (search rules) c.loop-i.invariant.2))
 
 pub shape_of-buf : goal.shape_of-buf
 shape_of-buf c = c.loop-i.invariant.1
@@ -27,6 +26,5 @@ shape_of-buf c = c.loop-i.invariant.1
 pub returns : goal.returns
 returns c =
     let start = c.args in
-    let end = c.loop-i in
-    let all : end.i ≡ start.n = omega arith in
-    same_text start.n (ap (λ (k : ℕ). map visibleByte (take k start.line.now)) all) (omega arith) end.invariant.2
+    let all : c.loop-i.i ≡ start.n = omega arith in
+    same_text start.n (ap (λ (k : ℕ). map visibleByte (take k start.line.now)) all) (omega arith) c.loop-i.invariant.2

@@ -8,10 +8,8 @@ returns-then-b-lt32 c = rw (lt-ltb c.args.b 32 c.if-b-lt32.true) refl
 
 pub returns-then-b-gt126 : goal.returns-then-b-gt126
 returns-then-b-gt126 c =
-    let b = c.args.b in
-    rw (le-ltb b 32 c.if-b-lt32.false, lt-ltb 126 b c.if-b-gt126.true) refl
+    rw (le-ltb c.args.b 32 c.if-b-lt32.false, lt-ltb 126 c.args.b c.if-b-gt126.true) refl
 
 pub returns : goal.returns
 returns c =
-    let b = c.args.b in
-    rw (le-ltb b 32 c.if-b-lt32.false, le-ltb 126 b c.if-b-gt126.false) refl
+    rw (le-ltb c.args.b 32 c.if-b-lt32.false, le-ltb 126 c.args.b c.if-b-gt126.false) refl

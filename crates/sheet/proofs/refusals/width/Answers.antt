@@ -6,5 +6,4 @@ use Rattle.sheet.proofs.refusals.width.Goals as goal
 
 pub returns-then-line-lt100 : goal.returns-then-line-lt100
 returns-then-line-lt100 c =
-    let l = c.args.line.now in
-    (take-length l ∙ sym (take_all 100 l (omega arith)), omega arith, omega arith)
+    (take-length c.args.line.now ∙ sym (take_all 100 c.args.line.now (omega arith)), omega arith, omega arith)

@@ -12,4 +12,4 @@ use Rattle.sheet.proofs.sheets.put_away.Goals as goal
 pub returns : goal.returns
 unfolding away_sheet
 returns c =
-    same_text 8192 (ap (λ (t : List ℕ). heading ++ (part_one (turned_away c.args.number 0) t ++ unread_end)) (no_bytes c.args.none.now c.requires.1)) (omega arith) (c.put_text-a.ensures ▹ §at-put-refused.Put-refused.ensures ▹ c.put_unread.ensures)
+    same_text 8192 (ap (λ (t : List ℕ). heading ++ (part_one (turned_away c.args.number 0) t ++ unread_end)) (no_bytes c.args.none.now c.requires.1)) (omega arith) (c.put_text-a.ensures ▹ c.put_refused-b.ensures ▹ c.put_unread.ensures)

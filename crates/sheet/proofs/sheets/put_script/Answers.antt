@@ -7,7 +7,7 @@ use Rattle.sheet.proofs.sheets.put_script.Goals as goal
 pub returns-in-Refused : goal.returns-in-Refused
 unfolding fresh_table
 returns-in-Refused c =
-    script_refused c.make-read.ensures refl c.in-Refused.is §at-put-refused.Put-refused.ensures c.put_unexamined.ensures
+    script_refused c.make-read.ensures refl c.in-Refused.is c.put_refused-a.ensures c.put_unexamined.ensures
 
 pub returns-in-Read : goal.returns-in-Read
 unfolding fresh_table

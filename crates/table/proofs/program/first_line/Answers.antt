@@ -5,8 +5,7 @@ use Rattle.table.proofs.program.first_line.Goals as goal
 
 pub returns : goal.returns
 returns c =
-    let word = c.shared_slice_known-1.given (8 + c.args.b) in
-    ((refl, omega arith), record { is = λ counts rest Fs filled. first_line_is filled c.args.b (omega arith) })
+    let word = c.shared_slice_known-1.given (8 + c.args.b) in record { value = (refl, omega arith); first_line = record { is = λ counts rest Fs filled. first_line_is filled c.args.b (omega arith) } }
 
 pub overflow_cast-result : goal.overflow_cast-result
 overflow_cast-result c = omega (arith, c.shared_slice_known-1.given (8 + c.args.b))

@@ -7,7 +7,4 @@ use Rattle.table.proofs.program.kind_fields.Goals as goal
 pub returns : goal.returns
 returns c =
     let a = c.args in
-    let place : 72 + a.n * 8 + 1 ≡ 73 + a.n * 8 = omega arith in (
-      c.line_word.ensures.value ∙ ap (λ i. get_or a.t.now i 0) place,
-      record { is = λ P counts rest filled h. c.line_word.ensures.line_word.is counts rest (lines_of P) filled (kind_there P a.n h) ∙ kind_fields_is P a.n h },
-    )
+    let place : 72 + a.n * 8 + 1 ≡ 73 + a.n * 8 = omega arith in record { value = c.line_word.ensures.value ∙ ap (λ i. get_or a.t.now i 0) place; kind_fields = record { is = λ P counts rest filled h. c.line_word.ensures.line_word.is counts rest (lines_of P) filled (kind_there P a.n h) ∙ kind_fields_is P a.n h } }

@@ -7,10 +7,7 @@ use Rattle.table.proofs.program.kind_method.Goals as goal
 pub returns : goal.returns
 returns c =
     let a = c.args in
-    let place : 72 + a.n * 8 + (a.i + 2) ≡ 74 + a.n * 8 + a.i = omega arith in (
-      c.line_word.ensures.value ∙ ap (λ i. get_or a.t.now i 0) place,
-      record {
+    let place : 72 + a.n * 8 + (a.i + 2) ≡ 74 + a.n * 8 + a.i = omega arith in record { value = c.line_word.ensures.value ∙ ap (λ i. get_or a.t.now i 0) place; kind_method = record {
         is = λ P counts rest filled h.
             c.line_word.ensures.line_word.is counts rest (lines_of P) filled (kind_there P a.n h) ∙ kind_method_is P a.n h a.i (omega arith);
-      },
-    )
+      } }

@@ -5,5 +5,4 @@ use Rattle.table.proofs.program.line_word.Goals as goal
 
 pub returns : goal.returns
 returns c =
-    let a = c.args in
-    (refl, record { is = λ counts rest Fs filled h. line_word_is filled a.n a.k _ h (omega arith) refl })
+    let a = c.args in record { value = refl; line_word = record { is = λ counts rest Fs filled h. line_word_is filled a.n a.k _ h (omega arith) refl } }

@@ -15,7 +15,4 @@ bounds-t-3 c = simp length-set (omega arith)
 
 pub returns : goal.returns
 returns c =
-    let a = c.args in (
-      sets-eq (a.kinds ∷ a.blocks ∷ a.lines ∷ a.edition ∷ []) a.t.now 0 (omega arith),
-      record { counted = λ rest Fs filled. counts_added filled a.kinds a.blocks a.lines a.edition _ refl },
-    )
+    let a = c.args in record { t_after = sets-eq (a.kinds ∷ a.blocks ∷ a.lines ∷ a.edition ∷ []) a.t.now 0 (omega arith); counted = record { counted = λ rest Fs filled. counts_added filled a.kinds a.blocks a.lines a.edition _ refl } }

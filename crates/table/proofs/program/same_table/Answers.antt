@@ -31,8 +31,7 @@ returns-then-t-i c =
 pub loop-i-preserved : goal.loop-i-preserved
 loop-i-preserved c =
     let start = c.args in
-    let lp = c.loop-i in
-    (search rules, one_more start.t.now start.words.now lp.i (search rules) (search rules) c.if-t-i.false lp.invariant.1)
+    (search rules, one_more start.t.now start.words.now c.loop-i.i (search rules) (search rules) c.if-t-i.false c.loop-i.invariant.1)
 
 pub returns : goal.returns
 returns c =

@@ -4,4 +4,4 @@ use Rattle.table.proofs.StateReads.{cap_seen}
 use Rattle.table.proofs.state.cap.Goals as goal
 
 pub returns : goal.returns
-returns c = let told = c.cap_of.ensures in (told, cap_seen _ _ _ (omega arith) told)
+returns c = record { value = c.cap_of.ensures; sees = cap_seen _ _ _ (omega arith) c.cap_of.ensures }

@@ -4,4 +4,4 @@ use Rattle.std.proofs.Common.{rules}
 use Rattle.table.proofs.state.cap_of.Goals as goal
 
 pub returns-in_default : goal.returns-in_default
-returns-in_default c = let other = c.in_default.rest in other_cap _ other.0.0.1 other.0.1 other.1
+returns-in_default c = other_cap _ c.in_default.in_default-own.rest.0.0.1 c.in_default.in_default-own.rest.0.1 c.in_default.in_default-own.rest.1

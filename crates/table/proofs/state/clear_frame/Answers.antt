@@ -11,11 +11,10 @@ pub loop-i-preserved : goal.loop-i-preserved
 loop-i-preserved c =
     let a = c.args in
     let at = a.h.frame in
-    let placed = c.requires.1 in
-    let lp = c.loop-i in (
+    (
       omega arith,
-      simp length-set lp.invariant.1,
-      ap (λ l. set l (at + lp.i) 0) lp.invariant.2 ∙ zero_more a.s.now at 19 lp.i _ refl (omega arith) (omega arith),
+      simp length-set c.loop-i.invariant.1,
+      ap (λ l. set l (at + c.loop-i.i) 0) c.loop-i.invariant.2 ∙ zero_more a.s.now at 19 c.loop-i.i _ refl (omega arith) (omega arith),
     )
 
 pub bounds-s-t-2 : goal.bounds-s-t-2
@@ -24,8 +23,6 @@ bounds-s-t-2 c = simp length-set (omega arith)
 pub returns : goal.returns
 returns c =
     let a = c.args in
-    let placed = c.requires.1 in
-    let lp = c.loop-i in
-    let all : lp.i ≡ 19 = omega arith in
-    let zero : lp.s ≡ paste a.s.now a.h.frame (zeros 19) 19 = lp.invariant.2 ∙ ap (paste a.s.now a.h.frame (zeros 19)) all in
-    record { becomes = λ S rest held inner. rw zero (frame_left held a.h.thread a.h.depth placed.thread a.h.frame placed.depth inner placed.frame) }
+    let all : c.loop-i.i ≡ 19 = omega arith in
+    let zero : c.loop-i.s ≡ paste a.s.now a.h.frame (zeros 19) 19 = c.loop-i.invariant.2 ∙ ap (paste a.s.now a.h.frame (zeros 19)) all in
+    record { becomes = λ S rest held inner. rw zero (frame_left held a.h.thread a.h.depth c.requires.1.thread a.h.frame c.requires.1.depth inner c.requires.1.frame) }

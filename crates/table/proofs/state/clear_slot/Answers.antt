@@ -6,9 +6,6 @@ use Rattle.table.proofs.state.clear_slot.Goals as goal
 pub returns : goal.returns
 returns c =
     let a = c.args in
-    let h = a.h in (
-      refl,
-      record {
+    let h = a.h in record { s_after = refl; becomes = record {
         becomes = λ S rest held has. slot_cleared held h.thread h.depth h.frame c.requires.1.thread c.requires.1.depth c.requires.1.frame a.i c.requires.2 has;
-      },
-    )
+      } }

@@ -8,5 +8,4 @@ returns-then-j-ge4 c = record { in_table = tt; sees = no_field_seen _ _ _ c.if-j
 
 pub returns : goal.returns
 returns c =
-    let a = c.args in
-    (c.unpack.ensures.1, field_seen a.o a.j (omega arith) (omega arith) c.unpack.ensures.0)
+    let a = c.args in record { in_table = c.unpack.ensures.1; sees = field_seen a.o a.j (omega arith) (omega arith) c.unpack.ensures.0 }

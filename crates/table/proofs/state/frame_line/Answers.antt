@@ -6,4 +6,4 @@ use Rattle.table.proofs.state.frame_line.Goals as goal
 
 pub returns : goal.returns
 unfolding frame_words
-returns c = let a = c.args in (refl, record { sees = λ S rest held any. frame_word held a.t a.k 1 _ (omega arith) (omega arith) (omega arith) (omega arith) })
+returns c = let a = c.args in record { value = refl; sees = record { sees = λ S rest held any. frame_word held a.t a.k 1 _ (omega arith) (omega arith) (omega arith) (omega arith) } }

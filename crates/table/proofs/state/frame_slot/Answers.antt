@@ -5,5 +5,4 @@ use Rattle.table.proofs.state.frame_slot.Goals as goal
 
 pub returns : goal.returns
 returns c =
-    let a = c.args in
-    (c.unpack.ensures, slot_seen a.t a.k a.i (2061 + a.t * 306 + a.k * 19 + a.i) (omega arith) (omega arith) (omega arith) (omega arith) c.unpack.ensures.0)
+    let a = c.args in record { value = c.unpack.ensures; sees = slot_seen a.t a.k a.i (2061 + a.t * 306 + a.k * 19 + a.i) (omega arith) (omega arith) (omega arith) (omega arith) c.unpack.ensures.0 }

@@ -13,11 +13,10 @@ bounds-s-at-in-Obj c =
     omega (arith, c.requires.0, object_in_table _ _ c.in-Obj.is c.requires.1)
 
 pub returns-in-Absent : goal.returns-in-Absent
-returns-in-Absent c = counts_by 1 _ _ c.requires.1 (absent_uncounted 1 _ c.in-Absent.is)
+returns-in-Absent c = let all = counts_by 1 _ _ c.requires.1 (absent_uncounted 1 _ c.in-Absent.is) in record { s_after = all.0; counts = all.1 }
 
 pub returns-in-Chan : goal.returns-in-Chan
-returns-in-Chan c = counts_by 1 _ _ c.requires.1 (channel_uncounted 1 _ c.in-Chan.is)
+returns-in-Chan c = let all = counts_by 1 _ _ c.requires.1 (channel_uncounted 1 _ c.in-Chan.is) in record { s_after = all.0; counts = all.1 }
 
 pub returns-in-Obj : goal.returns-in-Obj
-returns-in-Obj c =
-    counts_by 1 _ _ c.requires.1 (object_counted 1 _ c.in-Obj.is c.wrapping_add_u16.ensures)
+returns-in-Obj c = let all = counts_by 1 _ _ c.requires.1 (object_counted 1 _ c.in-Obj.is c.wrapping_add_u16.ensures) in record { s_after = all.0; counts = all.1 }

@@ -4,13 +4,8 @@ use Rattle.table.proofs.StateFrames.{on_its_line}
 use Rattle.table.proofs.state.locate.Goals as goal
 
 pub returns : goal.returns
-returns c =
-    let block = c.frame_block.ensures.sees in
-    let line = c.frame_line-l.ensures.sees in (
-      (record { thread = omega arith; depth = omega arith; frame = refl; row = omega arith; aligned = omega arith }, refl),
-      record {
+returns c = record { placed = (record { thread = omega arith; depth = omega arith; frame = refl; row = omega arith; aligned = omega arith }, refl); stands = record {
         depth = λ S rest held e few. omega arith;
         row = λ P S counts rest₁ rest₂ filled held there few.
-            on_its_line P filled there (block.sees S rest₂ held tt) (line.sees S rest₂ held tt) c.first_line-first.ensures.value.0 refl few;
-      },
-    )
+            on_its_line P filled there (c.frame_block.ensures.sees.sees S rest₂ held tt) (c.frame_line-l.ensures.sees.sees S rest₂ held tt) c.first_line-first.ensures.value.0 refl few;
+      } }

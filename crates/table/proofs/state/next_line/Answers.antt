@@ -4,5 +4,4 @@ use Rattle.table.proofs.state.next_line.Goals as goal
 
 pub returns : goal.returns
 returns c =
-    let placed = c.requires in
-    (record { thread = placed.thread; depth = placed.depth; frame = placed.frame; row = omega arith; aligned = omega arith }, refl, refl, refl)
+    (record { thread = c.requires.thread; depth = c.requires.depth; frame = c.requires.frame; row = omega arith; aligned = omega arith }, refl, refl, refl)

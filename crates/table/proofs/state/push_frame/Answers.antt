@@ -23,9 +23,8 @@ shape_of-s c = simp length-set
 
 pub returns : goal.returns
 returns c =
-    let placed = c.requires.1 in
     record {
       becomes = λ S rest held inner.
-          frame_called held c.args.h.thread c.args.h.depth placed.thread c.args.b c.args.h.frame _ _ _ _
-          c.pack-x.ensures c.pack-y.ensures (omega arith) inner placed.frame;
+          frame_called held c.args.h.thread c.args.h.depth c.requires.1.thread c.args.b c.args.h.frame _ _ _ _
+          c.pack-x.ensures c.pack-y.ensures (omega arith) inner c.requires.1.frame;
     }

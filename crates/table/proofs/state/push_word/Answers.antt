@@ -17,9 +17,6 @@ bounds-s-t c = simp length-set (omega arith)
 
 pub returns : goal.returns
 returns c =
-    let a = c.args in (
-      record {
+    let a = c.args in record { pushes = record {
         pushes = λ v same. record { becomes = λ S rest held room. word_pushed held a.t a.k a.at c.requires.1 c.requires.2 c.requires.3 v a.x same room };
-      },
-      simp length-set,
-    )
+      }; s_len_unchanged = simp length-set }

@@ -19,14 +19,13 @@ release-requires c =
 
 pub loop-i-preserved : goal.loop-i-preserved
 loop-i-preserved c =
-    let lp = c.loop-i in (
+    (
       omega arith,
       search rules,
-      rw (add-one lp.i) (one_more_released (omega arith) lp.invariant.2 c.slot-v.ensures.sees c.release.ensures.counts),
+      rw (add-one c.loop-i.i) (one_more_released (omega arith) c.loop-i.invariant.2 c.slot-v.ensures.sees c.release.ensures.counts),
     )
 
 pub returns : goal.returns
 returns c =
-    let lp = c.loop-i in
-    let all : lp.i ≡ c.slot_count.result % 17 = omega arith in
-    all_released (rw all at lp.invariant.2) c.slot_count.ensures.sees refl
+    let all : c.loop-i.i ≡ c.slot_count.result % 17 = omega arith in
+    all_released (rw all at c.loop-i.invariant.2) c.slot_count.ensures.sees refl

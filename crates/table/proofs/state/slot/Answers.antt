@@ -4,7 +4,4 @@ use Rattle.table.proofs.StateReads.{slot_seen}
 use Rattle.table.proofs.state.slot.Goals as goal
 
 pub returns : goal.returns
-returns c =
-    let h = c.args.h in
-    let placed = c.requires.1 in
-    (c.unpack.ensures, slot_seen h.thread h.depth c.args.i (h.frame + 3 + c.args.i) placed.thread placed.depth (omega arith) (omega (arith, placed.frame)) c.unpack.ensures.0)
+returns c = record { value = c.unpack.ensures; sees = slot_seen c.args.h.thread c.args.h.depth c.args.i (c.args.h.frame + 3 + c.args.i) c.requires.1.thread c.requires.1.depth (omega arith) (omega (arith, c.requires.1.frame)) c.unpack.ensures.0 }

@@ -4,8 +4,4 @@ use Rattle.table.proofs.StateRecords.{field_stored}
 use Rattle.table.proofs.state.store_field.Goals as goal
 
 pub returns : goal.returns
-returns c =
-    (
-      rw c.pack.ensures refl,
-      record { becomes = λ S rest held has. field_stored held c.args.o c.args.j _ _ (omega arith) (omega arith) c.pack.ensures has },
-    )
+returns c = record { s_after = rw c.pack.ensures refl; becomes = record { becomes = λ S rest held has. field_stored held c.args.o c.args.j _ _ (omega arith) (omega arith) c.pack.ensures has } }

@@ -8,11 +8,9 @@ loop-o-init c = (search rules, refl, none_erased c.args.s.now)
 
 pub loop-o-preserved : goal.loop-o-preserved
 loop-o-preserved c =
-    let lp = c.loop-o in
-    (omega arith, search rules, rw (add-one lp.o) (one_object_more lp.invariant.2 c.erase_object.ensures))
+    (omega arith, search rules, rw (add-one c.loop-o.o) (one_object_more c.loop-o.invariant.2 c.erase_object.ensures))
 
 pub returns : goal.returns
 returns c =
-    let lp = c.loop-o in
-    let all : lp.o ≡ 256 = omega arith in
-    all_erased (rw all at lp.invariant.2)
+    let all : c.loop-o.o ≡ 256 = omega arith in
+    all_erased (rw all at c.loop-o.invariant.2)

@@ -8,11 +8,9 @@ loop-n-init c = (search rules, refl, none_stripped c.args.t.now)
 
 pub loop-n-preserved : goal.loop-n-preserved
 loop-n-preserved c =
-    let lp = c.loop-n in
-    (omega arith, search rules, rw (add-one lp.n) (one_line_more lp.invariant.2 c.strip_line.ensures))
+    (omega arith, search rules, rw (add-one c.loop-n.n) (one_line_more c.loop-n.invariant.2 c.strip_line.ensures))
 
 pub returns : goal.returns
 returns c =
-    let lp = c.loop-n in
-    let all : lp.n ≡ 672 = omega arith in
-    all_stripped (rw all at lp.invariant.2)
+    let all : c.loop-n.n ≡ 672 = omega arith in
+    all_stripped (rw all at c.loop-n.invariant.2)

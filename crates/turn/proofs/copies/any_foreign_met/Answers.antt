@@ -10,15 +10,13 @@ loop-i-init c = (search rules, none_before)
 
 pub returns-then-is_foreign : goal.returns-then-is_foreign
 returns-then-is_foreign c =
-    let lp = c.loop-i in
     let a = c.args in
-    one_is_foreign a.s.now a.t a.order.now a.count lp.i c.loop-i-test.true c.requires.1 lp.invariant.1 c.is_foreign.ensures c.if-is_foreign.true
+    one_is_foreign a.s.now a.t a.order.now a.count c.loop-i.i c.loop-i-test.true c.requires.1 c.loop-i.invariant.1 c.is_foreign.ensures c.if-is_foreign.true
 
 pub loop-i-preserved : goal.loop-i-preserved
 loop-i-preserved c =
-    let lp = c.loop-i in
     let a = c.args in
-    (search rules, one_is_not a.s.now a.t a.order.now a.count lp.i c.loop-i-test.true c.requires.1 lp.invariant.1 c.is_foreign.ensures c.if-is_foreign.false)
+    (search rules, one_is_not a.s.now a.t a.order.now a.count c.loop-i.i c.loop-i-test.true c.requires.1 c.loop-i.invariant.1 c.is_foreign.ensures c.if-is_foreign.false)
 
 pub returns : goal.returns
 returns c =

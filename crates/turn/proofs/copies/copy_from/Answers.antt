@@ -13,13 +13,11 @@ walk-count-requires c = (search rules, search rules, search rules, c.requires.2,
 
 pub any_foreign_met-foreign-requires : goal.any_foreign_met-foreign-requires
 any_foreign_met-foreign-requires c =
-    let walked = c.walk-count in
-    (search rules, omega (arith, met_few walked.ensures.1))
+    (search rules, omega (arith, met_few c.walk-count.ensures.grows))
 
 pub overflow_add-used_up : goal.overflow_add-used_up
 overflow_add-used_up c =
-    let walked = c.walk-count in
-    omega (arith, met_few walked.ensures.1)
+    omega (arith, met_few c.walk-count.ensures.grows)
 
 pub returns-then-foreign : goal.returns-then-foreign
 returns-then-foreign c =
@@ -32,8 +30,7 @@ returns-then-used_up c =
 
 pub add_copies-requires : goal.add_copies-requires
 add_copies-requires c =
-    let walked = c.walk-count in
-    (search rules, search rules, omega (arith, met_few walked.ensures.1), omega (arith, ltb-false))
+    (search rules, search rules, omega (arith, met_few c.walk-count.ensures.grows), omega (arith, ltb-false))
 
 pub returns : goal.returns
 returns c =

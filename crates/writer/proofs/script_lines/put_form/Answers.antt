@@ -10,74 +10,74 @@ use Rattle.writer.proofs.script_lines.put_form.Goals as goal
 pub returns-in-Kind : goal.returns-in-Kind
 returns-in-Kind c =
     let x = c.args in
-    same_text 77 (kind_text x.a x.b x.c x.d x.e x.f (number_told c.form_of-named.ensures c.in-Kind.keys1 (omega arith))) (omega arith) c.put_kind.ensures
+    same_text 77 (kind_text x.a x.b x.c x.d x.e x.f (number_told c.form_of-named.ensures c.in-Kind.is (omega arith))) (omega arith) c.put_kind.ensures
 
 pub returns-in-Thread : goal.returns-in-Thread
 returns-in-Thread c =
     let x = c.args in
-    same_text 77 (thread_text x.a x.b x.c x.d x.e x.f (number_told c.form_of-named.ensures c.in-Thread.keys2 (omega arith))) (omega arith) c.put_text.ensures
+    same_text 77 (thread_text x.a x.b x.c x.d x.e x.f (number_told c.form_of-named.ensures c.in-Thread.is (omega arith))) (omega arith) c.put_text.ensures
 
 pub returns-in-Method : goal.returns-in-Method
 returns-in-Method c =
     let x = c.args in
-    same_text 77 (method_text x.a x.b x.c x.d x.e x.f (number_told c.form_of-named.ensures c.in-Method.keys3 (omega arith))) (omega arith) c.put_text-in-Method.ensures
+    same_text 77 (method_text x.a x.b x.c x.d x.e x.f (number_told c.form_of-named.ensures c.in-Method.is (omega arith))) (omega arith) c.put_text-in-Method.ensures
 
 pub returns-in-Give : goal.returns-in-Give
 returns-in-Give c =
     let x = c.args in
-    same_text 77 (give_text x.a x.b x.c x.d x.e x.f (number_told c.form_of-named.ensures c.in-Give.keys4 (omega arith))) (omega arith) c.put_value.ensures
+    same_text 77 (give_text x.a x.b x.c x.d x.e x.f (number_told c.form_of-named.ensures c.in-Give.is (omega arith))) (omega arith) c.put_value.ensures
 
 pub returns-in-Value : goal.returns-in-Value
 returns-in-Value c =
     let x = c.args in
-    same_text 77 (value_text_lem x.a x.b x.c x.d x.e x.f (number_told c.form_of-named.ensures c.in-Value.keys5 (omega arith))) (omega arith) c.put_value-in-Value.ensures
+    same_text 77 (value_text_lem x.a x.b x.c x.d x.e x.f (number_told c.form_of-named.ensures c.in-Value.is (omega arith))) (omega arith) c.put_value-in-Value.ensures
 
 pub returns-in-Field : goal.returns-in-Field
 returns-in-Field c =
     let x = c.args in
-    same_text 77 (field_text x.a x.b x.c x.d x.e x.f (number_told c.form_of-named.ensures c.in-Field.keys6 (omega arith))) (omega arith) c.put_field.ensures
+    same_text 77 (field_text x.a x.b x.c x.d x.e x.f (number_told c.form_of-named.ensures c.in-Field.is (omega arith))) (omega arith) c.put_field.ensures
 
 pub returns-in-Swap : goal.returns-in-Swap
 returns-in-Swap c =
     let x = c.args in
-    same_text 77 (swap_text x.a x.b x.c x.d x.e x.f (number_told c.form_of-named.ensures c.in-Swap.keys7 (omega arith))) (omega arith) c.put_place.ensures
+    same_text 77 (swap_text x.a x.b x.c x.d x.e x.f (number_told c.form_of-named.ensures c.in-Swap.is (omega arith))) (omega arith) c.put_place.ensures
 
 pub returns-in-Call : goal.returns-in-Call
 returns-in-Call c =
     let x = c.args in
-    same_text 77 (call_text x.a x.b x.c x.d x.e x.f (number_told c.form_of-named.ensures c.in-Call.keys8 (omega arith))) (omega arith) c.put_place-in-Call.ensures
+    same_text 77 (call_text x.a x.b x.c x.d x.e x.f (number_told c.form_of-named.ensures c.in-Call.is (omega arith))) (omega arith) c.put_place-in-Call.ensures
 
 pub returns-in-New : goal.returns-in-New
 returns-in-New c =
     let x = c.args in
-    same_text 77 (new_text x.a x.b x.c x.d x.e x.f (number_told c.form_of-named.ensures c.in-New.keys9 (omega arith))) (omega arith) c.put_new.ensures
+    same_text 77 (new_text x.a x.b x.c x.d x.e x.f (number_told c.form_of-named.ensures c.in-New.is (omega arith))) (omega arith) c.put_new.ensures
 
 pub returns-in-Cast : goal.returns-in-Cast
 returns-in-Cast c =
     let x = c.args in
-    same_text 77 (cast_text x.a x.b x.c x.d x.e x.f (number_told c.form_of-named.ensures c.in-Cast.keys10 (omega arith))) (omega arith) c.put_cast.ensures
+    same_text 77 (cast_text x.a x.b x.c x.d x.e x.f (number_told c.form_of-named.ensures c.in-Cast.is (omega arith))) (omega arith) c.put_cast.ensures
 
 pub returns-in-Spawn : goal.returns-in-Spawn
 returns-in-Spawn c =
     let x = c.args in
-    same_text 77 (spawn_text x.a x.b x.c x.d x.e x.f (number_told c.form_of-named.ensures c.in-Spawn.keys11 (omega arith))) (omega arith) c.put_one.ensures
+    same_text 77 (spawn_text x.a x.b x.c x.d x.e x.f (number_told c.form_of-named.ensures c.in-Spawn.is (omega arith))) (omega arith) c.put_one.ensures
 
 pub returns-in-Send : goal.returns-in-Send
 returns-in-Send c =
     let x = c.args in
-    same_text 77 (send_text x.a x.b x.c x.d x.e x.f (number_told c.form_of-named.ensures c.in-Send.keys12 (omega arith))) (omega arith) c.put_send.ensures
+    same_text 77 (send_text x.a x.b x.c x.d x.e x.f (number_told c.form_of-named.ensures c.in-Send.is (omega arith))) (omega arith) c.put_send.ensures
 
 pub returns-in-Recv : goal.returns-in-Recv
 returns-in-Recv c =
     let x = c.args in
-    same_text 77 (recv_text x.a x.b x.c x.d x.e x.f (number_told c.form_of-named.ensures c.in-Recv.keys13 (omega arith))) (omega arith) c.put_one-in-Recv.ensures
+    same_text 77 (recv_text x.a x.b x.c x.d x.e x.f (number_told c.form_of-named.ensures c.in-Recv.is (omega arith))) (omega arith) c.put_one-in-Recv.ensures
 
 pub returns-in-Copy : goal.returns-in-Copy
 returns-in-Copy c =
     let x = c.args in
-    same_text 77 (copy_text x.a x.b x.c x.d x.e x.f (number_told c.form_of-named.ensures c.in-Copy.keys14 (omega arith))) (omega arith) c.put_copy.ensures
+    same_text 77 (copy_text x.a x.b x.c x.d x.e x.f (number_told c.form_of-named.ensures c.in-Copy.is (omega arith))) (omega arith) c.put_copy.ensures
 
 pub returns-in-NoForm : goal.returns-in-NoForm
 returns-in-NoForm c =
     let x = c.args in
-    same_text 77 (no_text x.form x.a x.b x.c x.d x.e x.f (sym c.form_of-named.ensures ∙ at_place c.in-NoForm.keys15)) (omega arith) (nothing 0 (search rules))
+    same_text 77 (no_text x.form x.a x.b x.c x.d x.e x.f (sym c.form_of-named.ensures ∙ at_place c.in-NoForm.is)) (omega arith) (nothing 0 (search rules))
