@@ -34,22 +34,22 @@ overflow_add-result c =
 
 pub first_dangling-line-requires : goal.first_dangling-line-requires
 first_dangling-line-requires c =
-    let d = (done_with §at-scan-lines.scan-lines.ensures.0 c.in-Done.is) in
+    let d = (done_with c.scan_lines-scan.ensures.scans c.in-Done.is) in
     (search rules, d.few-kinds, d.few-blocks, d.few-lines)
 
 pub returns-then-line-lines : goal.returns-then-line-lines
 returns-then-line-lines c =
     let a = c.args in
-    let head = §at-script-end.script-end in
+    let head = c.script_end-head in
     let reads = read_behind a.text.now head.result head.ensures.0 in
     makes_none a.text.now c.if-text-gt16384.false
-    (λ fresh. dangling a.text.now §at-if1.if1.false (edition_of (not (eqb head.result 0))) _ reads
-    (done_with §at-scan-lines.scan-lines.ensures.0 §at-scan2.scan2.given.1) fresh
+    (λ fresh. dangling a.text.now c.if-text-gt16384.false (edition_of (not (eqb head.result 0))) _ reads
+    (done_with c.scan_lines-scan.ensures.scans c.in-Done.is) fresh
     c.first_dangling-line.ensures.first_dangling c.if-line-lines.true ∙ rw c.lines_before-then-line-lines.ensures.value)
 
 pub put_counts-requires : goal.put_counts-requires
 put_counts-requires c =
-    let d = (done_with §at-scan-lines.scan-lines.ensures.0 §at-scan2.scan2.given.1) in
+    let d = (done_with c.scan_lines-scan.ensures.scans c.in-Done.is) in
     (search rules, d.few-kinds, d.few-blocks, d.few-lines)
 
 pub returns-in-Fault : goal.returns-in-Fault
@@ -63,9 +63,9 @@ returns-in-Fault c =
 pub returns-else-line-lines : goal.returns-else-line-lines
 returns-else-line-lines c =
     let a = c.args in
-    let head = §at-script-end.script-end in
+    let head = c.script_end-head in
     let reads = read_behind a.text.now head.result head.ensures.0 in
     makes_read a.text.now c.if-text-gt16384.false
-    (λ fresh. words_are a.text.now §at-if1.if1.false (edition_of (not (eqb head.result 0))) _ reads
-    (done_with §at-scan-lines.scan-lines.ensures.0 §at-scan2.scan2.given.1) fresh
+    (λ fresh. words_are a.text.now c.if-text-gt16384.false (edition_of (not (eqb head.result 0))) _ reads
+    (done_with c.scan_lines-scan.ensures.scans c.in-Done.is) fresh
     c.first_dangling-line.ensures.first_dangling c.if-line-lines.false (rw c.edition_word.ensures at c.put_counts.ensures.counted))

@@ -25,4 +25,4 @@ returns-in-Refused c =
 pub returns-in-Read : goal.returns-in-Read
 returns-in-Read c =
     let a = c.args in
-    makes_run a.text.now a.turns.now a.short §at-if1.if1.false §at-make.make.ensures §at-enum-told.enum_told.given.1 c.run_program.ensures
+    makes_run a.text.now a.turns.now a.short c.if-turns-gt32768.false c.make-read.ensures c.in-Read.is c.run_program.ensures

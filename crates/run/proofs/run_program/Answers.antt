@@ -8,4 +8,4 @@ returns-in-Stopped c =
 
 pub returns-in-Through : goal.returns-in-Through
 returns-in-Through c =
-    runs_through §at-start-state.start-state.ensures.1 §at-play.play.ensures c.requires.2 c.in-Through.is c.end.ensures
+    runs_through c.start_state.ensures.starts c.play-played.ensures c.requires.2 c.in-Through.is c.end.ensures

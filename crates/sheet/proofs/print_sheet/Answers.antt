@@ -17,7 +17,7 @@ print_filed-requires c =
     let fit = parts_fit c.split-parts.ensures c.in-Turns.is in (fit.0, fit.1, omega (arith, fit.1, c.split-parts.auto.1.0), omega (arith, c.if-output-lt32768.false))
 
 pub returns-in-Away : goal.returns-in-Away
-returns-in-Away c = let all = sheet_told c.args.input.now c.args.output.now _ (omega (arith, §at-if1.if1.false)) (given_told §at_split.split.ensures (omega arith) _ §at-parts.parts.given.1) (sheet_printed c.put_away.ensures refl) in record { value = all.0; output_after = all.1 }
+returns-in-Away c = let all = sheet_told c.args.input.now c.args.output.now _ (omega (arith, c.if-output-lt32768.false)) (given_told c.split-parts.ensures (omega arith) _ c.in-Away.is) (sheet_printed c.put_away.ensures refl) in record { value = all.0; output_after = all.1 }
 
 pub returns-in-Fault : goal.returns-in-Fault
 returns-in-Fault c = let all = sheet_told c.args.input.now c.args.output.now _ (omega (arith, c.if-output-lt32768.false)) (given_told c.split-parts.ensures (omega arith) _ c.in-Fault.is) c.print_faulty.ensures in record { value = all.0; output_after = all.1 }

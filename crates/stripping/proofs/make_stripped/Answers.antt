@@ -27,4 +27,4 @@ returns-in-Refused c =
 pub returns-in-Read : goal.returns-in-Read
 returns-in-Read c =
     let a = c.args in
-    run_stripped a.text.now a.turns.now §at-if1.if1.false §at-make.make.ensures §at-enum-told.enum_told.given.1 §at-strip-program.strip-program.ensures c.run_program.ensures
+    run_stripped a.text.now a.turns.now c.if-turns-gt32768.false c.make-read.ensures c.in-Read.is c.strip_program.ensures c.run_program.ensures

@@ -15,8 +15,8 @@ returns-then-not-has_moved c =
     let a = c.args in let M = (marks a.receives.now a.reads.now a.read-puts.now a.swaps.now a.swap-puts.now) in waiting_plays M M c.take_turn-fate.ensures (sym c.has_halted.ensures ∙ c.if-has_halted.false) (sym c.has_moved.ensures ∙ not-true c.has_moved.result c.if-not-has_moved.true-raw) (record { receives = refl; reads = refl; read_puts = refl; swaps = refl; swap_puts = refl })
 
 pub note-requires : goal.note-requires
-note-requires c = record { object_below = (§at-event.event.ensures.0, omega (arith, c.met-count.ensures.0, c.met-count.auto.1.1.0), omega arith); in_bounds = (c.requires.in_bounds_2.0, c.requires.in_bounds_2.1, c.requires.in_bounds_2.2, c.requires.in_bounds_2.3, c.requires.in_bounds_2.4) }
+note-requires c = record { object_below = (c.event-e.ensures.object_below, omega (arith, c.met-count.ensures.0, c.met-count.auto.1.1.0), omega arith); in_bounds = (c.requires.in_bounds_2.0, c.requires.in_bounds_2.1, c.requires.in_bounds_2.2, c.requires.in_bounds_2.3, c.requires.in_bounds_2.4) }
 
 pub returns : goal.returns
 returns c =
-    let a = c.args in moving_plays (marks a.receives.now a.reads.now a.read-puts.now a.swaps.now a.swap-puts.now) (marks c.note.new.receives c.note.new.reads c.note.new.read_puts c.note.new.swaps c.note.new.swap_puts) c.take_turn-fate.ensures §at-event.event.ensures.1 c.met-count.ensures.1 (sym c.has_moved.ensures ∙ not-false c.has_moved.result c.if-not-has_moved.false-raw) c.note.ensures
+    let a = c.args in moving_plays (marks a.receives.now a.reads.now a.read-puts.now a.swaps.now a.swap-puts.now) (marks c.note.new.receives c.note.new.reads c.note.new.read_puts c.note.new.swaps c.note.new.swap_puts) c.take_turn-fate.ensures c.event-e.ensures.turn_tells c.met-count.ensures.1 (sym c.has_moved.ensures ∙ not-false c.has_moved.result c.if-not-has_moved.false-raw) c.note.ensures

@@ -8,45 +8,45 @@ use Rattle.races.proofs.marks.note.Goals as goal
 
 pub latest_on-last-requires : goal.latest_on-last-requires
 latest_on-last-requires c =
-    let below = subst (ObjectBelow 256) §at-event.event.given.1 c.requires.object_below.0 in
+    let below = subst (ObjectBelow 256) c.in-Reads.is c.requires.object_below.0 in
     (omega (arith, c.requires.in_bounds.1, c.requires.in_bounds.2, c.requires.in_bounds.3, c.requires.in_bounds.4), omega (arith, c.requires.in_bounds.1, c.requires.in_bounds.2, c.requires.in_bounds.3, c.requires.in_bounds.4), c.requires.in_bounds.0, c.requires.object_below.2, below, omega arith)
 
 pub bounds-reads-at : goal.bounds-reads-at
 bounds-reads-at c =
-    let below = subst (ObjectBelow 256) §at-event.event.given.1 c.requires.object_below.0 in omega (arith, below, c.requires.object_below.2, c.requires.in_bounds.1)
+    let below = subst (ObjectBelow 256) c.in-Reads.is c.requires.object_below.0 in omega (arith, below, c.requires.object_below.2, c.requires.in_bounds.1)
 
 pub bounds-read_puts-at : goal.bounds-read_puts-at
 bounds-read_puts-at c =
-    let below = subst (ObjectBelow 256) §at-event.event.given.1 c.requires.object_below.0 in omega (arith, below, c.requires.object_below.2, c.requires.in_bounds.2)
+    let below = subst (ObjectBelow 256) c.in-Reads.is c.requires.object_below.0 in omega (arith, below, c.requires.object_below.2, c.requires.in_bounds.2)
 
 pub latest_on-x-requires : goal.latest_on-x-requires
 latest_on-x-requires c =
-    let below = subst (ObjectBelow 256) §at-event2.event2.given.1 c.requires.object_below.0 in
+    let below = subst (ObjectBelow 256) c.in-Swaps.is c.requires.object_below.0 in
     (omega (arith, c.requires.in_bounds.1, c.requires.in_bounds.2, c.requires.in_bounds.3, c.requires.in_bounds.4), omega (arith, c.requires.in_bounds.1, c.requires.in_bounds.2, c.requires.in_bounds.3, c.requires.in_bounds.4), c.requires.in_bounds.0, c.requires.object_below.2, below, omega arith)
 
 pub latest_on-y-requires : goal.latest_on-y-requires
 latest_on-y-requires c =
-    let below = subst (ObjectBelow 256) §at-event2.event2.given.1 c.requires.object_below.0 in
+    let below = subst (ObjectBelow 256) c.in-Swaps.is c.requires.object_below.0 in
     (omega (arith, c.requires.in_bounds.1, c.requires.in_bounds.2, c.requires.in_bounds.3, c.requires.in_bounds.4), omega (arith, c.requires.in_bounds.1, c.requires.in_bounds.2, c.requires.in_bounds.3, c.requires.in_bounds.4), c.requires.in_bounds.0, c.requires.object_below.2, below, omega arith)
 
 pub bounds-swaps-at : goal.bounds-swaps-at
 bounds-swaps-at c =
-    let below = subst (ObjectBelow 256) §at-event2.event2.given.1 c.requires.object_below.0 in omega (arith, below, c.requires.object_below.2, c.requires.in_bounds.3)
+    let below = subst (ObjectBelow 256) c.in-Swaps.is c.requires.object_below.0 in omega (arith, below, c.requires.object_below.2, c.requires.in_bounds.3)
 
 pub bounds-swap_puts-at : goal.bounds-swap_puts-at
 bounds-swap_puts-at c =
-    let below = subst (ObjectBelow 256) §at-event2.event2.given.1 c.requires.object_below.0 in omega (arith, below, c.requires.object_below.2, c.requires.in_bounds.4)
+    let below = subst (ObjectBelow 256) c.in-Swaps.is c.requires.object_below.0 in omega (arith, below, c.requires.object_below.2, c.requires.in_bounds.4)
 
 pub returns-in-Quiet : goal.returns-in-Quiet
 returns-in-Quiet c = rw c.in-Quiet.is (record { receives = refl; reads = refl; read_puts = refl; swaps = refl; swap_puts = refl }, refl)
 
 pub returns-in-Reads : goal.returns-in-Reads
 returns-in-Reads c =
-    let e = §at-event.event.given.0 in rw §at-event.event.given.1 (record { receives = refl; reads = refl; read_puts = refl; swaps = refl; swap_puts = refl }, ap (λ x. found x e.0 (e.1.0 % 4)) c.latest_on-last.ensures)
+    let e = c.event-1.given.0 in rw c.in-Reads.is (record { receives = refl; reads = refl; read_puts = refl; swaps = refl; swap_puts = refl }, ap (λ x. found x e.0 (e.1.0 % 4)) c.latest_on-last.ensures)
 
 pub returns-in-Swaps : goal.returns-in-Swaps
 returns-in-Swaps c =
-    let e = §at-event2.event2.given.0 in rw §at-event2.event2.given.1 (record { receives = refl; reads = refl; read_puts = refl; swaps = refl; swap_puts = refl }, ap (λ x. found x e.0 (e.1.0 % 4)) (c.most.ensures ∙ rw (§at-latest-on2.latest-on2.ensures, c.latest_on-y.ensures) refl))
+    let e = c.event-in-Swaps-1.given.0 in rw c.in-Swaps.is (record { receives = refl; reads = refl; read_puts = refl; swaps = refl; swap_puts = refl }, ap (λ x. found x e.0 (e.1.0 % 4)) (c.most.ensures ∙ rw (c.latest_on-x.ensures, c.latest_on-y.ensures) refl))
 
 pub returns-in-Puts : goal.returns-in-Puts
 returns-in-Puts c =
@@ -58,4 +58,4 @@ returns-in-Receives c =
 
 pub returns-in-Copies : goal.returns-in-Copies
 returns-in-Copies c =
-    rw §at-enum-told4.enum-told4.given.1 (refl, c.mark_fields.ensures, c.mark_fields-in-Copies.ensures, refl, refl, c.over_objects-found.ensures)
+    rw c.in-Copies.is (refl, c.mark_fields.ensures, c.mark_fields-in-Copies.ensures, refl, refl, c.over_objects-found.ensures)

@@ -61,8 +61,8 @@ frame_line-l-requires c = let placed = kept_placed §c.before.before.before.befo
 pub returns-in_default : goal.returns-in_default
 returns-in_default c =
     turn_stops (looked §kept.before).playing c.loop-i-test.true refl c.requires.2 c.if-t-lt16.true
-    (other_steps_stop §at-perform.perform.result §at-stop-number.before.match.keys5 ∙ ap stop (sym §at-stop-number.stop-number.ensures))
-    §at-perform.perform.ensures c.frame_block-b.ensures.sees c.frame_line-l.ensures.sees
+    (other_steps_stop c.perform-step.result c.in_default.is ∙ ap stop (sym c.stop_number-number.ensures))
+    c.perform-step.ensures c.frame_block-b.ensures.sees c.frame_line-l.ensures.sees
 
 pub loop-i-preserved : goal.loop-i-preserved
 loop-i-preserved c =

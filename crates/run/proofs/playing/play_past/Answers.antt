@@ -15,6 +15,6 @@ returns-in-Waits c =
 
 pub returns-in_default : goal.returns-in_default
 returns-in_default c =
-    stops_past c.requires.3 c.requires.2 §at_copy.perform-copy.ensures
-    (other_steps_stop §at_copy.perform-copy.result §at-stop-number.before.match.keys3 ∙ ap stop (sym §at-stop-number.stop-number.ensures))
+    stops_past c.requires.3 c.requires.2 c.perform_copy-step.ensures
+    (other_steps_stop c.perform_copy-step.result c.in_default.is ∙ ap stop (sym c.stop_number-number.ensures))
     c.frame_block-b.ensures.sees c.frame_line-l.ensures.sees

@@ -8,9 +8,9 @@ use Rattle.sheet.proofs.examined.examine.Goals as goal
 
 pub slice_bounds-is_same-end : goal.slice_bounds-is_same-end
 slice_bounds-is_same-end c =
-    sym (length-take-le §at-tally.tally.result.played c.args.turns.now §at-tally.tally.ensures.within)
+    sym (length-take-le c.tally-counted.result.played c.args.turns.now c.tally-counted.ensures.within)
 
 pub returns : goal.returns
 unfolding fresh_table
 returns c =
-    examined c.requires.2 refl (search rules) §at-tally.tally.ensures §at-stripped-answer.stripped-answer.ensures c.is_same-same.ensures
+    examined c.requires.2 refl (search rules) c.tally-counted.ensures c.stripped_answer-stripped.ensures c.is_same-same.ensures

@@ -7,4 +7,4 @@ use Rattle.sheet.proofs.examined.is_same.Goals as goal
 pub returns : goal.returns
 unfolding fresh_table
 returns c =
-    runs_compared §at-make-stripped.make-stripped.ensures refl refl §at-erase-state.erase-state.ensures c.same_table.ensures
+    runs_compared c.make_stripped.ensures refl refl c.erase_state.ensures c.same_table.ensures

@@ -19,4 +19,4 @@ pub returns-in-Chan : goal.returns-in-Chan
 returns-in-Chan c = let all = counts_by 65535 _ _ c.requires.1 (channel_uncounted 65535 _ c.in-Chan.is) in record { s_after = all.0; counts = all.1 }
 
 pub returns-in-Obj : goal.returns-in-Obj
-returns-in-Obj c = let all = counts_by 65535 _ _ c.requires.1 (object_counted 65535 _ c.in-Obj.is c.wrapping_add_u16.ensures) in record { s_after = all.0; counts = all.1 }
+returns-in-Obj c = let all = counts_by 65535 _ _ c.requires.1 (object_counted 65535 _ c.in-Obj.is c.wrapping_add_u16.ensures.value) in record { s_after = all.0; counts = all.1 }

@@ -11,11 +11,11 @@ loop-i-init c = let a = c.args in (search rules, refl, none_released a.h.thread 
 
 pub slot-v-requires : goal.slot-v-requires
 slot-v-requires c =
-    (omega (arith, §lp.loop.invariant.1, c.requires.0), c.requires.1, omega arith)
+    (omega (arith, c.loop-i.invariant.1, c.requires.0), c.requires.1, omega arith)
 
 pub release-requires : goal.release-requires
 release-requires c =
-    (omega (arith, §lp.loop.invariant.1, c.requires.0), c.slot-v.ensures.value.1)
+    (omega (arith, c.loop-i.invariant.1, c.requires.0), c.slot-v.ensures.value.1)
 
 pub loop-i-preserved : goal.loop-i-preserved
 loop-i-preserved c =

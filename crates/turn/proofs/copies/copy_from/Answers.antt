@@ -21,11 +21,11 @@ overflow_add-used_up c =
 
 pub returns-then-foreign : goal.returns-then-foreign
 returns-then-foreign c =
-    from_foreign c.walk-count.ensures.walks _ _ c.any_foreign_met-foreign.ensures §at_count.object-count.ensures.1 c.if-foreign.true
+    from_foreign c.walk-count.ensures.walks _ _ c.any_foreign_met-foreign.ensures c.object_count-first.ensures.sees c.if-foreign.true
 
 pub returns-then-used_up : goal.returns-then-used_up
 returns-then-used_up c =
-    from_used_up c.walk-count.ensures.walks _ _ c.any_foreign_met-foreign.ensures §at_count.object-count.ensures.1 c.if-foreign.false
+    from_used_up c.walk-count.ensures.walks _ _ c.any_foreign_met-foreign.ensures c.object_count-first.ensures.sees c.if-foreign.false
     (ltb-true _ _ c.if-used_up.true-raw)
 
 pub add_copies-requires : goal.add_copies-requires
@@ -34,5 +34,5 @@ add_copies-requires c =
 
 pub returns : goal.returns
 returns c =
-    from_copied c.walk-count.ensures.walks _ _ c.any_foreign_met-foreign.ensures §at_count.object-count.ensures.1 c.if-foreign.false
+    from_copied c.walk-count.ensures.walks _ _ c.any_foreign_met-foreign.ensures c.object_count-first.ensures.sees c.if-foreign.false
     (ltb-false _ _ c.if-used_up.false-raw) c.add_copies.ensures

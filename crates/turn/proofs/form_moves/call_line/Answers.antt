@@ -17,37 +17,37 @@ returns-then-not-passes c = let fails = sym c.passes.ensures ∙ not-true _ c.if
 
 pub method_item-m-requires : goal.method_item-m-requires
 method_item-m-requires c =
-    (search rules, search rules, object_in_table _ _ c.in-Obj.is §at_seen.seen.ensures.0)
+    (search rules, search rules, object_in_table _ _ c.in-Obj.is c.seen-x.ensures.in_table)
 
 pub returns-then-m-eq0 : goal.returns-then-m-eq0
 returns-then-m-eq0 c =
-    line_halts (call_answers _ _ _ (call_no_method _ _ _ §at-operand-check.operand-check.ensures (sym §at-passes.passes.ensures ∙ not-false _ §at-if1.if1.false)
-    §at_seen.seen.ensures.1 §at_x.x.given.1 c.method_item-m.ensures c.if-m-eq0.true)) refl
+    line_halts (call_answers _ _ _ (call_no_method _ _ _ c.operand_check-first.ensures (sym c.passes.ensures ∙ not-false _ c.if-not-passes.false-raw)
+    c.seen-x.ensures.sees c.in-Obj.is c.method_item-m.ensures c.if-m-eq0.true)) refl
 
 pub is_foreign-requires : goal.is_foreign-requires
 is_foreign-requires c =
-    (search rules, object_in_table _ _ §at_x.x.given.1 §at_seen.seen.ensures.0)
+    (search rules, object_in_table _ _ c.in-Obj.is c.seen-x.ensures.in_table)
 
 pub returns-then-not-passes-2 : goal.returns-then-not-passes-2
 returns-then-not-passes-2 c =
     let fails = sym c.passes-in-Obj.ensures ∙ not-true _ c.if-not-passes-2.true-raw in
-    line_halts (call_answers _ _ _ (call_forbidden _ _ _ §at-operand-check.operand-check.ensures (sym §at-passes.passes.ensures ∙ not-false _ §at-if1.if1.false)
-    §at_seen.seen.ensures.1 §at_x.x.given.1 §at-method-item.method-item.ensures c.if-not-passes.false-raw c.is_foreign.ensures c.permission_check-k.ensures
+    line_halts (call_answers _ _ _ (call_forbidden _ _ _ c.operand_check-first.ensures (sym c.passes.ensures ∙ not-false _ c.if-not-passes.false-raw)
+    c.seen-x.ensures.sees c.in-Obj.is c.method_item-m.ensures c.if-not-passes.false-raw c.is_foreign.ensures c.permission_check-k.ensures
     fails)) fails
 
 pub returns-then-h-ge15 : goal.returns-then-h-ge15
 returns-then-h-ge15 c =
-    line_halts (call_answers _ _ _ (call_used_up _ _ _ §at-operand-check.operand-check.ensures (sym §at-passes.passes.ensures ∙ not-false _ §at-if1.if1.false)
-    §at_seen.seen.ensures.1 §at_x.x.given.1 §at-method-item.method-item.ensures c.if-not-passes.false-raw c.is_foreign.ensures
+    line_halts (call_answers _ _ _ (call_used_up _ _ _ c.operand_check-first.ensures (sym c.passes.ensures ∙ not-false _ c.if-not-passes.false-raw)
+    c.seen-x.ensures.sees c.in-Obj.is c.method_item-m.ensures c.if-not-passes.false-raw c.is_foreign.ensures
     (passed_is_ok _ c.permission_check-k.ensures (sym c.passes-in-Obj.ensures ∙ not-false _ c.if-not-passes-2.false-raw)) c.if-h-ge15.true)) refl
 
 pub push_frame-requires : goal.push_frame-requires
 push_frame-requires c =
-    (c.requires.1, c.requires.2, omega (arith, §at-if4.if4.false), object_in_table _ _ §at_x.x.given.1 §at_seen.seen.ensures.0, c.operand-v.ensures.in_table)
+    (c.requires.1, c.requires.2, omega (arith, c.if-h-ge15.false), object_in_table _ _ c.in-Obj.is c.seen-x.ensures.in_table, c.operand-v.ensures.in_table)
 
 pub hold-requires : goal.hold-requires
 hold-requires c =
-    (omega (arith, c.push_frame.auto.0, c.requires.1), object_in_table _ _ §at_x.x.given.1 §at_seen.seen.ensures.0)
+    (omega (arith, c.push_frame.auto.0, c.requires.1), object_in_table _ _ c.in-Obj.is c.seen-x.ensures.in_table)
 
 pub leave-requires : goal.leave-requires
 leave-requires c =
@@ -55,18 +55,18 @@ leave-requires c =
 
 pub returns-in-Absent : goal.returns-in-Absent
 returns-in-Absent c =
-    line_halts (call_answers _ _ _ (call_no_target _ _ _ §at-operand-check.operand-check.ensures (sym §at-passes.passes.ensures ∙ not-false _ §at-if1.if1.false)
+    line_halts (call_answers _ _ _ (call_no_target _ _ _ c.operand_check-first.ensures (sym c.passes.ensures ∙ not-false _ c.if-not-passes.false-raw)
     c.seen-x.ensures.sees c.in-Absent.is)) refl
 
 pub returns-in-Chan : goal.returns-in-Chan
 returns-in-Chan c =
-    line_halts (call_answers _ _ _ (call_of_channel _ _ _ §at-operand-check.operand-check.ensures (sym §at-passes.passes.ensures ∙ not-false _ §at-if1.if1.false)
+    line_halts (call_answers _ _ _ (call_of_channel _ _ _ c.operand_check-first.ensures (sym c.passes.ensures ∙ not-false _ c.if-not-passes.false-raw)
     c.seen-x.ensures.sees c.in-Chan.is)) refl
 
 pub returns-else-h-ge15 : goal.returns-else-h-ge15
 returns-else-h-ge15 c =
-    line_moves (call_answers _ _ _ (call_passes _ _ _ §at-operand-check.operand-check.ensures (sym §at-passes.passes.ensures ∙ not-false _ §at-if1.if1.false)
-    §at_seen.seen.ensures.1 §at_x.x.given.1 §at-method-item.method-item.ensures c.if-not-passes.false-raw §at-is-foreign.is-foreign.ensures
-    (passed_is_ok _ §at-permission-check.permission-check.ensures (sym c.passes.ensures ∙ not-false _ §at-if3.if3.false)) §at-if4.if4.false)) refl
-    (call_writes _ _ _ §at_seen.seen.ensures.1 §at_x.x.given.1 §at-method-item.method-item.ensures c.operand-v.ensures.sees
+    line_moves (call_answers _ _ _ (call_passes _ _ _ c.operand_check-first.ensures (sym c.passes.ensures ∙ not-false _ c.if-not-passes.false-raw)
+    c.seen-x.ensures.sees c.in-Obj.is c.method_item-m.ensures c.if-not-passes.false-raw c.is_foreign.ensures
+    (passed_is_ok _ c.permission_check-k.ensures (sym c.passes.ensures ∙ not-false _ c.if-not-passes-2.false-raw)) c.if-h-ge15.false)) refl
+    (call_writes _ _ _ c.seen-x.ensures.sees c.in-Obj.is c.method_item-m.ensures c.operand-v.ensures.sees
     c.push_frame.ensures c.hold.ensures.counts c.leave.ensures)

@@ -10,5 +10,5 @@ returns-then-not-passes c = line_halts (cast_answers _ _ c.cast_check-check.ensu
 
 pub returns : goal.returns
 returns c =
-    line_moves (cast_answers _ _ §at-cast-check.cast-check.ensures) (sym §at-passes.passes.ensures ∙ not-false _ §at-if1.if1.false)
+    line_moves (cast_answers _ _ c.cast_check-check.ensures) (sym c.passes.ensures ∙ not-false _ c.if-not-passes.false-raw)
     (cast_writes _ c.operand-v.ensures.sees c.give_value.ensures c.leave.ensures _)

@@ -11,17 +11,17 @@ use Rattle.turn.proofs.form_moves.field_line.Goals as goal
 
 pub field-v-requires : goal.field-v-requires
 field-v-requires c =
-    (search rules, object_in_table _ _ c.in-Obj.is §at_slot.slot.ensures.0.1)
+    (search rules, object_in_table _ _ c.in-Obj.is c.slot-x.ensures.value.1)
 
 pub is_foreign-foreign-requires : goal.is_foreign-foreign-requires
 is_foreign-foreign-requires c =
-    (search rules, object_in_table _ _ §at_x.x.given.1 §at_slot.slot.ensures.0.1)
+    (search rules, object_in_table _ _ c.in-Obj.is c.slot-x.ensures.value.1)
 
 pub returns-then-not-passes : goal.returns-then-not-passes
 returns-then-not-passes c =
-    line_halts (field_answers _ _ (field_answered _ _ §at_slot.slot.ensures.1 §at_x.x.given.1 §at_field.field.ensures.1
+    line_halts (field_answers _ _ (field_answered _ _ c.slot-x.ensures.sees c.in-Obj.is c.field-v.ensures.sees
     {k = c.permission_check-k.result}
-    (field_present §at-enum-told5.enum-told5.given.1) §at-is-foreign.is-foreign.ensures c.is_iso_object-alias.ensures c.permission_check-k.ensures))
+    (field_present c.in-Obj-v.is) c.is_foreign-foreign.ensures c.is_iso_object-alias.ensures c.permission_check-k.ensures))
     (sym c.passes.ensures ∙ not-true _ c.if-not-passes.true-raw)
 
 pub returns-in-Absent : goal.returns-in-Absent
@@ -32,15 +32,15 @@ returns-in-Chan c = line_halts (field_answers _ _ (field_of_channel _ _ c.slot-x
 
 pub returns-in-Absent-v : goal.returns-in-Absent-v
 returns-in-Absent-v c =
-    line_halts (field_answers _ _ (field_missing _ _ §at_slot.slot.ensures.1 §at_x.x.given.1 c.field-v.ensures.sees (field_absent c.in-Absent-v.is))) refl
+    line_halts (field_answers _ _ (field_missing _ _ c.slot-x.ensures.sees c.in-Obj.is c.field-v.ensures.sees (field_absent c.in-Absent-v.is))) refl
 
 pub returns-in-Chan-v : goal.returns-in-Chan-v
 returns-in-Chan-v c =
-    field_of_none _ c.field-v.ensures.sees _ §at_slot.slot.ensures.1 §at_x.x.given.1 c.in-Chan-v.is
+    field_of_none _ c.field-v.ensures.sees _ c.slot-x.ensures.sees c.in-Obj.is c.in-Chan-v.is
 
 pub returns-else-not-passes : goal.returns-else-not-passes
 returns-else-not-passes c =
-    line_moves {k = c.permission_check-k.result} (field_answers _ _ (field_answered _ _ §at_slot.slot.ensures.1 §at_x.x.given.1 §at_field.field.ensures.1
-    (field_present §at-enum-told5.enum-told5.given.1) §at-is-foreign.is-foreign.ensures c.is_iso_object-alias.ensures c.permission_check-k.ensures))
+    line_moves {k = c.permission_check-k.result} (field_answers _ _ (field_answered _ _ c.slot-x.ensures.sees c.in-Obj.is c.field-v.ensures.sees
+    (field_present c.in-Obj-v.is) c.is_foreign-foreign.ensures c.is_iso_object-alias.ensures c.permission_check-k.ensures))
     (sym c.passes.ensures ∙ not-false _ c.if-not-passes.false-raw)
-    (field_writes _ §at_field.field.ensures.1 c.give_value.ensures _ §at_slot.slot.ensures.1 §at_x.x.given.1 c.hold.ensures.counts)
+    (field_writes _ c.field-v.ensures.sees c.give_value.ensures _ c.slot-x.ensures.sees c.in-Obj.is c.hold.ensures.counts)

@@ -15,8 +15,8 @@ returns-then-not-passes c =
 pub returns-then-not-passes-2 : goal.returns-then-not-passes-2
 returns-then-not-passes-2 c =
     new_halts _
-    (new_of_values _ §at-if1.before.before.items-check.ensures (sym §at-if1.before.passes.ensures ∙ not-false _ §at-if1.if1.false)
-    §at_value.item-value.ensures.1 §at-value2.item-value2.ensures.1 c.item_value-va.ensures.sees §at-value4.item-value4.ensures.1 c.hold_check-check.ensures)
+    (new_of_values _ c.items_check-first.ensures (sym c.passes.ensures ∙ not-false _ c.if-not-passes.false-raw)
+    c.item_value-va.ensures.sees c.item_value-vb.ensures.sees c.item_value-va.ensures.sees c.item_value-vd.ensures.sees c.hold_check-check.ensures)
     (sym c.passes-2.ensures ∙ not-true _ c.if-not-passes-2.true-raw)
 
 pub overflow_cast-h : goal.overflow_cast-h
@@ -24,7 +24,7 @@ overflow_cast-h c = omega (arith, c.requires.1)
 
 pub add_object-requires : goal.add_object-requires
 add_object-requires c =
-    (c.requires.0, omega arith, §at_value.item-value.ensures.0, §at-value2.item-value2.ensures.0, §at-value3.item-value3.ensures.0, §at-value4.item-value4.ensures.0)
+    (c.requires.0, omega arith, c.item_value-va.ensures.in_table, c.item_value-vb.ensures.in_table, c.item_value-vc.ensures.in_table, c.item_value-vd.ensures.in_table)
 
 pub give_value-requires : goal.give_value-requires
 give_value-requires c =
@@ -114,14 +114,14 @@ leave_item-requires-4 c =
 
 pub returns : goal.returns
 returns c =
-    let seen-a = §at_value.item-value.ensures.1 in
-    let seen_b = §at-value2.item-value2.ensures.1 in
-    let seen-c = §at-value3.item-value3.ensures.1 in
-    let seen-d = §at-value4.item-value4.ensures.1 in
+    let seen-a = c.item_value-va.ensures.sees in
+    let seen_b = c.item_value-vb.ensures.sees in
+    let seen-c = c.item_value-vc.ensures.sees in
+    let seen-d = c.item_value-vd.ensures.sees in
     new_moves (items_read seen-a seen_b seen-c seen-d) c.object_count-n.ensures.sees refl c.cap_rank.ensures.value
     c.add_object.ensures c.give_value.ensures c.hold.ensures.counts
     (then_left c.leave_item.ensures (then_left c.leave_item-2.ensures
     (then_left c.leave_item-3.ensures (then_left c.leave_item-4.ensures none_left))))
-    (new_of_values _ §at-if1.before.before.items-check.ensures (sym §at-if1.before.passes.ensures ∙ not-false _ §at-if1.if1.false)
+    (new_of_values _ c.items_check-first.ensures (sym c.passes.ensures ∙ not-false _ c.if-not-passes.false-raw)
     seen-a seen_b seen-c seen-d c.hold_check-check.ensures)
     (sym c.passes-2.ensures ∙ not-false _ c.if-not-passes.false-raw)

@@ -14,29 +14,29 @@ returns-then-not-passes c = let fails = sym c.passes.ensures ∙ not-true _ c.if
 
 pub put_into-k-requires : goal.put_into-k-requires
 put_into-k-requires c =
-    (search rules, channel_in_table _ _ c.in-Chan.is §at_seen.seen.ensures.0, §at-operand.operand.ensures.0)
+    (search rules, channel_in_table _ _ c.in-Chan.is c.seen-x.ensures.in_table, c.operand-v.ensures.in_table)
 
 pub returns-then-not-passes-2 : goal.returns-then-not-passes-2
 returns-then-not-passes-2 c =
-    line_halts (put_answers _ _ (put_to_channel _ _ §at-operand-check.operand-check.ensures (sym §at-passes.passes.ensures ∙ not-false _ §at-if1.if1.false)
-    §at_seen.seen.ensures.1 §at_x.x.given.1 refl §at-operand.operand.ensures.1 c.put_into-k.ensures))
+    line_halts (put_answers _ _ (put_to_channel _ _ c.operand_check-first.ensures (sym c.passes.ensures ∙ not-false _ c.if-not-passes.false-raw)
+    c.seen-x.ensures.sees c.in-Chan.is refl c.operand-v.ensures.sees c.put_into-k.ensures))
     (sym c.passes-in-Chan.ensures ∙ not-true _ c.if-not-passes-2.true-raw)
 
 pub put_message-requires : goal.put_message-requires
 put_message-requires c =
-    (c.requires.0, c.requires.1, channel_in_table _ _ §at_x.x.given.1 §at_seen.seen.ensures.0, §at-operand.operand.ensures.0)
+    (c.requires.0, c.requires.1, channel_in_table _ _ c.in-Chan.is c.seen-x.ensures.in_table, c.operand-v.ensures.in_table)
 
 pub returns-in-Absent : goal.returns-in-Absent
 returns-in-Absent c =
-    line_halts (put_answers _ _ (put_no_target _ _ §at-operand-check.operand-check.ensures (sym §at-passes.passes.ensures ∙ not-false _ §at-if1.if1.false) c.seen-x.ensures.sees c.in-Absent.is)) refl
+    line_halts (put_answers _ _ (put_no_target _ _ c.operand_check-first.ensures (sym c.passes.ensures ∙ not-false _ c.if-not-passes.false-raw) c.seen-x.ensures.sees c.in-Absent.is)) refl
 
 pub returns-in-Obj : goal.returns-in-Obj
 returns-in-Obj c =
-    line_halts (put_answers _ _ (put_of_object _ _ §at-operand-check.operand-check.ensures (sym §at-passes.passes.ensures ∙ not-false _ §at-if1.if1.false) c.seen-x.ensures.sees c.in-Obj.is)) refl
+    line_halts (put_answers _ _ (put_of_object _ _ c.operand_check-first.ensures (sym c.passes.ensures ∙ not-false _ c.if-not-passes.false-raw) c.seen-x.ensures.sees c.in-Obj.is)) refl
 
 pub returns-else-not-passes-2 : goal.returns-else-not-passes-2
 returns-else-not-passes-2 c =
-    line_moves {k = c.put_into-k.result} (put_answers _ _ (put_to_channel _ _ §at-operand-check.operand-check.ensures (sym §at-passes.passes.ensures ∙ not-false _ §at-if1.if1.false)
-    §at_seen.seen.ensures.1 §at_x.x.given.1 refl §at-operand.operand.ensures.1 c.put_into-k.ensures))
+    line_moves {k = c.put_into-k.result} (put_answers _ _ (put_to_channel _ _ c.operand_check-first.ensures (sym c.passes.ensures ∙ not-false _ c.if-not-passes.false-raw)
+    c.seen-x.ensures.sees c.in-Chan.is refl c.operand-v.ensures.sees c.put_into-k.ensures))
     (sym c.passes-in-Chan.ensures ∙ not-false _ c.if-not-passes-2.false-raw)
-    (put_writes _ _ §at_seen.seen.ensures.1 §at_x.x.given.1 §at-operand.operand.ensures.1 c.put_message.ensures c.leave.ensures)
+    (put_writes _ _ c.seen-x.ensures.sees c.in-Chan.is c.operand-v.ensures.sees c.put_message.ensures c.leave.ensures)

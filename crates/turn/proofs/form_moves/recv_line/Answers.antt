@@ -9,16 +9,16 @@ use Rattle.turn.proofs.form_moves.recv_line.Goals as goal
 
 pub message-v-requires : goal.message-v-requires
 message-v-requires c =
-    (search rules, channel_in_table _ _ c.in-Chan.is §at_slot.slot.ensures.0.1)
+    (search rules, channel_in_table _ _ c.in-Chan.is c.slot-x.ensures.value.1)
 
 pub returns-then-is_absent : goal.returns-then-is_absent
 returns-then-is_absent c =
-    line_halts (recv_answers _ (recv_empty _ §at_slot.slot.ensures.1 §at_x.x.given.1 c.message-v.ensures.sees
+    line_halts (recv_answers _ (recv_empty _ c.slot-x.ensures.sees c.in-Chan.is c.message-v.ensures.sees
     (sym c.is_absent.ensures ∙ c.if-is_absent.true))) refl
 
 pub empty_channel-requires : goal.empty_channel-requires
 empty_channel-requires c =
-    (search rules, channel_in_table _ _ §at_x.x.given.1 §at_slot.slot.ensures.0.1)
+    (search rules, channel_in_table _ _ c.in-Chan.is c.slot-x.ensures.value.1)
 
 pub returns-in-Absent : goal.returns-in-Absent
 returns-in-Absent c = line_halts (recv_answers _ (recv_no_target _ c.slot-x.ensures.sees c.in-Absent.is)) refl
@@ -28,5 +28,5 @@ returns-in-Obj c = line_halts (recv_answers _ (recv_of_object _ c.slot-x.ensures
 
 pub returns-else-is_absent : goal.returns-else-is_absent
 returns-else-is_absent c =
-    line_moves (recv_answers _ (recv_full _ §at_slot.slot.ensures.1 §at_x.x.given.1 c.message-v.ensures.sees (sym c.is_absent.ensures ∙ c.if-is_absent.false))) refl
-    (recv_writes _ §at_slot.slot.ensures.1 §at_x.x.given.1 c.message-v.ensures.sees c.give_value.ensures c.empty_channel.ensures.becomes)
+    line_moves (recv_answers _ (recv_full _ c.slot-x.ensures.sees c.in-Chan.is c.message-v.ensures.sees (sym c.is_absent.ensures ∙ c.if-is_absent.false))) refl
+    (recv_writes _ c.slot-x.ensures.sees c.in-Chan.is c.message-v.ensures.sees c.give_value.ensures c.empty_channel.ensures.becomes)

@@ -12,6 +12,6 @@ returns-then-not-passes c =
 pub returns : goal.returns
 returns c =
     record {
-      performs = λ w. line_moves (sent_answers _ c.requires.2 w §at-sent-check.sent-check.ensures) (sym §at-passes.passes.ensures ∙ not-false _ §at-if1.if1.false)
+      performs = λ w. line_moves (sent_answers _ c.requires.2 w c.sent_check-k.ensures) (sym c.passes.ensures ∙ not-false _ c.if-not-passes.false-raw)
           (sent_writes _ c.requires.2 w c.slot-x.ensures.sees c.give_value.ensures);
     }

@@ -11,5 +11,5 @@ returns-then-not-passes c = line_halts (spawn_answers _ c.spawn_check-k.ensures)
 pub returns : goal.returns
 returns c =
     line_moves {k = c.spawn_check-k.result} (spawn_answers _ c.spawn_check-k.ensures)
-    (sym c.passes.ensures ∙ not-false _ §at-if1.if1.false)
+    (sym c.passes.ensures ∙ not-false _ c.if-not-passes.false-raw)
     (spawn_writes _ c.thread_count-n.ensures.sees c.start_thread.ensures c.give_value.ensures)

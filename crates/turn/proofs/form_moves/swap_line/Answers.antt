@@ -15,51 +15,51 @@ returns-then-not-passes c = let fails = sym c.passes.ensures ∙ not-true _ c.if
 
 pub swap_into-k-requires : goal.swap_into-k-requires
 swap_into-k-requires c =
-    (search rules, object_in_table _ _ c.in-Obj.is §at_seen.seen.ensures.0, §at-operand.operand.ensures.0)
+    (search rules, object_in_table _ _ c.in-Obj.is c.seen-x.ensures.in_table, c.operand-v.ensures.in_table)
 
 pub returns-then-not-passes-2 : goal.returns-then-not-passes-2
 returns-then-not-passes-2 c =
-    line_halts (swap_answers _ _ _ (swap_of_object _ _ _ §at-operand-check.operand-check.ensures (sym §at-passes.passes.ensures ∙ not-false _ §at-if1.if1.false)
-    §at_seen.seen.ensures.1 §at_x.x.given.1 refl §at-operand.operand.ensures.1 c.swap_into-k.ensures))
+    line_halts (swap_answers _ _ _ (swap_of_object _ _ _ c.operand_check-first.ensures (sym c.passes.ensures ∙ not-false _ c.if-not-passes.false-raw)
+    c.seen-x.ensures.sees c.in-Obj.is refl c.operand-v.ensures.sees c.swap_into-k.ensures))
     (sym c.passes-in-Obj.ensures ∙ not-true _ c.if-not-passes-2.true-raw)
 
 pub field-old-requires : goal.field-old-requires
 field-old-requires c =
-    (c.requires.0, object_in_table _ _ §at_x.x.given.1 §at_seen.seen.ensures.0)
+    (c.requires.0, object_in_table _ _ c.in-Obj.is c.seen-x.ensures.in_table)
 
 pub store_field-requires : goal.store_field-requires
 store_field-requires c =
-    (omega (arith, c.give_value.auto.0, c.requires.0), object_in_table _ _ §at_x.x.given.1 §at_seen.seen.ensures.0, search rules, §at-operand.operand.ensures.0)
+    (omega (arith, c.give_value.auto.0, c.requires.0), object_in_table _ _ c.in-Obj.is c.seen-x.ensures.in_table, search rules, c.operand-v.ensures.in_table)
 
 pub leave-requires : goal.leave-requires
 leave-requires c =
-    (omega (arith, c.store_field.auto.0, c.give_value.auto.0, c.requires.0), c.requires.1, §at-operand.operand.ensures.0)
+    (omega (arith, c.store_field.auto.0, c.give_value.auto.0, c.requires.0), c.requires.1, c.operand-v.ensures.in_table)
 
 pub returns-in-Absent : goal.returns-in-Absent
 returns-in-Absent c =
-    line_halts (swap_answers _ _ _ (swap_no_target _ _ _ §at-operand-check.operand-check.ensures (sym §at-passes.passes.ensures ∙ not-false _ §at-if1.if1.false) c.seen-x.ensures.sees c.in-Absent.is)) refl
+    line_halts (swap_answers _ _ _ (swap_no_target _ _ _ c.operand_check-first.ensures (sym c.passes.ensures ∙ not-false _ c.if-not-passes.false-raw) c.seen-x.ensures.sees c.in-Absent.is)) refl
 
 pub returns-in-Chan : goal.returns-in-Chan
 returns-in-Chan c =
-    line_halts (swap_answers _ _ _ (swap_of_channel _ _ _ §at-operand-check.operand-check.ensures (sym §at-passes.passes.ensures ∙ not-false _ §at-if1.if1.false) c.seen-x.ensures.sees c.in-Chan.is)) refl
+    line_halts (swap_answers _ _ _ (swap_of_channel _ _ _ c.operand_check-first.ensures (sym c.passes.ensures ∙ not-false _ c.if-not-passes.false-raw) c.seen-x.ensures.sees c.in-Chan.is)) refl
 
 pub returns-in-Absent-old : goal.returns-in-Absent-old
 returns-in-Absent-old c =
-    line_moves {k = §at-swap-into.swap-into.result} (swap_answers _ _ _ (swap_of_object _ _ _ §at-operand-check.operand-check.ensures (sym §at-passes.passes.ensures ∙ not-false _ §at-if1.if1.false)
-    §at_seen.seen.ensures.1 §at_x.x.given.1 refl §at-operand.operand.ensures.1 §at-swap-into.swap-into.ensures))
+    line_moves {k = c.swap_into-k.result} (swap_answers _ _ _ (swap_of_object _ _ _ c.operand_check-first.ensures (sym c.passes.ensures ∙ not-false _ c.if-not-passes.false-raw)
+    c.seen-x.ensures.sees c.in-Obj.is refl c.operand-v.ensures.sees c.swap_into-k.ensures))
     (sym c.passes.ensures ∙ not-false _ c.if-not-passes.false-raw)
-    (swap_of_none _ c.field-old.ensures.sees _ c.args.w §at_seen.seen.ensures.1 §at_x.x.given.1 c.in-Absent-old.is)
+    (swap_of_none _ c.field-old.ensures.sees _ c.args.w c.seen-x.ensures.sees c.in-Obj.is c.in-Absent-old.is)
 
 pub returns-in-Chan-old : goal.returns-in-Chan-old
 returns-in-Chan-old c =
-    line_moves {k = §at-swap-into.swap-into.result} (swap_answers _ _ _ (swap_of_object _ _ _ §at-operand-check.operand-check.ensures (sym §at-passes.passes.ensures ∙ not-false _ §at-if1.if1.false)
-    §at_seen.seen.ensures.1 §at_x.x.given.1 refl §at-operand.operand.ensures.1 §at-swap-into.swap-into.ensures))
+    line_moves {k = c.swap_into-k.result} (swap_answers _ _ _ (swap_of_object _ _ _ c.operand_check-first.ensures (sym c.passes.ensures ∙ not-false _ c.if-not-passes.false-raw)
+    c.seen-x.ensures.sees c.in-Obj.is refl c.operand-v.ensures.sees c.swap_into-k.ensures))
     (sym c.passes.ensures ∙ not-false _ c.if-not-passes.false-raw)
-    (swap_of_other _ c.field-old.ensures.sees _ c.args.w §at_seen.seen.ensures.1 §at_x.x.given.1 c.in-Chan-old.is)
+    (swap_of_other _ c.field-old.ensures.sees _ c.args.w c.seen-x.ensures.sees c.in-Obj.is c.in-Chan-old.is)
 
 pub returns-in-Obj-old : goal.returns-in-Obj-old
 returns-in-Obj-old c =
-    line_moves {k = §at-swap-into.swap-into.result} (swap_answers _ _ _ (swap_of_object _ _ _ §at-operand-check.operand-check.ensures (sym §at-passes.passes.ensures ∙ not-false _ §at-if1.if1.false)
-    §at_seen.seen.ensures.1 §at_x.x.given.1 refl §at-operand.operand.ensures.1 §at-swap-into.swap-into.ensures))
+    line_moves {k = c.swap_into-k.result} (swap_answers _ _ _ (swap_of_object _ _ _ c.operand_check-first.ensures (sym c.passes.ensures ∙ not-false _ c.if-not-passes.false-raw)
+    c.seen-x.ensures.sees c.in-Obj.is refl c.operand-v.ensures.sees c.swap_into-k.ensures))
     (sym c.passes.ensures ∙ not-false _ c.if-not-passes.false-raw)
-    (swap_writes _ c.field-old.ensures.sees c.give_value.ensures _ §at-operand.operand.ensures.1 c.store_field.ensures.becomes c.leave.ensures _ §at_seen.seen.ensures.1 §at_x.x.given.1)
+    (swap_writes _ c.field-old.ensures.sees c.give_value.ensures _ c.operand-v.ensures.sees c.store_field.ensures.becomes c.leave.ensures _ c.seen-x.ensures.sees c.in-Obj.is)

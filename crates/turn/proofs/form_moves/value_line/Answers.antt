@@ -10,5 +10,5 @@ returns-then-not-passes c = line_halts (value_answers _ c.operand_check-k.ensure
 
 pub returns : goal.returns
 returns c =
-    line_moves (value_answers _ §at-operand-check.operand-check.ensures) (sym §at-passes.passes.ensures ∙ not-false _ §at-if1.if1.false)
+    line_moves (value_answers _ c.operand_check-k.ensures) (sym c.passes.ensures ∙ not-false _ c.if-not-passes.false-raw)
     (value_writes _ c.operand-v.ensures.sees c.give_value.ensures c.leave.ensures)
