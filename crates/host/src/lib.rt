@@ -343,8 +343,8 @@ fn tell_race(
     *field = 0;
     *line = 0;
     match found {
-        Race::Refused(k, l) => {
-            *line = l;
+        Race::Refused(k, at) => {
+            *line = at;
             k
         }
         Race::Absent => 0,

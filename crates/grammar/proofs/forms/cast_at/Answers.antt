@@ -9,9 +9,6 @@ use Rattle.grammar.proofs.Told.{fits_as, two_words, word, last, an_operand, a_ca
 use Rattle.grammar.proofs.Telling.{short_row, cast_tells}
 use Rattle.grammar.proofs.forms.cast_at.Goals as goal
 
-pub overflow_add-w : goal.overflow_add-w
-overflow_add-w c = omega (arith, §c.before.before.before.before.before.before.before.before.before)
-
 pub returns : goal.returns
 returns c =
     record {

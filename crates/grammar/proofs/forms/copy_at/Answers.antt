@@ -9,9 +9,6 @@ use Rattle.grammar.proofs.Told.{fits_as, two_words, word, last, a_number, a_cap}
 use Rattle.grammar.proofs.Telling.{short_row, copy_tells}
 use Rattle.grammar.proofs.forms.copy_at.Goals as goal
 
-pub overflow_add-slot : goal.overflow_add-slot
-overflow_add-slot c = omega (arith, §c.before.before.before.before.before.before.before.before.before)
-
 pub returns : goal.returns
 returns c =
     record {

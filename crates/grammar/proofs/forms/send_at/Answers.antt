@@ -9,12 +9,6 @@ use Rattle.grammar.proofs.Told.{fits_as, two_words, word, last, a_number, an_ope
 use Rattle.grammar.proofs.Telling.{short_row, send_tells}
 use Rattle.grammar.proofs.forms.send_at.Goals as goal
 
-pub overflow_add-w : goal.overflow_add-w
-overflow_add-w c = omega (arith, §c.before.before.before.before.before.before.before.before.before)
-
-pub overflow_add-target-2 : goal.overflow_add-target-2
-overflow_add-target-2 c = omega (arith, §c.before.before.before.before.before.before.before.before.before.before.before.before.before.before.before.before.before.before)
-
 pub returns : goal.returns
 returns c =
     record {

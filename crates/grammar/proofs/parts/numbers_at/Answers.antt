@@ -12,15 +12,8 @@ use Rattle.grammar.specs.declared.parts.Items.{Items}
 use Rattle.grammar.specs.Items.{Listed}
 use Rattle.grammar.proofs.Many.{ReadTo, read_none, read_inside, read_more, read_all, number_shortens}
 use Rattle.grammar.proofs.ItemLists.{listed_more}
+use Rattle.grammar.proofs.parts.numbers_at.Invariants.{NumbersTo}
 use Rattle.grammar.proofs.parts.numbers_at.Goals as goal
-
--- what the loop has read of the list at a place
-record NumbersTo (s : List ℕ) (at : ℕ) (l : Items) (more : Bool) : Type 0 where
-  items : List ℕ
-  read : ReadTo number s at items l.ok l.end more
-  listed : Listed l (map suc items) (map (λ n. n) items)
-  start : at ≤ l.end
-  limit : l.end ≤ 65800
 
 pub loop-more-init : goal.loop-more-init
 loop-more-init c =

@@ -13,6 +13,15 @@ use Rattle.grammar.specs.Items.{Listed}
 use Rattle.grammar.proofs.Many.{ReadTo, read_none, read_inside, read_more, read_all, number_shortens}
 use Rattle.grammar.proofs.ItemLists.{listed_more}
 use Rattle.grammar.proofs.parts.numbers_at.Given as goal
+
+-- what the loop has read of the list at a place
+pub record NumbersTo (s : List ℕ) (at : ℕ) (l : Items) (more : Bool) : Type 0 where
+  pub items : List ℕ
+  pub read : ReadTo number s at items l.ok l.end more
+  pub listed : Listed l (map suc items) (map (λ n. n) items)
+  pub start : at ≤ l.end
+  pub limit : l.end ≤ 65800
+
 abbrev pub invariant-loop-more : goal.invariant-loop-more
 invariant-loop-more l = NumbersTo l.s l.at l.l l.more
 

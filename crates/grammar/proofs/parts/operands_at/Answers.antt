@@ -17,17 +17,8 @@ use Rattle.grammar.specs.Items.{Listed, past}
 use Rattle.grammar.proofs.Many.{ReadTo, read_none, read_inside, read_more, read_all, operand_shortens}
 use Rattle.grammar.proofs.ItemLists.{any_more, past_more, listed_more}
 use Rattle.grammar.proofs.OperandWords.{operand_item_lem, operand_first}
+use Rattle.grammar.proofs.parts.operands_at.Invariants.{OperandsTo}
 use Rattle.grammar.proofs.parts.operands_at.Goals as goal
-
--- what the loop has read of the list at a place
-record OperandsTo (s : List ℕ) (at : ℕ) (l : Items) (more : Bool) : Type 0 where
-  items : List Operand
-  read : ReadTo operand s at items l.ok l.end more
-  listed : Listed l (map operand_item items) (map slot_of items)
-  need : l.need ≡ past (map slot_of items)
-  own : l.own ≡ any takes_first items
-  start : at ≤ l.end
-  limit : l.end ≤ 65800
 
 pub loop-more-init : goal.loop-more-init
 unfolding past any

@@ -18,6 +18,17 @@ use Rattle.grammar.proofs.Many.{ReadTo, read_none, read_inside, read_more, read_
 use Rattle.grammar.proofs.ItemLists.{any_more, past_more, listed_more}
 use Rattle.grammar.proofs.OperandWords.{operand_item_lem, operand_first}
 use Rattle.grammar.proofs.parts.operands_at.Given as goal
+
+-- what the loop has read of the list at a place
+pub record OperandsTo (s : List ℕ) (at : ℕ) (l : Items) (more : Bool) : Type 0 where
+  pub items : List Operand
+  pub read : ReadTo operand s at items l.ok l.end more
+  pub listed : Listed l (map operand_item items) (map slot_of items)
+  pub need : l.need ≡ past (map slot_of items)
+  pub own : l.own ≡ any takes_first items
+  pub start : at ≤ l.end
+  pub limit : l.end ≤ 65800
+
 abbrev pub invariant-loop-more : goal.invariant-loop-more
 invariant-loop-more l = OperandsTo l.s l.at l.l l.more
 
