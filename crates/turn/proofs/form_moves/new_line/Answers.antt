@@ -27,90 +27,84 @@ add_object-requires c =
     (c.requires.0, omega arith, c.item_value-va.ensures.in_table, c.item_value-vb.ensures.in_table, c.item_value-vc.ensures.in_table, c.item_value-vd.ensures.in_table)
 
 pub give_value-requires : goal.give_value-requires
-give_value-requires c =
-    (
-      omega (
-        arith,
-        c.add_object.auto.0,
-        c.requires.0,
-      ),
-      c.requires.1,
-      omega arith,
-    )
+give_value-requires c = (
+  omega (
+    arith,
+    c.add_object.auto.0,
+    c.requires.0,
+  ),
+  c.requires.1,
+  omega arith,
+)
 
 pub hold-requires : goal.hold-requires
-hold-requires c =
-    (
-      omega (
-        arith,
-        c.give_value.auto.0,
-        c.add_object.auto.0,
-        c.requires.0,
-      ),
-      omega arith,
-    )
+hold-requires c = (
+  omega (
+    arith,
+    c.give_value.auto.0,
+    c.add_object.auto.0,
+    c.requires.0,
+  ),
+  omega arith,
+)
 
 pub leave_item-requires : goal.leave_item-requires
-leave_item-requires c =
-    (
-      omega (
-        arith,
-        c.hold.auto.0,
-        c.give_value.auto.0,
-        c.add_object.auto.0,
-        c.requires.0,
-      ),
-      c.requires.1,
-      c.item_value-va.ensures.in_table,
-    )
+leave_item-requires c = (
+  omega (
+    arith,
+    c.hold.auto.0,
+    c.give_value.auto.0,
+    c.add_object.auto.0,
+    c.requires.0,
+  ),
+  c.requires.1,
+  c.item_value-va.ensures.in_table,
+)
 
 pub leave_item-requires-2 : goal.leave_item-requires-2
-leave_item-requires-2 c =
-    (
-      omega (
-        arith,
-        c.leave_item.auto.0,
-        c.hold.auto.0,
-        c.give_value.auto.0,
-        c.add_object.auto.0,
-        c.requires.0,
-      ),
-      c.requires.1,
-      c.item_value-vb.ensures.in_table,
-    )
+leave_item-requires-2 c = (
+  omega (
+    arith,
+    c.leave_item.auto.0,
+    c.hold.auto.0,
+    c.give_value.auto.0,
+    c.add_object.auto.0,
+    c.requires.0,
+  ),
+  c.requires.1,
+  c.item_value-vb.ensures.in_table,
+)
 
 pub leave_item-requires-3 : goal.leave_item-requires-3
-leave_item-requires-3 c =
-    (
-      omega (
-        arith,
-        c.leave_item-2.auto.0,
-        c.leave_item.auto.0,
-        c.hold.auto.0,
-        c.give_value.auto.0,
-        c.add_object.auto.0,
-        c.requires.0,
-      ),
-      c.requires.1,
-      c.item_value-vc.ensures.in_table,
-    )
+leave_item-requires-3 c = (
+  omega (
+    arith,
+    c.leave_item-2.auto.0,
+    c.leave_item.auto.0,
+    c.hold.auto.0,
+    c.give_value.auto.0,
+    c.add_object.auto.0,
+    c.requires.0,
+  ),
+  c.requires.1,
+  c.item_value-vc.ensures.in_table,
+)
 
 pub leave_item-requires-4 : goal.leave_item-requires-4
-leave_item-requires-4 c =
-    (
-      omega (
-        arith,
-        c.leave_item-3.auto.0,
-        c.leave_item-2.auto.0,
-        c.leave_item.auto.0,
-        c.hold.auto.0,
-        c.give_value.auto.0,
-        c.add_object.auto.0,
-        c.requires.0,
-      ),
-      c.requires.1,
-      c.item_value-vd.ensures.in_table,
-    )
+leave_item-requires-4 c = (
+  omega (
+    arith,
+    c.leave_item-3.auto.0,
+    c.leave_item-2.auto.0,
+    c.leave_item.auto.0,
+    c.hold.auto.0,
+    c.give_value.auto.0,
+    c.add_object.auto.0,
+    c.requires.0,
+  ),
+  c.requires.1,
+  c.item_value-vd.ensures.in_table,
+)
 
 pub returns : goal.returns
 returns c =
