@@ -1,7 +1,7 @@
 -- `turn::copies::any_foreign_met` meets its contract: before turn i none of the first i is foreign.
 use Prim.Native.Nat.{◌-◌, ◌≤◌}
 use lib.ListN.{take}
-use Rattle.turn.proofs.CopiesMade.{NoneBefore, none_before, one_is_foreign, one_is_not, none_is_foreign}
+use Rattle.turn.proofs.CopiesMade.{NoneBefore}
 use Rattle.turn.proofs.copies.any_foreign_met.Given as goal
 
 abbrev pub invariant-loop-i : goal.invariant-loop-i

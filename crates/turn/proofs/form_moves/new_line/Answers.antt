@@ -27,51 +27,45 @@ add_object-requires c =
     (c.requires.0, omega arith, c.item_value-va.ensures.in_table, c.item_value-vb.ensures.in_table, c.item_value-vc.ensures.in_table, c.item_value-vd.ensures.in_table)
 
 pub give_value-requires : goal.give_value-requires
-give_value-requires c =
-    (
-      omega arith,
-      c.requires.1,
-      omega arith,
-    )
+give_value-requires c = (
+  omega arith,
+  c.requires.1,
+  omega arith,
+)
 
 pub hold-requires : goal.hold-requires
-hold-requires c =
-    (
-      omega arith,
-      omega arith,
-    )
+hold-requires c = (
+  omega arith,
+  omega arith,
+)
 
 pub leave_item-requires : goal.leave_item-requires
-leave_item-requires c =
-    (
-      omega arith,
-      c.requires.1,
-      c.item_value-va.ensures.in_table,
-    )
+leave_item-requires c = (
+  omega arith,
+  c.requires.1,
+  c.item_value-va.ensures.in_table,
+)
 
 pub leave_item-requires-2 : goal.leave_item-requires-2
-leave_item-requires-2 c =
-    (
-      omega arith,
-      c.requires.1,
-      c.item_value-vb.ensures.in_table,
-    )
+leave_item-requires-2 c = (
+  omega arith,
+  c.requires.1,
+  c.item_value-vb.ensures.in_table,
+)
 
 pub leave_item-requires-3 : goal.leave_item-requires-3
-leave_item-requires-3 c =
-    (
-      omega arith,
-      c.requires.1,
-      c.item_value-vc.ensures.in_table,
-    )
+leave_item-requires-3 c = (
+  omega arith,
+  c.requires.1,
+  c.item_value-vc.ensures.in_table,
+)
 
 pub leave_item-requires-4 : goal.leave_item-requires-4
-leave_item-requires-4 c =
-    (
-      omega arith,
-      c.requires.1,
-      c.item_value-vd.ensures.in_table,
-    )
+leave_item-requires-4 c = (
+  omega arith,
+  c.requires.1,
+  c.item_value-vd.ensures.in_table,
+)
 
 pub returns : goal.returns
 returns c =
