@@ -1,8 +1,9 @@
 -- `turn::turns::would_wait` meets its contract: a thread without a frame waits; of the lines only a send and a recv can.
 use native.Mathlib.Omega.{arith}
-use mathlib.Core.List.{[], ◌∷◌}
+use mathlib.Core.Path.{◌≡◌, ap, ◌∙◌}
 use Rattle.rules.specs.declared.forms.Form.TheVariants.{Send, Recv}
-use Rattle.rules.proofs.FormNumbers.{number_told, all_but, not_told}
+use Rattle.rules.specs.Forms.{form_of}
+use Rattle.rules.proofs.FormNumbers.{place, number_told}
 use Rattle.turn.proofs.Dispatch.{tells_send, tells_recv}
 use Rattle.turn.proofs.Located.{past_idles, frameless_idles, locates}
 use Rattle.turn.proofs.Waiting.{idle_waits, line_would_wait, others_would_not}
@@ -17,15 +18,15 @@ returns-then-d-eq0 c = idle_waits (frameless_idles c.frame_count-d.ensures.sees 
 pub returns-in-Send : goal.returns-in-Send
 returns-in-Send c =
     line_would_wait (locates c.frame_count-d.ensures.sees c.if-d-eq0.false c.locate-h.ensures.placed.1 c.locate-h.ensures.stands)
-    (tells_send c.part.ensures c.part-a.ensures c.part-in-Send.ensures (number_told c.form_of-form.ensures c.in-Send.is (omega arith))) c.send_waits.ensures
+    (tells_send c.part.ensures c.part-a.ensures c.part-in-Send.ensures (number_told c.form_of-form.ensures (ap place c.in-Send.is) (omega arith))) c.send_waits.ensures
 
 pub returns-in-Recv : goal.returns-in-Recv
 returns-in-Recv c =
     line_would_wait (locates c.frame_count-d.ensures.sees c.if-d-eq0.false c.locate-h.ensures.placed.1 c.locate-h.ensures.stands)
-    (tells_recv c.part.ensures c.part-a.ensures (number_told c.form_of-form.ensures c.in-Recv.is (omega arith))) c.recv_waits.ensures
+    (tells_recv c.part.ensures c.part-a.ensures (number_told c.form_of-form.ensures (ap place c.in-Recv.is) (omega arith))) c.recv_waits.ensures
 
 pub returns-in-NoForm : goal.returns-in-NoForm
 returns-in-NoForm c =
-    let ks = all_but (Send ∷ Recv ∷ []) in
     others_would_not (locates c.frame_count-d.ensures.sees c.if-d-eq0.false c.locate-h.ensures.placed.1 c.locate-h.ensures.stands) c.part.ensures
-    (not_told ks c.form_of-form.ensures c.in-NoForm.is tt) (not_told ks c.form_of-form.ensures c.in-NoForm.is tt)
+    (λ e. let told : c.form_of-form.result ≡ Send = c.form_of-form.ensures ∙ ap form_of e in grind arith)
+    (λ e. let told : c.form_of-form.result ≡ Recv = c.form_of-form.ensures ∙ ap form_of e in grind arith)
