@@ -12,7 +12,7 @@ use Rattle.grammar.proofs.words.word.Goals as goal
 pub loop-i-init : goal.loop-i-init
 unfolding word_of
 loop-i-init c =
-    (omega arith, rw (drop-length c.args.w.now), every_byte c.args.w.now (λ i. (c.shared_slice_known-1.given i).fits))
+    (omega arith, rw (drop-length c.args.w.now), every_byte c.args.w.now (λ i. (c.type_inv.w i).fits))
 
 pub overflow_sub-i : goal.overflow_sub-i
 overflow_sub-i c = omega arith
