@@ -1,11 +1,9 @@
 -- The bytes passed, from the last one down, make the number of the rest of the word.
-use Prim.Native.Nat.{◌≤◌}
 use native.Mathlib.Omega.{arith}
 use mathlib.Core.Path.{◌≡◌, ap, ◌∙◌}
-use lib.ListN.{length, drop}
+use lib.ListN.{drop}
 use lib.Seq.{drop-length}
-use Rattle.rules.specs.Lists.{Every}
-use Rattle.grammar.specs.Words.{Byte, word_of}
+use Rattle.grammar.specs.Words.{word_of}
 use Rattle.grammar.proofs.WordLaws.{every_byte, six_bytes, word_earlier}
 use Rattle.grammar.proofs.words.word.Goals as goal
 
