@@ -1,5 +1,4 @@
 -- No stray byte stands before i.
-use borrow.Author.Tests.{not-true, not-false}
 use Prim.Native.Nat.{◌-◌, ◌≤◌}
 use mathlib.Core.Path.{◌≡◌, refl, sym, ◌∙◌}
 use native.Mathlib.Omega.{arith}
@@ -14,11 +13,11 @@ loop-i-init c = (search rules, refl)
 
 pub returns-then-not-is_allowed : goal.returns-then-not-is_allowed
 returns-then-not-is_allowed c =
-    sym (c.loop-i.invariant.1 ∙ stray_here c.args.s.now c.loop-i.i c.loop-i-test.true (sym c.is_allowed.ensures ∙ not-true _ c.if-not-is_allowed.true-raw))
+    sym (c.loop-i.invariant.1 ∙ stray_here c.args.s.now c.loop-i.i c.loop-i-test.true (sym c.is_allowed.ensures ∙ c.if-not-is_allowed.true))
 
 pub loop-i-preserved : goal.loop-i-preserved
 loop-i-preserved c =
-    (omega arith, c.loop-i.invariant.1 ∙ stray_further c.args.s.now c.loop-i.i c.loop-i-test.true (sym c.is_allowed.ensures ∙ not-false _ c.if-not-is_allowed.false-raw))
+    (omega arith, c.loop-i.invariant.1 ∙ stray_further c.args.s.now c.loop-i.i c.loop-i-test.true (sym c.is_allowed.ensures ∙ c.if-not-is_allowed.false))
 
 pub returns : goal.returns
 returns c =
