@@ -1,11 +1,5 @@
 -- The tests are those of the step on the form, one after the other.
-use Prim.Native.Nat.{ℕ}
-use mathlib.Core.Path.{◌≡◌}
-use mathlib.Core.Bool.{◌&&◌, cond}
-use lib.Dec.{ltb, eqb}
-use borrow.Author.Tests.{not-true, not-false, lt-ltb, le-ltb, eq-eqb, ne_eqb}
-use Rattle.rules.specs.Numbers as No
-use Rattle.reader.specs.Sofar.{Faults}
+use borrow.Author.Tests.{lt-ltb, le-ltb, eq-eqb, ne_eqb}
 use Rattle.reader.proofs.LineChecks.{faults, faults_alone}
 use Rattle.reader.proofs.faults.fault.Goals as goal
 

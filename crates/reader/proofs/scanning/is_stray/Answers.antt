@@ -1,9 +1,6 @@
 -- No stray byte stands before i.
-use Prim.Native.Nat.{◌-◌, ◌≤◌}
-use mathlib.Core.Path.{◌≡◌, refl, sym, ◌∙◌}
+use mathlib.Core.Path.{refl, sym, ◌∙◌}
 use native.Mathlib.Omega.{arith}
-use lib.ListN.{length, drop}
-use Rattle.rules.specs.Text.{stray}
 use Rattle.reader.proofs.Lines.{stray_here, stray_further, stray_nowhere}
 use Rattle.std.proofs.Common.{rules}
 use Rattle.reader.proofs.scanning.is_stray.Goals as goal

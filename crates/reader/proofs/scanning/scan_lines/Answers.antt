@@ -1,10 +1,7 @@
 -- The loop keeps what was read in the table and the lines from here on still to scan; each turn takes one line.
 use native.Mathlib.Omega.{arith}
-use Prim.Native.Nat.{◌-◌}
-use lib.ListN.{length}
 use borrow.Author.Tests.{not-true, not-false}
-use Rattle.reader.specs.Sofar.{edition_of}
-use Rattle.reader.proofs.Scan.{Scanning, at_start, at_end, unfit_line, refused_line, Passes, passes, few_lines, small, room, further, next_line}
+use Rattle.reader.proofs.Scan.{at_start, at_end, unfit_line, refused_line, passes, few_lines, small, room, further, next_line}
 use Rattle.reader.proofs.scanning.scan_lines.Goals as goal
 
 pub loop-at-init : goal.loop-at-init
