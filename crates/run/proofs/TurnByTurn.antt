@@ -163,6 +163,7 @@ module _ {t : ℕ} {f : Frame} {fs : List Frame} {s rest : List ℕ} where
   has_moved (stopped is) move = impossible cc
 
   has_waited : {s₁ : List ℕ} {x : Res State} → Performed t f fs s rest Waits s₁ x → (x ≡ wait) × (s₁ ≡ s)
+  has_waited (moved held went) = elim went [ ]
   has_waited waited = (refl, refl)
   has_waited (stopped is) = impossible cc
 
