@@ -6,29 +6,29 @@ use listing::Printed;
 use streams::Reading;
 
 // The printed run of an input that was read whole.
-fn print(input: &[u8]) {
+fn print(rt: &HostRuntime, input: &[u8]) {
     let mut output = [0u8; 32768];
     let printed = replay::print_input(input, &mut output);
     match printed {
         Printed::Written(n) => {
-            let written = streams::write_all(libc::STDOUT_FILENO, &output[..n]);
-            if !written {
-                os::fail(b"boxrun: standard output");
+            let written = streams::write_all(&mut rt.stdout(), &output[..n]);
+            if let Err(error) = written {
+                streams::tell(&mut rt.stderr(), b"boxrun: standard output", error);
             }
         }
         Printed::Refused(_, _) => {} // the output is long enough
     }
 }
 
-fn main() {
+fn main(rt: HostRuntime) {
     let mut input = [0u8; 65537]; // one byte more than an input may have
-    let reading = streams::read_all(libc::STDIN_FILENO, &mut input);
+    let reading = streams::read_all(&mut rt.stdin(), &mut input);
     match reading {
         Reading::Got(n) => {
-            print(&input[..n]);
+            print(&rt, &input[..n]);
         }
-        Reading::Failed => {
-            os::fail(b"boxrun: standard input");
+        Reading::Failed(error) => {
+            streams::tell(&mut rt.stderr(), b"boxrun: standard input", error);
         }
     }
 }

@@ -5,18 +5,17 @@ use mathlib.Core.Path.{◌≡◌, sym, subst}
 use mathlib.Core.List.{List}
 use lib.ListN.{length, take, drop, length-drop}
 use lib.Seq.{length-take-le}
-use Rattle.io.specs.Counts.{IsPrefixLen}
 use Rattle.streams.specs.declared.Step.{Step}
 use Rattle.streams.specs.declared.Step.TheVariants.{Moved, Nothing, Interrupted, Failed}
 use Rattle.streams.specs.declared.Reading.{Reading}
 use Rattle.streams.specs.declared.Reading.TheVariants.{Got}
-use Rattle.streams.specs.Counted.{AtMost, Within}
+use Rattle.streams.specs.Counted.{AtMost, IsPrefixLen, Within}
 
 pub none_moved : (most : ℕ) (s : Step) → AtMost 0 s → AtMost most s
 none_moved most (Moved n) h = absurd (omega arith)
 none_moved most Nothing h = tt
 none_moved most Interrupted h = tt
-none_moved most Failed h = tt
+none_moved most (Failed e) h = tt
 
 pub some_moved : (most : ℕ) {n : ℕ} {s : Step} → s ≡ Moved n → AtMost most s → (0 < n) × (n ≤ most)
 some_moved most is h = subst (AtMost most) is h

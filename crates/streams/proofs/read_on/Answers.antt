@@ -3,4 +3,4 @@ use Rattle.streams.proofs.StepLaws.{part_moved}
 use Rattle.streams.proofs.read_on.Goals as goal
 
 pub returns : goal.returns
-returns c = let start = c.args in part_moved start.buf.now start.at c.read_once.result c.read_once.ensures
+returns g c = let start = c.args in part_moved start.buf.now start.at c.read_once.result c.read_once.ensures

@@ -1,11 +1,10 @@
 -- `streams::write_all` ends: a write leaves fewer bytes of the text, or an interruption fewer tries.
 use Prim.Native.Nat.{◌+◌, ◌-◌, ◌≤◌}
-use native.Mathlib.Omega.{arith}
-use Rattle.streams.proofs.StepLaws.{some_moved}
 use lib.ListN.{length}
 use Rattle.streams.proofs.write_all.Given as goal
+
 abbrev pub invariant-loop-written : goal.invariant-loop-written
-invariant-loop-written l = l.written ≤ length l.text
+invariant-loop-written g l = l.written ≤ length l.text
 
 abbrev pub decreases-loop-written : goal.decreases-loop-written
-decreases-loop-written l = length l.text - l.written + l.tries
+decreases-loop-written g l = length l.text - l.written + l.tries

@@ -3,4 +3,4 @@ use Rattle.streams.proofs.StepLaws.{part_moved}
 use Rattle.streams.proofs.write_on.Goals as goal
 
 pub returns : goal.returns
-returns c = let start = c.args in part_moved start.text.now start.at c.write_once.result c.write_once.ensures
+returns g c = let start = c.args in part_moved start.text.now start.at c.write_once.result c.write_once.ensures

@@ -30,8 +30,10 @@ returns c =
       own = sym (operand_first c.operand_at-w.result.word);
     })
     (λ four. elim c.if-form-eq-GIVE.branch [
-      then-form-eq-GIVE w ↦ (w.opened-is ∙ w.begins_at-opened-then-form-eq-GIVE.ensures, w.rest-is) |
-      else-form-eq-GIVE w ↦ absurd (omega arith) ])
+      | then-form-eq-GIVE w ↦ (w.opened-is ∙ w.begins_at-opened-then-form-eq-GIVE.ensures, w.rest-is)
+      | else-form-eq-GIVE w ↦ absurd (omega arith)
+    ])
     (λ five. elim c.if-form-eq-GIVE.branch [
-      then-form-eq-GIVE w ↦ absurd (omega arith) |
-      else-form-eq-GIVE w ↦ (w.opened-is ∙ c.begins_at-opened.ensures, w.rest-is) ])
+      | then-form-eq-GIVE w ↦ absurd (omega arith)
+      | else-form-eq-GIVE w ↦ (w.opened-is ∙ c.begins_at-opened.ensures, w.rest-is)
+    ])

@@ -1,7 +1,7 @@
 -- The form that a few bytes tell is the only one that can fit, so what that form gives is the line; where the text is too short, none fits.
 use mathlib.Core.Path.{sym, ◌∙◌}
 use native.Mathlib.Omega.{arith}
-use Rattle.grammar.proofs.Fronts.{line_by_form, line_by_either, line_in_short, past_all, one_past, not_up_to, line_by_none}
+use Rattle.grammar.proofs.Fronts.{line_by_form, line_by_either, line_in_short, not_up_to, line_by_none}
 use Rattle.grammar.proofs.forms.line_at.Goals.{in_default-via-then-form-lt1, in_default-via-else-form-lt1+else-form-lt6+else-form-lt9}
 use Rattle.grammar.proofs.forms.line_at.Goals as goal
 
@@ -48,5 +48,6 @@ pub returns-in_default : goal.returns-in_default
 returns-in_default c =
     line_by_none _ _ _ _ c.short_line-in_default.ensures.ok_value.0 c.form_at-form.ensures
     (elim c.in_default.branch [
-      in_default-via-then-form-lt1 w ↦ not_up_to 14 _ (λ j h e. omega arith) |
-      in_default-via-else-form-lt1+else-form-lt6+else-form-lt9 w ↦ not_up_to 14 _ (λ j h e. omega arith) ])
+      | in_default-via-then-form-lt1 w ↦ not_up_to 14 _ (λ j h e. omega arith)
+      | in_default-via-else-form-lt1+else-form-lt6+else-form-lt9 w ↦ not_up_to 14 _ (λ j h e. omega arith)
+    ])

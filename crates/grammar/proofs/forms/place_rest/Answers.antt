@@ -1,11 +1,8 @@
 -- Each part is read where the one before it ends; the operand's word tells its slot and whether it takes slot 0.
-use native.Mathlib.Omega.{arith}
 use mathlib.Core.Path.{sym, ◌∙◌}
-use Rattle.rules.specs.Lists.{all}
 use Rattle.rules.specs.Text.{bytes}
 use Rattle.rules.specs.Tables.{operand_of}
 use Rattle.rules.proofs.TableWords.{slot_of_word}
-use Rattle.grammar.specs.Words.{plain}
 use Rattle.grammar.proofs.Told.{after, word, last, a_number, an_operand}
 use Rattle.grammar.proofs.OperandWords.{operand_word_lem, operand_first}
 use Rattle.grammar.proofs.Telling.{short_row}

@@ -9,8 +9,10 @@ pub returns : goal.returns
 returns c =
     swap_or_call c.args.at c.place_rest.ensures c.both.ensures c.begins_at-opened.ensures
     (λ seven. elim c.if-form-eq-SWAP.branch [
-      then-form-eq-SWAP w ↦ w.named-is ∙ w.begins_at-named-then-form-eq-SWAP.ensures |
-      else-form-eq-SWAP w ↦ absurd (omega arith) ])
+      | then-form-eq-SWAP w ↦ w.named-is ∙ w.begins_at-named-then-form-eq-SWAP.ensures
+      | else-form-eq-SWAP w ↦ absurd (omega arith)
+    ])
     (λ eight. elim c.if-form-eq-SWAP.branch [
-      then-form-eq-SWAP w ↦ absurd (omega arith) |
-      else-form-eq-SWAP w ↦ w.named-is ∙ c.begins_at-named.ensures ])
+      | then-form-eq-SWAP w ↦ absurd (omega arith)
+      | else-form-eq-SWAP w ↦ w.named-is ∙ c.begins_at-named.ensures
+    ])

@@ -10,7 +10,7 @@ use Rattle.grammar.proofs.parts.long_operand_at.Goals as goal
 pub returns : goal.returns
 returns c =
     let taken : c.if-takes.taken ≡ cond c.begins_at-takes.result 1 0
-          = elim c.if-takes.branch [ then-takes w ↦ w.taken-is ∙ rw w.if-takes.true | else-takes w ↦ w.taken-is ∙ rw w.if-takes.false ] in
+    = elim c.if-takes.branch [ then-takes w ↦ w.taken-is ∙ rw w.if-takes.true | else-takes w ↦ w.taken-is ∙ rw w.if-takes.false ] in
     let most : c.if-takes.taken ≤ 1 = elim c.if-takes.branch [ then-takes w ↦ omega arith | else-takes w ↦ omega arith ] in
     record {
       s_value = rw (c.both-2.ensures, c.either.ensures, c.both.ensures, c.begins_at-closed.ensures)

@@ -1,18 +1,12 @@
 -- `parts::numbers_at` meets its contract. The loop's invariant: the numbers read so far, put before what the list still gives at the place reached,
 -- are the whole list. The measure is what is left of the text: the loop goes on at a space only, which lies inside the text, and each number ends past it.
-use Prim.Native.Nat.{ℕ, suc, ◌-◌, ◌≤◌}
+use Prim.Native.Nat.{suc}
 use native.Mathlib.Numerals.{add-one}
 use native.Mathlib.Omega.{arith}
 use mathlib.Core.Path.{refl}
-use mathlib.Core.Bool.{Bool}
-use mathlib.Core.List.{List, [], ◌∷◌, ◌++◌, map, map-id}
-use lib.ListN.{length}
-use Rattle.rules.specs.Templates.{number}
-use Rattle.grammar.specs.declared.parts.Items.{Items}
-use Rattle.grammar.specs.Items.{Listed}
-use Rattle.grammar.proofs.Many.{ReadTo, read_none, read_inside, read_more, read_all, number_shortens}
+use mathlib.Core.List.{[], ◌∷◌, ◌++◌, map-id}
+use Rattle.grammar.proofs.Many.{read_none, read_inside, read_more, read_all, number_shortens}
 use Rattle.grammar.proofs.ItemLists.{listed_more}
-use Rattle.grammar.proofs.parts.numbers_at.Invariants.{NumbersTo}
 use Rattle.grammar.proofs.parts.numbers_at.Goals as goal
 
 pub loop-more-init : goal.loop-more-init
@@ -42,8 +36,11 @@ loop-more-preserved c =
     }
 
 pub returns : goal.returns
-returns c = record { numbers_at = record {
-        items = c.loop-more.invariant.items;
-        fits = read_all _ c.loop-more.invariant.read c.loop-more-test.false;
-        listed = rw map-id at c.loop-more.invariant.listed;
-      }; at_le_end = (c.loop-more.invariant.start, c.loop-more.invariant.limit) }
+returns c = record {
+  numbers_at = record {
+    items = c.loop-more.invariant.items;
+    fits = read_all _ c.loop-more.invariant.read c.loop-more-test.false;
+    listed = rw map-id at c.loop-more.invariant.listed;
+  };
+  at_le_end = (c.loop-more.invariant.start, c.loop-more.invariant.limit);
+}

@@ -12,7 +12,7 @@ pub returns : goal.returns
 returns c =
     let a = c.args in
     let taken : c.if-takes.taken ≡ cond c.begins_at-takes.result 1 0
-          = elim c.if-takes.branch [ then-takes w ↦ w.taken-is ∙ rw w.if-takes.true | else-takes w ↦ w.taken-is ∙ rw w.if-takes.false ] in
+    = elim c.if-takes.branch [ then-takes w ↦ w.taken-is ∙ rw w.if-takes.true | else-takes w ↦ w.taken-is ∙ rw w.if-takes.false ] in
     let most : c.if-takes.taken ≤ 1 = elim c.if-takes.branch [ then-takes w ↦ omega arith | else-takes w ↦ omega arith ] in
     let short = and_true _ _ (sym c.both.ensures ∙ c.if-not-both.false) in
     record {
