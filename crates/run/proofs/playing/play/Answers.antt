@@ -1,11 +1,6 @@
 -- Each stretch goes on where the one before it ended; past the last copy the run is the rules'.
 use native.Mathlib.Omega.{arith}
-use Prim.Native.Nat.{ℕ}
-use mathlib.Core.Path.{◌≡◌, refl, ◌∙◌}
-use mathlib.Core.List.{List}
-use lib.ListN.{length}
-use Rattle.run.specs.Played.{PlaysFrom}
-use Rattle.run.proofs.TurnByTurn.{plays_past, plays_all, turns_left, fewer_left}
+use Rattle.run.proofs.TurnByTurn.{plays_past, plays_all, fewer_left}
 use Rattle.run.proofs.playing.play.Goals as goal
 
 pub loop-stretch-init : goal.loop-stretch-init

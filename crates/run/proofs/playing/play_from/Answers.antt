@@ -6,9 +6,8 @@ use mathlib.Core.List.{List}
 use lib.ListN.{get_or}
 use Rattle.table.specs.StateTable.{Placed}
 use Rattle.checks.proofs.StepResults.{other_steps_stop}
-use Rattle.run.proofs.TurnByTurn.{kept_at, Playing, Looked, at_start, at_end, is_kept, has_none, found, same_looked, same_playing, turn_idles, no_turn, turn_goes_next, turn_stays, turn_leaves_frame, turn_waits, turn_stops, turn_at_copy}
+use Rattle.run.proofs.TurnByTurn.{kept_at, Looked, at_start, at_end, is_kept, has_none, found, same_looked, same_playing, turn_idles, no_turn, turn_goes_next, turn_stays, turn_leaves_frame, turn_waits, turn_stops, turn_at_copy}
 use Rattle.rules.specs.Turn.{stop}
-use Rattle.std.proofs.Common.{rules}
 use Rattle.run.proofs.playing.play_from.Goals as goal
 use Rattle.run.proofs.playing.play_from.Goals.{Then-rows-t-ne0, then-t-lt16+then-rows-t-ne0+else-part-eq-COPY+in-Next, then-rows-t-eq0+then-d-ne0, then-rows-t-eq0+else-d-ne0, else-rows-t-eq0, then-t-lt16+then-rows-t-ne0+else-part-eq-COPY+in-Stay, then-t-lt16+then-rows-t-ne0+else-part-eq-COPY+in-Turned, then-t-lt16+then-rows-t-ne0+else-part-eq-COPY+in-Waits, then-t-lt16+else-rows-t-ne0, else-t-lt16}
 
@@ -23,11 +22,11 @@ Found c =
 looked : (c : Then-rows-t-ne0) → Found c
 looked c =
     elim c.if-rows-t-eq0.branch [
-        then-rows-t-eq0+then-d-ne0 v ↦
-            same_looked v.rows-is v.frames-is v.depths-is
-            (found c.loop-i.invariant v.frame_count-d.ensures.sees v.if-d-ne0.true c.if-t-lt16.true v.locate-h.ensures.placed.0 v.locate-h.ensures.placed.1 v.locate-h.ensures.stands)
-    | then-rows-t-eq0+else-d-ne0 v ↦ same_looked v.rows-is v.frames-is v.depths-is (has_none c.loop-i.invariant v.frame_count-d.ensures.sees v.if-d-ne0.false)
-    | else-rows-t-eq0 v ↦ same_looked v.rows-is v.frames-is v.depths-is (is_kept c.loop-i.invariant v.if-rows-t-eq0.false)
+      | then-rows-t-eq0+then-d-ne0 v ↦
+          same_looked v.rows-is v.frames-is v.depths-is
+          (found c.loop-i.invariant v.frame_count-d.ensures.sees v.if-d-ne0.true c.if-t-lt16.true v.locate-h.ensures.placed.0 v.locate-h.ensures.placed.1 v.locate-h.ensures.stands)
+      | then-rows-t-eq0+else-d-ne0 v ↦ same_looked v.rows-is v.frames-is v.depths-is (has_none c.loop-i.invariant v.frame_count-d.ensures.sees v.if-d-ne0.false)
+      | else-rows-t-eq0 v ↦ same_looked v.rows-is v.frames-is v.depths-is (is_kept c.loop-i.invariant v.if-rows-t-eq0.false)
     ]
 
 -- where its place is kept, the place is one of the tables
@@ -78,57 +77,57 @@ FoundAt c rows frames depths =
 pub loop-i-preserved : goal.loop-i-preserved
 loop-i-preserved c =
     elim c.if-t-lt16.branch [
-      then-t-lt16+then-rows-t-ne0+else-part-eq-COPY+in-Next w ↦
-        let at : FoundAt c w.if-rows-t-eq0.rows w.if-rows-t-eq0.frames w.if-rows-t-eq0.depths = elim w.if-rows-t-eq0.branch [
-          then-rows-t-eq0+then-d-ne0 v ↦
-              same_looked v.rows-is v.frames-is v.depths-is
-              (found c.loop-i.invariant v.frame_count-d.ensures.sees v.if-d-ne0.true w.if-t-lt16.true v.locate-h.ensures.placed.0 v.locate-h.ensures.placed.1 v.locate-h.ensures.stands)
-        | then-rows-t-eq0+else-d-ne0 v ↦ same_looked v.rows-is v.frames-is v.depths-is (has_none c.loop-i.invariant v.frame_count-d.ensures.sees v.if-d-ne0.false)
-        | else-rows-t-eq0 v ↦ same_looked v.rows-is v.frames-is v.depths-is (is_kept c.loop-i.invariant v.if-rows-t-eq0.false)
-        ] in
-        same_playing w.s-is w.rows-is w.frames-is w.depths-is w.moves-is
-        (turn_goes_next at.playing c.loop-i-test.true refl c.requires.2 w.if-rows-t-ne0.true w.in-Next.is w.perform-step.ensures w.perform-step.auto.s w.next_line.ensures.0 w.next_line.ensures.3)
-    | then-t-lt16+then-rows-t-ne0+else-part-eq-COPY+in-Stay w ↦
-        let at : FoundAt c w.if-rows-t-eq0.rows w.if-rows-t-eq0.frames w.if-rows-t-eq0.depths = elim w.if-rows-t-eq0.branch [
-          then-rows-t-eq0+then-d-ne0 v ↦
-              same_looked v.rows-is v.frames-is v.depths-is
-              (found c.loop-i.invariant v.frame_count-d.ensures.sees v.if-d-ne0.true w.if-t-lt16.true v.locate-h.ensures.placed.0 v.locate-h.ensures.placed.1 v.locate-h.ensures.stands)
-        | then-rows-t-eq0+else-d-ne0 v ↦ same_looked v.rows-is v.frames-is v.depths-is (has_none c.loop-i.invariant v.frame_count-d.ensures.sees v.if-d-ne0.false)
-        | else-rows-t-eq0 v ↦ same_looked v.rows-is v.frames-is v.depths-is (is_kept c.loop-i.invariant v.if-rows-t-eq0.false)
-        ] in
-        same_playing w.s-is w.rows-is w.frames-is w.depths-is w.moves-is
-        (turn_stays at.playing c.loop-i-test.true refl c.requires.2 w.if-rows-t-ne0.true w.in-Stay.is w.perform-step.ensures w.perform-step.auto.s)
-    | then-t-lt16+then-rows-t-ne0+else-part-eq-COPY+in-Turned w ↦
-        let at : FoundAt c w.if-rows-t-eq0.rows w.if-rows-t-eq0.frames w.if-rows-t-eq0.depths = elim w.if-rows-t-eq0.branch [
-          then-rows-t-eq0+then-d-ne0 v ↦
-              same_looked v.rows-is v.frames-is v.depths-is
-              (found c.loop-i.invariant v.frame_count-d.ensures.sees v.if-d-ne0.true w.if-t-lt16.true v.locate-h.ensures.placed.0 v.locate-h.ensures.placed.1 v.locate-h.ensures.stands)
-        | then-rows-t-eq0+else-d-ne0 v ↦ same_looked v.rows-is v.frames-is v.depths-is (has_none c.loop-i.invariant v.frame_count-d.ensures.sees v.if-d-ne0.false)
-        | else-rows-t-eq0 v ↦ same_looked v.rows-is v.frames-is v.depths-is (is_kept c.loop-i.invariant v.if-rows-t-eq0.false)
-        ] in
-        same_playing w.s-is w.rows-is w.frames-is w.depths-is w.moves-is
-        (turn_leaves_frame at.playing c.loop-i-test.true refl c.requires.2 w.if-rows-t-ne0.true w.in-Turned.is w.perform-step.ensures w.perform-step.auto.s)
-    | then-t-lt16+then-rows-t-ne0+else-part-eq-COPY+in-Waits w ↦
-        let at : FoundAt c w.if-rows-t-eq0.rows w.if-rows-t-eq0.frames w.if-rows-t-eq0.depths = elim w.if-rows-t-eq0.branch [
-          then-rows-t-eq0+then-d-ne0 v ↦
-              same_looked v.rows-is v.frames-is v.depths-is
-              (found c.loop-i.invariant v.frame_count-d.ensures.sees v.if-d-ne0.true w.if-t-lt16.true v.locate-h.ensures.placed.0 v.locate-h.ensures.placed.1 v.locate-h.ensures.stands)
-        | then-rows-t-eq0+else-d-ne0 v ↦ same_looked v.rows-is v.frames-is v.depths-is (has_none c.loop-i.invariant v.frame_count-d.ensures.sees v.if-d-ne0.false)
-        | else-rows-t-eq0 v ↦ same_looked v.rows-is v.frames-is v.depths-is (is_kept c.loop-i.invariant v.if-rows-t-eq0.false)
-        ] in
-        same_playing w.s-is w.rows-is w.frames-is w.depths-is w.moves-is
-        (turn_waits at.playing c.loop-i-test.true refl c.requires.2 w.if-rows-t-ne0.true w.in-Waits.is w.perform-step.ensures w.perform-step.auto.s)
-    | then-t-lt16+else-rows-t-ne0 w ↦
-        let at : FoundAt c w.if-rows-t-eq0.rows w.if-rows-t-eq0.frames w.if-rows-t-eq0.depths = elim w.if-rows-t-eq0.branch [
-          then-rows-t-eq0+then-d-ne0 v ↦
-              same_looked v.rows-is v.frames-is v.depths-is
-              (found c.loop-i.invariant v.frame_count-d.ensures.sees v.if-d-ne0.true w.if-t-lt16.true v.locate-h.ensures.placed.0 v.locate-h.ensures.placed.1 v.locate-h.ensures.stands)
-        | then-rows-t-eq0+else-d-ne0 v ↦ same_looked v.rows-is v.frames-is v.depths-is (has_none c.loop-i.invariant v.frame_count-d.ensures.sees v.if-d-ne0.false)
-        | else-rows-t-eq0 v ↦ same_looked v.rows-is v.frames-is v.depths-is (is_kept c.loop-i.invariant v.if-rows-t-eq0.false)
-        ] in
-        same_playing w.s-is w.rows-is w.frames-is w.depths-is w.moves-is
-        (turn_idles at c.loop-i-test.true refl w.if-rows-t-ne0.false)
-    | else-t-lt16 w ↦ same_playing w.s-is w.rows-is w.frames-is w.depths-is w.moves-is (no_turn c.loop-i.invariant c.loop-i-test.true refl w.if-t-lt16.false)
+      | then-t-lt16+then-rows-t-ne0+else-part-eq-COPY+in-Next w ↦
+          let at : FoundAt c w.if-rows-t-eq0.rows w.if-rows-t-eq0.frames w.if-rows-t-eq0.depths = elim w.if-rows-t-eq0.branch [
+            | then-rows-t-eq0+then-d-ne0 v ↦
+                same_looked v.rows-is v.frames-is v.depths-is
+                (found c.loop-i.invariant v.frame_count-d.ensures.sees v.if-d-ne0.true w.if-t-lt16.true v.locate-h.ensures.placed.0 v.locate-h.ensures.placed.1 v.locate-h.ensures.stands)
+            | then-rows-t-eq0+else-d-ne0 v ↦ same_looked v.rows-is v.frames-is v.depths-is (has_none c.loop-i.invariant v.frame_count-d.ensures.sees v.if-d-ne0.false)
+            | else-rows-t-eq0 v ↦ same_looked v.rows-is v.frames-is v.depths-is (is_kept c.loop-i.invariant v.if-rows-t-eq0.false)
+          ] in
+          same_playing w.s-is w.rows-is w.frames-is w.depths-is w.moves-is
+          (turn_goes_next at.playing c.loop-i-test.true refl c.requires.2 w.if-rows-t-ne0.true w.in-Next.is w.perform-step.ensures w.perform-step.auto.s w.next_line.ensures.0 w.next_line.ensures.3)
+      | then-t-lt16+then-rows-t-ne0+else-part-eq-COPY+in-Stay w ↦
+          let at : FoundAt c w.if-rows-t-eq0.rows w.if-rows-t-eq0.frames w.if-rows-t-eq0.depths = elim w.if-rows-t-eq0.branch [
+            | then-rows-t-eq0+then-d-ne0 v ↦
+                same_looked v.rows-is v.frames-is v.depths-is
+                (found c.loop-i.invariant v.frame_count-d.ensures.sees v.if-d-ne0.true w.if-t-lt16.true v.locate-h.ensures.placed.0 v.locate-h.ensures.placed.1 v.locate-h.ensures.stands)
+            | then-rows-t-eq0+else-d-ne0 v ↦ same_looked v.rows-is v.frames-is v.depths-is (has_none c.loop-i.invariant v.frame_count-d.ensures.sees v.if-d-ne0.false)
+            | else-rows-t-eq0 v ↦ same_looked v.rows-is v.frames-is v.depths-is (is_kept c.loop-i.invariant v.if-rows-t-eq0.false)
+          ] in
+          same_playing w.s-is w.rows-is w.frames-is w.depths-is w.moves-is
+          (turn_stays at.playing c.loop-i-test.true refl c.requires.2 w.if-rows-t-ne0.true w.in-Stay.is w.perform-step.ensures w.perform-step.auto.s)
+      | then-t-lt16+then-rows-t-ne0+else-part-eq-COPY+in-Turned w ↦
+          let at : FoundAt c w.if-rows-t-eq0.rows w.if-rows-t-eq0.frames w.if-rows-t-eq0.depths = elim w.if-rows-t-eq0.branch [
+            | then-rows-t-eq0+then-d-ne0 v ↦
+                same_looked v.rows-is v.frames-is v.depths-is
+                (found c.loop-i.invariant v.frame_count-d.ensures.sees v.if-d-ne0.true w.if-t-lt16.true v.locate-h.ensures.placed.0 v.locate-h.ensures.placed.1 v.locate-h.ensures.stands)
+            | then-rows-t-eq0+else-d-ne0 v ↦ same_looked v.rows-is v.frames-is v.depths-is (has_none c.loop-i.invariant v.frame_count-d.ensures.sees v.if-d-ne0.false)
+            | else-rows-t-eq0 v ↦ same_looked v.rows-is v.frames-is v.depths-is (is_kept c.loop-i.invariant v.if-rows-t-eq0.false)
+          ] in
+          same_playing w.s-is w.rows-is w.frames-is w.depths-is w.moves-is
+          (turn_leaves_frame at.playing c.loop-i-test.true refl c.requires.2 w.if-rows-t-ne0.true w.in-Turned.is w.perform-step.ensures w.perform-step.auto.s)
+      | then-t-lt16+then-rows-t-ne0+else-part-eq-COPY+in-Waits w ↦
+          let at : FoundAt c w.if-rows-t-eq0.rows w.if-rows-t-eq0.frames w.if-rows-t-eq0.depths = elim w.if-rows-t-eq0.branch [
+            | then-rows-t-eq0+then-d-ne0 v ↦
+                same_looked v.rows-is v.frames-is v.depths-is
+                (found c.loop-i.invariant v.frame_count-d.ensures.sees v.if-d-ne0.true w.if-t-lt16.true v.locate-h.ensures.placed.0 v.locate-h.ensures.placed.1 v.locate-h.ensures.stands)
+            | then-rows-t-eq0+else-d-ne0 v ↦ same_looked v.rows-is v.frames-is v.depths-is (has_none c.loop-i.invariant v.frame_count-d.ensures.sees v.if-d-ne0.false)
+            | else-rows-t-eq0 v ↦ same_looked v.rows-is v.frames-is v.depths-is (is_kept c.loop-i.invariant v.if-rows-t-eq0.false)
+          ] in
+          same_playing w.s-is w.rows-is w.frames-is w.depths-is w.moves-is
+          (turn_waits at.playing c.loop-i-test.true refl c.requires.2 w.if-rows-t-ne0.true w.in-Waits.is w.perform-step.ensures w.perform-step.auto.s)
+      | then-t-lt16+else-rows-t-ne0 w ↦
+          let at : FoundAt c w.if-rows-t-eq0.rows w.if-rows-t-eq0.frames w.if-rows-t-eq0.depths = elim w.if-rows-t-eq0.branch [
+            | then-rows-t-eq0+then-d-ne0 v ↦
+                same_looked v.rows-is v.frames-is v.depths-is
+                (found c.loop-i.invariant v.frame_count-d.ensures.sees v.if-d-ne0.true w.if-t-lt16.true v.locate-h.ensures.placed.0 v.locate-h.ensures.placed.1 v.locate-h.ensures.stands)
+            | then-rows-t-eq0+else-d-ne0 v ↦ same_looked v.rows-is v.frames-is v.depths-is (has_none c.loop-i.invariant v.frame_count-d.ensures.sees v.if-d-ne0.false)
+            | else-rows-t-eq0 v ↦ same_looked v.rows-is v.frames-is v.depths-is (is_kept c.loop-i.invariant v.if-rows-t-eq0.false)
+          ] in
+          same_playing w.s-is w.rows-is w.frames-is w.depths-is w.moves-is
+          (turn_idles at c.loop-i-test.true refl w.if-rows-t-ne0.false)
+      | else-t-lt16 w ↦ same_playing w.s-is w.rows-is w.frames-is w.depths-is w.moves-is (no_turn c.loop-i.invariant c.loop-i-test.true refl w.if-t-lt16.false)
     ]
 
 pub returns : goal.returns

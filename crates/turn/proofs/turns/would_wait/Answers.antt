@@ -3,7 +3,7 @@ use native.Mathlib.Omega.{arith}
 use mathlib.Core.Path.{◌≡◌, ap, ◌∙◌}
 use Rattle.rules.specs.declared.forms.Form.TheVariants.{Send, Recv}
 use Rattle.rules.specs.Forms.{form_of}
-use Rattle.rules.proofs.FormNumbers.{place, number_told}
+use Rattle.rules.proofs.FormNumbers.{number_told}
 use Rattle.turn.proofs.Dispatch.{tells_send, tells_recv}
 use Rattle.turn.proofs.Located.{past_idles, frameless_idles, locates}
 use Rattle.turn.proofs.Waiting.{idle_waits, line_would_wait, others_would_not}
