@@ -3,7 +3,7 @@ use native.Mathlib.Omega.{arith}
 use mathlib.Core.Path.{◌≡◌, ap, ◌∙◌}
 use Rattle.rules.specs.declared.forms.Form.TheVariants.{Send, Recv}
 use Rattle.rules.specs.Forms.{form_of}
-use Rattle.rules.proofs.FormNumbers.{place, number_told}
+use Rattle.rules.proofs.FormNumbers.{number_told}
 use Rattle.turn.proofs.Dispatch.{tells_send, tells_recv}
 use Rattle.turn.proofs.Located.{past_idles, frameless_idles, locates}
 use Rattle.turn.proofs.Waiting.{idle_waits, line_would_wait, others_would_not}
@@ -18,12 +18,12 @@ returns-then-d-eq0 c = idle_waits (frameless_idles c.frame_count-d.ensures.sees 
 pub returns-in-Send : goal.returns-in-Send
 returns-in-Send c =
     line_would_wait (locates c.frame_count-d.ensures.sees c.if-d-eq0.false c.locate-h.ensures.placed.1 c.locate-h.ensures.stands)
-    (tells_send c.part.ensures c.part-a.ensures c.part-in-Send.ensures (number_told c.form_of-form.ensures (ap place c.in-Send.is) (omega arith))) c.send_waits.ensures
+    (tells_send c.part.ensures c.part-a.ensures c.part-in-Send.ensures (number_told c.form_of-form.ensures c.in-Send.is (omega arith))) c.send_waits.ensures
 
 pub returns-in-Recv : goal.returns-in-Recv
 returns-in-Recv c =
     line_would_wait (locates c.frame_count-d.ensures.sees c.if-d-eq0.false c.locate-h.ensures.placed.1 c.locate-h.ensures.stands)
-    (tells_recv c.part.ensures c.part-a.ensures (number_told c.form_of-form.ensures (ap place c.in-Recv.is) (omega arith))) c.recv_waits.ensures
+    (tells_recv c.part.ensures c.part-a.ensures (number_told c.form_of-form.ensures c.in-Recv.is (omega arith))) c.recv_waits.ensures
 
 pub returns-in-NoForm : goal.returns-in-NoForm
 returns-in-NoForm c =
