@@ -13,7 +13,7 @@ pub loop-i-init : goal.loop-i-init
 loop-i-init c = (c.requires.2, c.requires.1, refl)
 
 pub overflow_cast-t : goal.overflow_cast-t
-overflow_cast-t c = let byte = (c.shared_slice_known-in-loop-i-1.given c.loop-i.i).fits in omega (arith, byte)
+overflow_cast-t c = omega (arith, c.type_inv.turns c.loop-i.i)
 
 pub count-requires : goal.count-requires
 count-requires c =
