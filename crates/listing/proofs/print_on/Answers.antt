@@ -24,4 +24,4 @@ put_state-requires c =
 pub returns : goal.returns
 returns c =
     let a = c.args in
-    let x = prints_run a.text.now a.turns.now c.requires.0 c.requires.1 c.make-answer.ensures c.if-output-lt32768.false c.put_answer-at.ensures (sym c.is_refusal.ensures ∙ c.if-output-lt32768.false) c.put_state.ensures in record { value = x.answers; output_after = x.leaves }
+    let x = prints_run a.text.now a.turns.now c.requires.0 c.requires.1 c.make-answer.ensures c.if-output-lt32768.false c.put_answer-at.ensures (sym c.is_refusal.ensures ∙ c.if-is_refusal.false) c.put_state.ensures in record { value = x.answers; output_after = x.leaves }
