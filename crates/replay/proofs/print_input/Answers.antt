@@ -8,10 +8,10 @@ print_fronts-requires c =
     parts_fit c.split-parts.ensures c.in-Turns.is
 
 pub returns-in-Away : goal.returns-in-Away
-returns-in-Away c = let all = rw (prints_told c.split-parts.ensures (omega arith) _ c.in-Away.is) c.print_refusal.ensures in record { value = all.0; output_after = all.1 }
+returns-in-Away c = rw (prints_told c.split-parts.ensures (omega arith) _ c.in-Away.is) (record { value = c.print_refusal.ensures.value; output_after = c.print_refusal.ensures.output_after })
 
 pub returns-in-Fault : goal.returns-in-Fault
-returns-in-Fault c = let all = rw (prints_told c.split-parts.ensures (omega arith) _ c.in-Fault.is) c.print_refusal-in-Fault.ensures in record { value = all.0; output_after = all.1 }
+returns-in-Fault c = rw (prints_told c.split-parts.ensures (omega arith) _ c.in-Fault.is) (record { value = c.print_refusal-in-Fault.ensures.value; output_after = c.print_refusal-in-Fault.ensures.output_after })
 
 pub returns-in-Turns : goal.returns-in-Turns
-returns-in-Turns c = let all = rw (prints_told c.split-parts.ensures (omega arith) _ c.in-Turns.is) c.print_fronts.ensures in record { value = all.0; output_after = all.1 }
+returns-in-Turns c = rw (prints_told c.split-parts.ensures (omega arith) _ c.in-Turns.is) (record { value = c.print_fronts.ensures.value; output_after = c.print_fronts.ensures.output_after })

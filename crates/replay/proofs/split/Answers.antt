@@ -17,7 +17,7 @@ pub returns-in-Fault : goal.returns-in-Fault
 returns-in-Fault c =
     let a = c.args in
     let long : 32768 ≤ length a.turns.now = omega (arith, c.if-turns-lt32768.false) in
-    splits_fault a.input.now a.turns.now (omega (arith, c.if-input-gt65536.false)) long c.turns_line-line.auto.1.1.0
+    splits_fault a.input.now a.turns.now (omega (arith, c.if-input-gt65536.false)) long c.turns_line-line.auto.turns
     c.last_start-at.ensures.0 c.last_start-at.ensures.1 c.last_start-at.ensures.2 c.turns_line-line.ensures.s_value
     c.in-Fault.is c.lines_before.ensures
 
@@ -25,6 +25,6 @@ pub returns-in-Turns : goal.returns-in-Turns
 returns-in-Turns c =
     let a = c.args in
     let long : 32768 ≤ length a.turns.now = omega (arith, c.if-turns-lt32768.false) in
-    splits_turns a.input.now a.turns.now (omega (arith, c.if-input-gt65536.false)) long c.turns_line-line.auto.1.1.0
+    splits_turns a.input.now a.turns.now (omega (arith, c.if-input-gt65536.false)) long c.turns_line-line.auto.turns
     c.last_start-at.ensures.0 c.last_start-at.ensures.1 c.last_start-at.ensures.2 c.turns_line-line.ensures.s_value
     c.in-Turns.is c.turns_line-line.ensures.result_bound

@@ -1,11 +1,5 @@
 -- `listing::state_lines::put_channels` meets its contract: before turn c the lines of the channels below c are written.
-use Prim.Native.Nat.{◌-◌, ◌*◌, ◌≤◌}
 use native.Mathlib.Omega.{arith}
-use mathlib.Core.Path.{◌≡◌}
-use lib.ListN.{length, take, drop}
-use Rattle.rules.specs.Listing.{channel_line, numbered}
-use Rattle.table.specs.StateTable.{Any}
-use Rattle.listing.specs.StateWriting.{Writes}
 use Rattle.listing.proofs.StateRows.{no_channel_yet, channel_after, all_channels}
 use Rattle.std.proofs.Common.{rules}
 use Rattle.listing.proofs.state_lines.put_channels.Goals as goal

@@ -1,10 +1,5 @@
 -- `listing::state_lines::put_fields` meets its contract: before turn j the first j fields are written.
-use Prim.Native.Nat.{◌-◌, ◌*◌, ◌≤◌, ◌<◌}
 use native.Mathlib.Omega.{arith}
-use mathlib.Core.Path.{◌≡◌}
-use lib.ListN.{length, take}
-use Rattle.rules.specs.State.{object_at}
-use Rattle.listing.specs.StateWriting.{Writes, value_parts}
 use Rattle.listing.proofs.StateRows.{no_field_yet, field_after, all_fields}
 use Rattle.std.proofs.Common.{rules}
 use Rattle.listing.proofs.state_lines.put_fields.Goals as goal

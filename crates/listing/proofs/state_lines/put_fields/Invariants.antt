@@ -1,12 +1,11 @@
 -- `listing::state_lines::put_fields` meets its contract: before turn j the first j fields are written.
 use Prim.Native.Nat.{◌-◌, ◌*◌, ◌≤◌, ◌<◌}
-use native.Mathlib.Omega.{arith}
 use mathlib.Core.Path.{◌≡◌}
 use lib.ListN.{length, take}
 use Rattle.rules.specs.State.{object_at}
 use Rattle.listing.specs.StateWriting.{Writes, value_parts}
-use Rattle.listing.proofs.StateRows.{no_field_yet, field_after, all_fields}
 use Rattle.listing.proofs.state_lines.put_fields.Given as goal
+
 abbrev pub invariant-loop-j : goal.invariant-loop-j
 invariant-loop-j l = (l.j ≤ 4) × (length l.buf ≡ length l.initial.buf) × Writes (13 * l.j) l.s l.initial.buf l.buf l.at l.m (λ S. l.o < length S.objects) (λ S. value_parts (take l.j (object_at S.objects l.o).fields))
 

@@ -1,11 +1,6 @@
 -- `listing::state_lines::put_objects` meets its contract: before turn o the lines of the objects below o are written.
-use Prim.Native.Nat.{◌-◌, ◌*◌, ◌≤◌}
 use native.Mathlib.Omega.{arith}
-use mathlib.Core.Path.{◌≡◌}
-use lib.ListN.{length, take}
-use Rattle.rules.specs.Listing.{object_line, numbered}
-use Rattle.table.specs.StateTable.{Any}
-use Rattle.listing.specs.StateWriting.{Writes}
+use Rattle.rules.specs.Listing.{object_line}
 use Rattle.listing.proofs.StateRows.{no_object_yet, object_after, all_objects_lem}
 use Rattle.std.proofs.Common.{rules}
 use Rattle.listing.proofs.state_lines.put_objects.Goals as goal

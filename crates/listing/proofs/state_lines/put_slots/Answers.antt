@@ -1,10 +1,5 @@
 -- `listing::state_lines::put_slots` meets its contract: before turn i the first i slots are written.
-use Prim.Native.Nat.{◌-◌, ◌*◌, ◌≤◌}
 use native.Mathlib.Omega.{arith}
-use mathlib.Core.Path.{◌≡◌}
-use lib.ListN.{length, take}
-use Rattle.table.specs.StateTable.{frame_at}
-use Rattle.listing.specs.StateWriting.{Writes, value_parts, Inner}
 use Rattle.listing.proofs.StateRows.{no_slot_yet, slot_after, all_slots}
 use Rattle.std.proofs.Common.{rules}
 use Rattle.listing.proofs.state_lines.put_slots.Goals as goal

@@ -1,11 +1,5 @@
 -- `listing::state_lines::put_threads` meets its contract: before turn t the lines of the threads below t are written.
-use Prim.Native.Nat.{◌-◌, ◌*◌, ◌≤◌}
 use native.Mathlib.Omega.{arith}
-use mathlib.Core.Path.{◌≡◌}
-use lib.ListN.{length, take}
-use Rattle.rules.specs.Listing.{thread_line, numbered}
-use Rattle.table.specs.StateTable.{Any}
-use Rattle.listing.specs.StateWriting.{Writes}
 use Rattle.listing.proofs.StateRows.{no_thread_yet, thread_after, all_threads}
 use Rattle.std.proofs.Common.{rules}
 use Rattle.listing.proofs.state_lines.put_threads.Goals as goal
