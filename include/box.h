@@ -27,7 +27,7 @@ extern "C" {
 /* The version of this header. The minor number counts the requests that have landed since the base, the patch number any other change; in one
  * number each has two digits. Header and library belong together where box_version() is BOX_VERSION. */
 #define BOX_VERSION_MAJOR 1
-#define BOX_VERSION_MINOR 9
+#define BOX_VERSION_MINOR 8
 #define BOX_VERSION_PATCH 0
 #define BOX_VERSION (10000 * BOX_VERSION_MAJOR + 100 * BOX_VERSION_MINOR + BOX_VERSION_PATCH)
 

@@ -4,7 +4,7 @@ use Rattle.rules.specs.Text.{bytes}
 use Rattle.grammar.specs.Words.{begins}
 use Rattle.box_tool.specs.declared.commands.Command.{Command}
 use Rattle.box_tool.specs.declared.commands.Command.TheVariants.{Print, Check, Reach, Explain, Version, Help, Unknown}
-use Rattle.box_tool.specs.declared.commands.Job.TheVariants.{Run, Save, Strip, Draw, Race}
+use Rattle.box_tool.specs.declared.commands.Job.TheVariants.{Run, Save, Strip, Draw}
 
 -- the text is the word
 unfoldable pub is : (word text : List ℕ) → Bool
@@ -17,8 +17,7 @@ input_command_of word =
     (cond (is (bytes "save") word) (Print Save)
     (cond (is (bytes "strip") word) (Print Strip)
     (cond (is (bytes "draw") word) (Print Draw)
-    (cond (is (bytes "race") word) (Print Race)
-    (cond (is (bytes "reach") word) Reach Unknown)))))
+    (cond (is (bytes "reach") word) Reach Unknown))))
 
 unfoldable pub command_of : List ℕ → Command
 command_of word =

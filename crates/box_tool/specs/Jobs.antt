@@ -5,10 +5,9 @@ use Rattle.rules.specs.Input.{boxrun}
 use Rattle.stripping.specs.StrippedTexts.{StrippedInput}
 use Rattle.reports.specs.ReachedLines.{reached_text}
 use Rattle.reports.specs.DrawnTexts.{drawn_text}
-use Rattle.reports.specs.RaceTexts.{race_text}
 use Rattle.save.specs.Saved.{saved}
 use Rattle.box_tool.specs.declared.commands.Job.{Job}
-use Rattle.box_tool.specs.declared.commands.Job.TheVariants.{Run, Save, Strip, Draw, Race, Reached}
+use Rattle.box_tool.specs.declared.commands.Job.TheVariants.{Run, Save, Strip, Draw, Reached}
 use Rattle.box_tool.specs.Status.{status_of, Unless}
 
 abbrev pub IsText : Job → (input text : List ℕ) → Type 0
@@ -16,7 +15,6 @@ IsText Run input text = text ≡ boxrun mosts input
 IsText Save input text = text ≡ saved input
 IsText Strip input text = StrippedInput input text
 IsText Draw input text = text ≡ drawn_text input
-IsText Race input text = text ≡ race_text input
 IsText (Reached t) input text = text ≡ reached_text input t
 
 -- such a text was printed, and the status is its, unless writing failed

@@ -11,7 +11,6 @@ pub enum Job {
     Save,
     Strip,
     Draw,
-    Race,
     Reached(usize),
 }
 
@@ -41,9 +40,6 @@ fn input_command_of(word: &[u8]) -> Command
     }
     if is(b"draw", word) {
         return Command::Print(Job::Draw);
-    }
-    if is(b"race", word) {
-        return Command::Print(Job::Race);
     }
     if is(b"reach", word) {
         return Command::Reach;

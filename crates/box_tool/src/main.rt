@@ -31,14 +31,13 @@ const REFUSED: u8 = b'1';
 // An error of the system, or of usage.
 const FAULT: u8 = b'2';
 
-const USAGE: [u8; 783] = *b"\
+const USAGE: [u8; 705] = *b"\
 usage: one of\n\
 box check [FILE]        print the check sheet of an input: the four conditions\n\
 box run [FILE]          print the run of an input: a script, then its turns\n\
 box save [FILE]         print the input again, its script from the program table\n\
 box strip [FILE]        print the input with every capability unsafe\n\
 box draw [FILE]         print the objects after the run as a graph for Graphviz\n\
-box race [FILE]         print whether the run has a race, and which two turns\n\
 box reach FILE THREAD   print the objects that a thread reaches after the run\n\
 box explain NUMBER      print what the number of a refusal or a stop means\n\
 box --version           print the version\n\
@@ -78,7 +77,6 @@ fn print(job: Job, input: &[u8], output: &mut [u8]) -> Printed
         Job::Save => save::print_saved(input, output),
         Job::Strip => stripping::print_stripped(input, output),
         Job::Draw => reports::print_drawn(input, output),
-        Job::Race => reports::print_race(input, output),
         Job::Reached(thread) => reports::print_reached(input, thread, output),
     }
 }
@@ -195,7 +193,7 @@ fn perform(rt: &HostRuntime, i: usize) -> u8
         Command::Check => check(rt, i + 1),
         Command::Reach => reach(rt, i + 1),
         Command::Explain => explain_argument(rt, i + 1),
-        Command::Version => write_out(rt, b"box 1.9.0\n", WELL),
+        Command::Version => write_out(rt, b"box 1.8.0\n", WELL),
         Command::Help => write_out(rt, &USAGE, WELL),
         Command::Unknown => usage(rt),
     }

@@ -4,7 +4,7 @@ use Prim.Native.Nat.{ℕ, suc, ◌+◌, ◌/◌, ◌≤◌, max}
 use native.Mathlib.Nat.{max-zero}
 use native.Mathlib.Omega.{arith}
 use mathlib.Core.Path.{◌≡◌, refl, sym, ap, ◌∙◌}
-use mathlib.Core.Bool.{Bool, false, ◌||◌, or_false, or_assoc}
+use mathlib.Core.Bool.{Bool, false, ◌||◌, or-false, or_assoc}
 use mathlib.Core.List.{List, [], ◌∷◌, ◌++◌, map}
 use lib.Dec.{ltb, eqb}
 use lib.ListN.{length, get_or, take, replicate, length-map}
@@ -14,7 +14,7 @@ use Rattle.rules.specs.Lists.{any, pad}
 use Rattle.rules.specs.Script.{Operand, value, field, swap, call, new, cast, spawn, send, recv, copy, bind, give, thread, method, Form, kind, opens, line}
 use Rattle.rules.specs.Reading.{slot_of, operands_in, targets_in, numbers_in, slots_in, takes_first, over255}
 use Rattle.rules.specs.Tables.{operand_item, line_words, row, operand_of, cap_of}
-use Rattle.rules.proofs.ListLaws.{by_bool, or_false as or_false-both}
+use Rattle.rules.proofs.ListLaws.{by_bool, or_false}
 use Rattle.rules.proofs.TableWords.{slot_of_word}
 use Rattle.grammar.specs.Items.{past, Listed}
 use Rattle.grammar.specs.Decoded.{over_line, line_row, Tells, PlaceRest}
@@ -43,19 +43,19 @@ tells F w o n t = record { number = ap (λ (l : List ℕ). get_or l 0 0) w; part
 module _ {s : List ℕ} {at : ℕ} {before : Bool} {r : Line} where
   pub give_tells : (R : OperandRest 4 before s at r) → Tells r (line (give R.operand))
   unfolding what_forms_name
-  give_tells R = tells (line (give R.operand)) R.words (simp or_false R.over) (simp max-zero R.need) (simp or_false R.own)
+  give_tells R = tells (line (give R.operand)) R.words (simp or-false R.over) (simp max-zero R.need) (simp or-false R.own)
 
   pub value_tells : (R : OperandRest 5 before s at r) → Tells r (line (bind (value R.operand)))
   unfolding what_forms_name
-  value_tells R = tells (line (bind (value R.operand))) R.words (simp or_false R.over) (simp max-zero R.need) (simp or_false R.own)
+  value_tells R = tells (line (bind (value R.operand))) R.words (simp or-false R.over) (simp max-zero R.need) (simp or-false R.own)
 
   pub swap_tells : (R : PlaceRest 7 before s at r) → Tells r (line (bind (swap R.target R.number R.operand)))
   unfolding what_forms_name
-  swap_tells R = tells (line (bind (swap R.target R.number R.operand))) R.words (simp or_false R.over) (simp max-zero R.need) (simp or_false R.own)
+  swap_tells R = tells (line (bind (swap R.target R.number R.operand))) R.words (simp or-false R.over) (simp max-zero R.need) (simp or-false R.own)
 
   pub call_tells : (R : PlaceRest 8 before s at r) → Tells r (line (bind (call R.target R.number R.operand)))
   unfolding what_forms_name
-  call_tells R = tells (line (bind (call R.target R.number R.operand))) R.words (simp or_false R.over) (simp max-zero R.need) (simp or_false R.own)
+  call_tells R = tells (line (bind (call R.target R.number R.operand))) R.words (simp or-false R.over) (simp max-zero R.need) (simp or-false R.own)
 
 module _ {r : Line} where
   pub thread_tells : line_row r ≡ 2 ∷ 0 ∷ 0 ∷ 0 ∷ 0 ∷ 0 ∷ 0 ∷ 0 ∷ [] → r.over ≡ false → r.need ≡ 0 → r.own ≡ false → Tells r (opens thread)
@@ -69,20 +69,20 @@ module _ {r : Line} where
   pub field_tells : (s f : ℕ) → line_row r ≡ 6 ∷ s ∷ f ∷ 0 ∷ 0 ∷ 0 ∷ 0 ∷ 0 ∷ [] → r.over ≡ (ltb Most.number s || ltb Most.number f) → r.need ≡ s + 1 → r.own ≡ false
       → Tells r (line (bind (field s f)))
   unfolding what_forms_name
-  field_tells s f w o n t = tells (line (bind (field s f))) w (simp or_false o) (simp max-zero n) t
+  field_tells s f w o n t = tells (line (bind (field s f))) w (simp or-false o) (simp max-zero n) t
 
   pub spawn_tells : (b : ℕ) → line_row r ≡ 11 ∷ b ∷ 0 ∷ 0 ∷ 0 ∷ 0 ∷ 0 ∷ 0 ∷ [] → r.over ≡ ltb Most.number b → r.need ≡ 0 → r.own ≡ false → Tells r (line (bind (spawn b)))
   unfolding what_forms_name
-  spawn_tells b w o n t = tells (line (bind (spawn b))) w (simp or_false o) n t
+  spawn_tells b w o n t = tells (line (bind (spawn b))) w (simp or-false o) n t
 
   pub recv_tells : (s : ℕ) → line_row r ≡ 13 ∷ s ∷ 0 ∷ 0 ∷ 0 ∷ 0 ∷ 0 ∷ 0 ∷ [] → r.over ≡ ltb Most.number s → r.need ≡ s + 1 → r.own ≡ false → Tells r (line (bind (recv s)))
   unfolding what_forms_name
-  recv_tells s w o n t = tells (line (bind (recv s))) w (simp or_false o) (simp max-zero n) t
+  recv_tells s w o n t = tells (line (bind (recv s))) w (simp or-false o) (simp max-zero n) t
 
   pub copy_tells : (k : ℕ) → k ≤ 3 → (s : ℕ) → line_row r ≡ 14 ∷ k ∷ s ∷ 0 ∷ 0 ∷ 0 ∷ 0 ∷ 0 ∷ [] → r.over ≡ ltb Most.number s → r.need ≡ s + 1 → r.own ≡ false
       → Tells r (line (bind (copy (cap_of k) s)))
   unfolding what_forms_name
-  copy_tells k h s w o n t = tells (line (bind (copy (cap_of k) s))) (rw (cap_rank k h) w) (simp or_false o) (simp max-zero n) t
+  copy_tells k h s w o n t = tells (line (bind (copy (cap_of k) s))) (rw (cap_rank k h) w) (simp or-false o) (simp max-zero n) t
 
   -- with an operand, given by its word
   module _ (x : ℕ) (t : r.own ≡ eqb x 1) where
@@ -90,13 +90,13 @@ module _ {r : Line} where
         → Tells r (line (bind (cast (cap_of k) (operand_of x))))
     unfolding what_forms_name
     cast_tells k h w o n = tells (line (bind (cast (cap_of k) (operand_of x)))) (rw (cap_rank k h, operand_word_lem x) w)
-        (rw (slot_of_word x) (simp or_false o)) (rw (slot_of_word x) (simp max-zero n)) (rw (operand_first x) (simp or_false t))
+        (rw (slot_of_word x) (simp or-false o)) (rw (slot_of_word x) (simp max-zero n)) (rw (operand_first x) (simp or-false t))
 
     pub send_tells : (s : ℕ) → line_row r ≡ 12 ∷ s ∷ x ∷ 0 ∷ 0 ∷ 0 ∷ 0 ∷ 0 ∷ [] → r.over ≡ (ltb Most.number s || ltb Most.number (x / 2)) → r.need ≡ max (s + 1) (x / 2 + 1)
         → Tells r (line (bind (send s (operand_of x))))
     unfolding what_forms_name
     send_tells s w o n = tells (line (bind (send s (operand_of x)))) (rw (operand_word_lem x) w)
-        (rw (slot_of_word x) (simp or_false o)) (rw (slot_of_word x) (simp max-zero n)) (rw (operand_first x) (simp or_false t))
+        (rw (slot_of_word x) (simp or-false o)) (rw (slot_of_word x) (simp max-zero n)) (rw (operand_first x) (simp or-false t))
 
 -- ---- Lines with a list
 
@@ -113,7 +113,7 @@ four_words_lem (a ∷ b ∷ c ∷ d ∷ e ∷ xs) h = absurd (omega arith)
 
 -- where the list is not over, it has at most four items
 listed_few : {x : Items} {items numbers : List ℕ} → Listed x items numbers → x.over ≡ false → length items ≤ 4
-listed_few {x} {items} {numbers} L h = ltb-false 4 (length items) (or_false-both (ltb 4 (length items)) (any (ltb Most.number) numbers) (sym L.over ∙ h)).0
+listed_few {x} {items} {numbers} L h = ltb-false 4 (length items) (or_false (ltb 4 (length items)) (any (ltb Most.number) numbers) (sym L.over ∙ h)).0
 
 -- more than four fields are over before a number of 256 is
 fields_over : (f : ℕ) (a b : Bool) → (ltb Most.fields f || (a || b)) ≡ (ltb Most.fields f || (a || (ltb Most.number f || b)))
@@ -129,7 +129,7 @@ kind_tells {r} {x} f ns L w o n t = record {
   number = ap (λ (l : List ℕ). get_or l 0 0) w;
   part = ap (λ (l : List ℕ). get_or l 1 0) w;
   words = λ h. w ∙ ap (λ (l : List ℕ). 1 ∷ f ∷ l) (ap (λ (l : List ℕ). l ++ (0 ∷ 0 ∷ [])) L.words
-      ∙ sym (four_words_lem (map suc ns) (listed_few L (or_false-both (ltb Most.fields f) x.over (sym o ∙ h)).1)).1);
+      ∙ sym (four_words_lem (map suc ns) (listed_few L (or_false (ltb Most.fields f) x.over (sym o ∙ h)).1)).1);
   over = o ∙ rw (L.over, length-map ns suc) (fields_over f (ltb 4 (length ns)) (any (ltb Most.number) ns));
   need = n;
   own = t;
@@ -143,8 +143,8 @@ new_tells {r} {x} k h n ws L w o g t = record {
   number = ap (λ (l : List ℕ). get_or l 0 0) w;
   part = ap (λ (l : List ℕ). get_or l 1 0) w ∙ sym (cap_rank k h);
   words = λ e. w ∙ rw (cap_rank k h) (ap (λ (l : List ℕ). 9 ∷ k ∷ n ∷ l) (ap (λ (l : List ℕ). l ++ (0 ∷ [])) L.words
-      ∙ sym (four_words_lem (map operand_item ws) (listed_few L (or_false-both x.over (ltb Most.number n) (sym o ∙ e)).0)).0));
-  over = o ∙ rw (L.over, length-map ws operand_item, or_false) (or_assoc (ltb 4 (length ws)) (any (ltb Most.number) (map slot_of ws)) (ltb Most.number n));
+      ∙ sym (four_words_lem (map operand_item ws) (listed_few L (or_false x.over (ltb Most.number n) (sym o ∙ e)).0)).0));
+  over = o ∙ rw (L.over, length-map ws operand_item, or-false) (or_assoc (ltb 4 (length ws)) (any (ltb Most.number) (map slot_of ws)) (ltb Most.number n));
   need = g;
   own = t;
 }

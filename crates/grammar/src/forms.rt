@@ -1,4 +1,6 @@
 // One line by its form: the form is found by a few bytes, and then tried alone.
+#![tactic(auto, unfolding(crate::specs::Words::plain, rules::specs::Lists::all))]
+
 ghost use Rattle.std.specs.Prelude.{◌≡◌, false, cond, ◌+◌, ◌≤◌, eqb, length, drop};
 ghost use Rattle.rules.specs.Templates.{took, unfit, fit, script_t};
 ghost use Rattle.grammar.specs.Decoded.{FormAt, EitherFormAt, PlaceRest, let_form, only_form, LineAt};

@@ -1,4 +1,6 @@
 // The parts of a form: numbers, operands, capabilities, and lists of numbers and of operands.
+#![tactic(auto, unfolding(crate::specs::Words::plain, rules::specs::Lists::all))]
+
 ghost use Rattle.std.specs.Prelude.{◌≡◌, true, false, cond, [], ◌+◌, ◌%◌, ◌≤◌, max, ltb, length, drop};
 ghost use Rattle.rules.specs.Templates.{took, unfit, digit_of, number, operand, capability};
 ghost use Rattle.rules.specs.Mosts as Most;

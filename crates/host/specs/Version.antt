@@ -7,7 +7,7 @@ major = 1
 
 -- how many requests of document 02 have landed
 abbrev pub minor : ℕ
-minor = 9
+minor = 8
 
 -- any other change since
 abbrev pub patch : ℕ

@@ -23,7 +23,7 @@ const RACE_TURNS: usize = 1024; // the most turns among which races are looked f
 
 const MAJOR: u32 = 1;
 
-const MINOR: u32 = 9; // requests of document 02 that have landed
+const MINOR: u32 = 8; // requests of document 02 that have landed
 
 const PATCH: u32 = 0;
 

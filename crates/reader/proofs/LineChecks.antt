@@ -4,13 +4,12 @@ use native.Mathlib.Nat.{le-max_left, le-max_right, max-le}
 use native.Mathlib.Omega.{arith}
 use mathlib.Core.Path.{◌≡◌, refl, sym, ap, ◌∙◌, subst}
 use mathlib.Core.Bool.{Bool, true, false, not, ◌&&◌, ◌||◌, cond, or-false, or-true, or_assoc, or_comm, false≢true}
-use mathlib.Core.List.{List, [], ◌∷◌}
+use mathlib.Core.List.{List, [], ◌∷◌, map}
 use mathlib.Core.Logic.{inl, inr}
 use lib.Dec.{T, ltb, leb, eqb}
 use lib.ListN.{get_or}
 use borrow.Author.Tests.{lt-ltb, le-ltb, leb-true, leb-false, ltb-true, ltb-false, eqb-true, ne_eqb, not-true}
 use mir.Val.{has_key}
-use types.Run.{OneOf}
 use Rattle.rules.specs.declared.Cap.{Cap}
 use Rattle.rules.specs.declared.forms.Form.{Form as Name}
 use Rattle.rules.specs.declared.forms.Form.TheVariants as N
@@ -24,8 +23,8 @@ use Rattle.rules.specs.Forms.{form_number, form_of}
 use Rattle.rules.specs.Tables.{line_words, row}
 use Rattle.rules.specs.Reading as R
 use Rattle.rules.specs.Reading.{targets_in, operands_in, numbers_in, slots_in, Place, outside, within, slots_filled, is_outside, in_method, in_edition, in_place, over_most, over255, is_unbound, takes_first, takes_self, one_more, read_on, Step, fault, next, form_step}
-use Rattle.rules.proofs.ListLaws.{by_bool, and_true, or-false as or-both-false}
-use Rattle.rules.proofs.FormNumbers.{place, at_place, number_told, not_told}
+use Rattle.rules.proofs.ListLaws.{by_bool, and_true, or_false as or_both_false}
+use Rattle.rules.proofs.FormNumbers.{place, number_told, IsOneOf, not_told}
 use Rattle.grammar.specs.declared.forms.Line.{Line}
 use Rattle.grammar.specs.Items.{past}
 use Rattle.grammar.specs.Decoded.{over_line, Tells}
@@ -143,23 +142,23 @@ has_name (line (bind (copy k s))) = omega arith
 
 module _ {n : ℕ} {f : Name} (told-by : f ≡ form_of n) where
   -- in an arm for the openers, and in one without them
-  pub opener_number : OneOf (place N.Thread ∷ place N.Method ∷ []) (place f) → (2 ≤ n) × (n < 4)
+  pub opener_number : IsOneOf (N.Thread ∷ N.Method ∷ []) f → (2 ≤ n) × (n < 4)
   opener_number (inl t) = let is : n ≡ 2 = number_told told-by t (omega arith) in (omega arith, omega arith)
   opener_number (inr t) = let is : n ≡ 3 = number_told told-by t (omega arith) in (omega arith, omega arith)
 
   -- (an arm may have beside them what no line is)
-  pub line_opener_number : (F : Form) → n ≡ number_of F → OneOf (place N.NoForm ∷ place N.Thread ∷ place N.Method ∷ []) (place f) → (2 ≤ n) × (n < 4)
-  line_opener_number F is (inl t) = absurd (let none = ap form_number (ap form_of (sym is) ∙ sym told-by ∙ at_place t) in omega (arith, has_name F))
+  pub line_opener_number : (F : Form) → n ≡ number_of F → IsOneOf (N.NoForm ∷ N.Thread ∷ N.Method ∷ []) f → (2 ≤ n) × (n < 4)
+  line_opener_number F is (inl t) = absurd (let none = ap form_number (ap form_of (sym is) ∙ sym told-by ∙ t) in omega (arith, has_name F))
   line_opener_number F is (inr one) = opener_number one
 
-  pub no_opener : (ks : List ℕ) → OneOf ks (place f) → T (not (has_key ks (place N.Thread))) → T (not (has_key ks (place N.Method))) → 2 ≤ n → n < 4 → ⊥
-  no_opener ks one no-thread no-method low high = omega (arith, not_told ks {n = n} {k = 2} told-by one no-thread, not_told ks {n = n} {k = 3} told-by one no-method)
+  pub no_opener : (gs : List Name) → IsOneOf gs f → T (not (has_key (map place gs) (place N.Thread))) → T (not (has_key (map place gs) (place N.Method))) → 2 ≤ n → n < 4 → ⊥
+  no_opener gs one no-thread no-method low high = omega (arith, not_told gs {n = n} {k = 2} told-by one no-thread, not_told gs {n = n} {k = 3} told-by one no-method)
 
   -- in an arm without kinds, openers and gives
-  pub let_told : (ks : List ℕ) → OneOf ks (place f) → T (not (has_key ks (place N.Kind))) → T (not (has_key ks (place N.Thread))) → T (not (has_key ks (place N.Method)))
-      → T (not (has_key ks (place N.Give))) → (F : Form) → n ≡ number_of F → (e : Expr) × (F ≡ line (bind e))
-  let_told ks one no_kind no-thread no-method no-give F e =
-      is_let F (told F e) (not_told ks told-by one no_kind) (no_opener ks one no-thread no-method) (not_told ks told-by one no-give)
+  pub let_told : (gs : List Name) → IsOneOf gs f → T (not (has_key (map place gs) (place N.Kind))) → T (not (has_key (map place gs) (place N.Thread))) → T (not (has_key (map place gs) (place N.Method)))
+      → T (not (has_key (map place gs) (place N.Give))) → (F : Form) → n ≡ number_of F → (e : Expr) × (F ≡ line (bind e))
+  let_told gs one no_kind no-thread no-method no-give F e =
+      is_let F (told F e) (not_told gs told-by one no_kind) (no_opener gs one no-thread no-method) (not_told gs told-by one no-give)
 
 -- ---- Copies
 
@@ -231,7 +230,7 @@ pub tidy_let : (m : Mosts) (r : Sofar) (e : Expr) → Tidy r → in_place (so_fa
     → Tidy (record { second = r.second; kinds = r.kinds; blocks = r.blocks; lets = r.lets + 1; opener = r.opener; filled = r.filled + 1 })
 unfolding in_place full_before
 tidy_let m r e tidy placed free =
-    let room = leb-false Most.slots (slots_filled (so_far r).place) (or-both-false (leb Most.slots (slots_filled (so_far r).place)) (leb m.lets r.lets) free).0 in
+    let room = leb-false Most.slots (slots_filled (so_far r).place) (or_both_false (leb Most.slots (slots_filled (so_far r).place)) (leb m.lets r.lets) free).0 in
     record {
       filled = ap slots_filled (place_more r.opener r.filled) ∙ filled_more (so_far r).place (not-true (is_outside (so_far r).place) (and_true (not (is_outside (so_far r).place)) (in_edition (so_far r).edition (bind e)) placed).0) ∙ ap (λ k. k + 1) tidy.filled;
       bounded = omega (arith, tidy.filled);

@@ -17,7 +17,7 @@ use Rattle.rules.specs.Lists.{any, pad, Every}
 use Rattle.rules.specs.Script.{Operand, Expr, value, field, swap, call, new, cast, spawn, send, recv, copy, bind, give, Sort, thread, method, Kind, Form, kind, opens, line, Block, no_block, Program, blocks_of, let_lines, block_lines, kind_lines, lines_of, kind_at, block_at}
 use Rattle.rules.specs.Reading.{operands_in, over255, same_sort, is_sort, dangles, opened, turned_away, accepted, link}
 use Rattle.rules.specs.Tables.{operand_word, line_words, row}
-use Rattle.rules.proofs.ListLaws.{by_bool, or-false, every_get, every_at}
+use Rattle.rules.proofs.ListLaws.{by_bool, or_false, every_get, every_at}
 use Rattle.table.specs.ProgramTable.{no_form, sort_number, LineWord}
 use Rattle.table.proofs.ProgramLines.{blocks_of_lines, kind_stands, kind_there}
 use Rattle.grammar.specs.Decoded.{over_line}
@@ -136,7 +136,7 @@ module _ (P : Program) (b : ℕ) where
   new_told : (k : Cap) (i : ℕ) (ws : List Operand) → NewTold (line (bind (new k i ws)))
   unfolding dangles over_line operands_in row line_words pad
   new_told k i ws small =
-      let few : length ws ≤ Most.operands = ltb-false Most.operands (length ws) (or-false (ltb Most.operands (length ws)) (over255 (line (bind (new k i ws)))) small).0 in
+      let few : length ws ≤ Most.operands = ltb-false Most.operands (length ws) (or_false (ltb Most.operands (length ws)) (over255 (line (bind (new k i ws)))) small).0 in
       ap (λ m. not (ltb i (length P.kinds) && eqb m (kind_at P i).fields)) (sym (operands_counted k i ws few))
 
   -- what its number tells of a form: that it is a kind, or whether it dangles
@@ -205,8 +205,8 @@ module _ {t : List ℕ} {P : Program} (table : Table t P) where
   few_methods n h =
       let K = kind_at P n in
       let small : over_line (kind K) ≡ false = rw (kind_stands P n h) at (small_line n (kind_there P n h)) in
-      let after = or-false (ltb Most.fields K.fields) (ltb Most.methods (length K.methods) || over255 (kind K)) small in
-      ltb-false Most.methods (length K.methods) (or-false (ltb Most.methods (length K.methods)) (over255 (kind K)) after.1).0
+      let after = or_false (ltb Most.fields K.fields) (ltb Most.methods (length K.methods) || over255 (kind K)) small in
+      ltb-false Most.methods (length K.methods) (or_false (ltb Most.methods (length K.methods)) (over255 (kind K)) after.1).0
 
   -- a kind's methods, asked for one after the other
   pub any_method : (n : ℕ) → n < length P.kinds → (a b c d : Bool)

@@ -1,5 +1,5 @@
 -- A form that was told by a number has that number: each number is looked for among the forms and found at its own. In an arm of a `match`
--- that has several forms, the place of the variant tells which they are.
+-- that has several forms, the places of the variants tell which they are not.
 use Prim.Native.Nat.{ℕ, ◌≤◌}
 use native.Mathlib.Omega.{arith}
 use mathlib.Core.Path.{◌≡◌, refl, sym, ap, ◌∙◌, subst}
@@ -53,22 +53,42 @@ at_place {f} e = stands f ∙ ap (λ k. get_or in_order k NoForm) e
     stands Recv = refl
     stands Copy = refl
 
--- in an arm for one form, by its place, the number is its own
-pub number_told : {n k : ℕ} {f : Form} → f ≡ form_of n → place f ≡ k → 1 ≤ form_number (get_or in_order k NoForm) → n ≡ form_number (get_or in_order k NoForm)
+-- in an arm for one form the number is its own
+pub number_told : {n : ℕ} {f g : Form} → f ≡ form_of n → f ≡ g → 1 ≤ form_number g → n ≡ form_number g
 number_told {n} e at some =
-    let same = sym e ∙ at_place at in
+    let same = sym e ∙ at in
     ⊎_elim (λ none. absurd (let zero = ap form_number (sym same ∙ none) in omega arith)) (λ is. is ∙ ap form_number same) (found all_forms n)
 
--- ---- Arms for several forms
+-- ---- Arms for several variants
 
--- the places of all forms but some, in the order of their numbers
-abbrev without : List ℕ → List ℕ → List ℕ
+-- what such an arm says of its value
+abbrev one_of_later : {A : Type 0} → A → List A → A → Type 0
+one_of_later a [] x = x ≡ a
+one_of_later a (b ∷ bs) x = (x ≡ a) ⊎ one_of_later b bs x
+
+abbrev pub IsOneOf : {A : Type 0} → List A → A → Type 0
+IsOneOf [] x = ⊥
+IsOneOf (a ∷ bs) x = one_of_later a bs x
+
+later_keys : {A : Type 0} (key : A → ℕ) (a : A) (bs : List A) (x : A) → one_of_later a bs x → OneOf (map key (a ∷ bs)) (key x)
+later_keys key a [] x e = ap key e
+later_keys key a (b ∷ bs) x (inl e) = inl (ap key e)
+later_keys key a (b ∷ bs) x (inr k) = inr (later_keys key b bs x k)
+
+-- the same of their keys
+pub one_of_keys : {A : Type 0} (key : A → ℕ) (bs : List A) (x : A) → IsOneOf bs x → OneOf (map key bs) (key x)
+one_of_keys key [] x k = k
+one_of_keys key (a ∷ bs) x k = later_keys key a bs x k
+
+-- all forms but some, in the order of their numbers
+abbrev without : List ℕ → List Form → List Form
 without out [] = []
-without out (k ∷ ks) = cond (among k out) (without out ks) (k ∷ without out ks)
+without out (g ∷ gs) = cond (among (place g) out) (without out gs) (g ∷ without out gs)
 
-abbrev pub all_but : List Form → List ℕ
-all_but fs = without (map place fs) (map place (NoForm ∷ all_forms))
+abbrev pub all_but : List Form → List Form
+all_but fs = without (map place fs) (NoForm ∷ all_forms)
 
--- an arm with the places ks does not have the form with number k
-pub not_told : (ks : List ℕ) {n k : ℕ} {f : Form} → f ≡ form_of n → OneOf ks (place f) → T (not (has_key ks (place (form_of k)))) → n ≡ k → ⊥
-not_told ks {k = k} e one other is = miss ks (place (form_of k)) other (subst (λ h. OneOf ks (place h)) (e ∙ ap form_of is) one)
+-- an arm for the forms gs does not have the form with number k
+pub not_told : (gs : List Form) {n k : ℕ} {f : Form} → f ≡ form_of n → IsOneOf gs f → T (not (has_key (map place gs) (place (form_of k)))) → n ≡ k → ⊥
+not_told gs {k = k} {f} e one other is =
+    miss (map place gs) (place (form_of k)) other (subst (λ h. OneOf (map place gs) (place h)) (e ∙ ap form_of is) (one_of_keys place gs f one))

@@ -6,7 +6,6 @@ use mathlib.Core.List.{List, [], ◌∷◌}
 use lib.ListN.{length, take, get_or}
 use Rattle.rules.specs.declared.Mosts.{Mosts}
 use Rattle.rules.specs.Script.{Program}
-use Rattle.rules.specs.Turn.{stop}
 use Rattle.rules.specs.Run.{Run, advance, run_from}
 
 unfoldable pub step : Mosts → Program → Run → ℕ → Run

@@ -12,13 +12,13 @@ use Rattle.rules.specs.Mosts as Most
 use Rattle.rules.specs.Mosts.{mosts}
 use Rattle.rules.specs.Numbers as No
 use Rattle.rules.specs.Script.{Program}
-use Rattle.rules.specs.Reading.{Reading, turned_away, accepted, reading}
+use Rattle.rules.specs.Reading.{Reading, accepted, reading}
 use Rattle.rules.specs.Valid.{Valid}
 use Rattle.rules.specs.Fits.{Fits}
 use Rattle.rules.specs.Run as R
 use Rattle.rules.specs.Run.{Stop, none, stopped, run, answer}
 use Rattle.rules.specs.Tables.{program_words, state_words}
-use Rattle.rules.specs.Calls.{long_text, long_turns, short_table, inputs, lent_inputs, run_answer, program_after, state_after}
+use Rattle.rules.specs.Calls.{long_text, long_turns, short_table, inputs, lent_inputs, program_after, state_after}
 use Rattle.rules.proofs.ListLaws.{impossible, by_bool, or_false}
 use Rattle.rules.proofs.Accepted.{accepted_valid, reading_accepted}
 use Rattle.rules.proofs.Keeps.{fits_run}
@@ -40,7 +40,7 @@ use Rattle.run.specs.declared.playing.Played.TheVariants.{Through, Stopped}
 use Rattle.run.specs.RunAnswers.{answer_of, is_refusal, Guarded, Ran}
 use Rattle.run.specs.Played.{played_by, Plays, Ends, RunsProgram}
 use Rattle.run.specs.Made.{Made, Makes}
-use Rattle.run.proofs.AnswerTells.{IsMade, made_is, refused_is, IsAccepted, accepted_is}
+use Rattle.run.proofs.AnswerTells.{IsMade, made_is, refused_is, accepted_is}
 
 -- ---- The turns played, from the fresh start
 

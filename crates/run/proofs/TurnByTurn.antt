@@ -25,7 +25,7 @@ use Rattle.rules.proofs.Keeps.{here_fits, keeps_turn, keeps_run}
 use Rattle.table.specs.declared.state.Here.{Here}
 use Rattle.table.specs.StateTable.{Held, Sees, Any, Placed, Stands, frame_at}
 use Rattle.table.proofs.StateFrames.{next_on_line, row_past_counts}
-use Rattle.checks.specs.Checked.{result_of, stop_number, Stand}
+use Rattle.checks.specs.Checked.{result_of, Stand}
 use Rattle.checks.proofs.Standing.{frame_is}
 use Rattle.turn.proofs.Located as Place
 use Rattle.turn.proofs.Located.{no_frames, no_frame_waits, turn_performs, went_moves}
@@ -163,6 +163,7 @@ module _ {t : ℕ} {f : Frame} {fs : List Frame} {s rest : List ℕ} where
   has_moved (stopped is) move = impossible cc
 
   has_waited : {s₁ : List ℕ} {x : Res State} → Performed t f fs s rest Waits s₁ x → (x ≡ wait) × (s₁ ≡ s)
+  has_waited (moved held went) = elim went [ ]
   has_waited waited = (refl, refl)
   has_waited (stopped is) = impossible cc
 

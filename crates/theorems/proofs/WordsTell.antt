@@ -11,7 +11,7 @@ use Rattle.rules.specs.declared.Value.TheVariants.{Absent, Obj, Chan}
 use Rattle.rules.specs.declared.Mosts.{Mosts}
 use Rattle.rules.specs.Mosts as Most
 use Rattle.rules.specs.Lists.{Every, pad, cells}
-use Rattle.rules.specs.Script.{kind, line, Program}
+use Rattle.rules.specs.Script.{Program}
 use Rattle.rules.specs.State.{Object, Frame, Thread, no_thread, Channel, empty_channel, State}
 use Rattle.rules.specs.Fits.{InRange, IsObject, ObjectFits, FrameFits, ThreadFits, ChannelFits, Fits}
 use Rattle.rules.specs.Tables.{cap_of, word, unmade, no_frame, object_words, object_cells, frame_words, outermost_first, thread_words, channel_words, used_state_words, counted_words, state_words}

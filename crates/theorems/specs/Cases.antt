@@ -4,7 +4,7 @@ use Prim.Native.String as S
 use Rattle.rules.specs.Mosts.{mosts}
 use Rattle.rules.specs.Text.{bytes}
 use Rattle.rules.specs.Reading.{Reading, turned_away, accepted, script}
-use Rattle.rules.specs.Run.{Answer, answer, refused, ended, halted, finished, stuck, openEnd}
+use Rattle.rules.specs.Run.{Answer, refused, ended, halted, finished, stuck, openEnd}
 use Rattle.rules.specs.Stripped.{strip}
 use Rattle.rules.specs.Calls.{run_answer}
 use Rattle.rules.specs.Input.{ran_on, printed}

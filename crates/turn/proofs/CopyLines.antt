@@ -238,11 +238,11 @@ module _ {s : List ℕ} {h : Here} (k : Cap) (i : ℕ) {x : Value} (target : Slo
     -- the copies are made, and the first is given and held
     module _ {s₂ s₃ : List ℕ} {count number : ℕ} (ranked : cap ≡ rank k) (none : r ≡ 0) (counted : Sees s Any (λ S. length S.objects) count) (is-next : number ≡ count % 256)
         (gives-copy : Becomes s₁ (HasRoom h.thread h.depth) (given h.thread h.depth (Obj number)) s₂) (holds : Counts (raised (Obj number)) s₂ s₃) where
-      copy_moved : {P : Program} {m : ℕ} {S S₁ : State} {f : Frame} {fs : List Frame} {rest : List ℕ} (st : Stand s h P m S f fs rest)
+      copy_moved : {P : Program} {m : ℕ} {S : State} {f : Frame} {fs : List Frame} {S₁ : State} {rest : List ℕ} (st : Stand s h P m S f fs rest)
           → line_at P f.block f.line ≡ bind (copy k i) → Step mosts P (here_at S h.thread f fs) (bind (copy k i)) S₁
           → Written s₃ S (Obj (length S.objects) ∷ copies_gained S.objects (slot_at f.slots i)) [] S₁ rest × Went h.thread f fs S₁ Next
       unfolding gives filled
-      copy_moved {P} {m} {S} {S₁} {f} {fs} {rest} st at_line (by_copy c j o graph) =
+      copy_moved {P} {m} {S} {f} {fs} {S₁} {rest} st at_line (by_copy c j o graph) =
           let H = here_at S h.thread f fs in
           let same : o ≡ n = ap number_of (sym graph.target ∙ source_read st at_line) in
           let is-met = place_there o (met_here H o) (walked_values S.objects (met_walked S.objects (Obj o ∷ [])) o (self_counts o)) in

@@ -93,7 +93,7 @@ module _ (R : State) (t : ℕ) (f : Frame) (fs : List Frame) (v : Value) (rest :
         subst (λ (S : State). Counted s₁ (all_raised (operand_gained vs w) N) S rest) (filled_then_emptied R t k f fs vs v w thread depth there)
         (rw (operand_of_word w, kept_gained vs w refl) at (leaves.leaves _ rest held (rw (half_of_word w) (has, tt))))
 
-    operands_left : (n m : ℕ) {os : List Object} {s s₁ : List ℕ} {N : ℕ → ℕ} {vs us left : List Value} {ws : List Operand} → GaveAll os vs ws us left → length ws ≤ n
+    operands_left : {os : List Object} (n m : ℕ) {s s₁ : List ℕ} {N : ℕ → ℕ} {vs us left : List Value} {ws : List Operand} → GaveAll os vs ws us left → length ws ≤ n
         → ItemsLeft t k (take n (map operand_item ws ++ replicate m 0)) (take n (us ++ replicate m Absent)) s s₁ → Every (λ w. slot_of w < length vs) ws → length vs < Most.slots
         → Gives s N vs → Gives s₁ (all_raised (operands_gained vs ws) N) left
     unfolding operands_gained all_raised

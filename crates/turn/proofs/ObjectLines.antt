@@ -105,7 +105,7 @@ module _ {s : List ℕ} {h : Here} {o : ℕ} {u : Value} (j : ℕ) (read : Sees 
           absurd (field_no_channel st (target_object st i w o (target_read st i w target (let_names st at_line).0 ∙ is)) none);
     }
 
-    swapped_field : {P : Program} {n : ℕ} {S S₁ : State} {f : Frame} {fs : List Frame} {rest : List ℕ} → Stand s h P n S f fs rest
+    swapped_field : {P : Program} {n : ℕ} {S : State} {f : Frame} {fs : List Frame} {rest : List ℕ} {S₁ : State} → Stand s h P n S f fs rest
         → line_at P f.block f.line ≡ bind (swap i j (operand_of w)) → Step mosts P (here_at S h.thread f fs) (bind (swap i j (operand_of w))) S₁
         → j < length (object_at S.objects o).fields
     unfolding object
@@ -130,7 +130,7 @@ module _ {s s₁ : List ℕ} {h : Here} {o : ℕ} {u : Value} (j : ℕ) (read : 
 
   -- the target x in slot i; the field's value is held once more
   module _ {s₂ : List ℕ} {x : Value} (i : ℕ) (target : SlotSeen s h (i % 16) x) (is : x ≡ Obj o) (holds : Counts (raised u) s₁ s₂) where
-    field_moved : {P : Program} {n : ℕ} {S S₁ : State} {f : Frame} {fs : List Frame} {rest : List ℕ} → Stand s h P n S f fs rest
+    field_moved : {P : Program} {n : ℕ} {S : State} {f : Frame} {fs : List Frame} {rest : List ℕ} {S₁ : State} → Stand s h P n S f fs rest
         → line_at P f.block f.line ≡ bind (field i j) → Step mosts P (here_at S h.thread f fs) (bind (field i j)) S₁
         → Written s₂ S (field_of S.objects (slot_at f.slots i) j ∷ []) [] S₁ rest × Went h.thread f fs S₁ Next
     unfolding gives filled object all_raised
@@ -177,7 +177,7 @@ module _ {s s₁ : List ℕ} {h : Here} {o : ℕ} {u : Value} (j : ℕ) (read : 
 
     -- the target x in slot i, as the operand leaves it
     module _ {x : Value} (i : ℕ) (target : TargetSeen s h i w x) (is : x ≡ Obj o) where
-      swap_moved : {P : Program} {n : ℕ} {S S₁ : State} {f : Frame} {fs : List Frame} {rest : List ℕ} → Stand s h P n S f fs rest
+      swap_moved : {P : Program} {n : ℕ} {S : State} {f : Frame} {fs : List Frame} {rest : List ℕ} {S₁ : State} → Stand s h P n S f fs rest
           → line_at P f.block f.line ≡ bind (swap i j (operand_of w)) → Step mosts P (here_at S h.thread f fs) (bind (swap i j (operand_of w))) S₁
           → Written s₃ S (operand_gained f.slots (operand_of w)) [] S₁ rest × Went h.thread f fs S₁ Next
       unfolding gives filled object stored is_absent

@@ -9,7 +9,7 @@ use Rattle.rules.specs.Lists.{any, Every}
 use Rattle.rules.specs.Script.{Program, rank}
 use Rattle.rules.specs.State.{Object, Frame, State, object_at}
 use Rattle.rules.specs.Walk.{met_from}
-use Rattle.rules.specs.Turn.{Res, ◌>>=◌, ◌>>◌, check, permit, is_foreign, put_objects, copy_of}
+use Rattle.rules.specs.Turn.{Res, ◌>>◌, check, permit, is_foreign, put_objects, copy_of}
 use Rattle.rules.specs.Holders.{holders}
 use Rattle.rules.specs.HolderChanges.{copies_gained}
 use Rattle.rules.specs.Fits.{Fits}

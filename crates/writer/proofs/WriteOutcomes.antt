@@ -1,6 +1,6 @@
 -- From what was written beside the buffer to the writer's answer. A text that reads to the table is what the table's words say, so it is the one
 -- that was written; read again it is accepted and gives the table's words. Where that fails, there is no such text.
-use Prim.Native.Nat.{ℕ, ◌+◌, ◌≤◌, ◌<◌}
+use Prim.Native.Nat.{ℕ, ◌≤◌, ◌<◌}
 use native.Mathlib.Omega.{arith}
 use mathlib.Core.Path.{◌≡◌, refl, sym, ap, ◌∙◌, subst}
 use mathlib.Core.Bool.{Bool, false}

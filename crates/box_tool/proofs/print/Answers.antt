@@ -1,4 +1,4 @@
--- Each job is its library's; an output that is long enough for an input is so for a run, a report, a drawing and a verdict.
+-- Each job is its library's; an output that is long enough for an input is so for a run, a report and a drawing.
 use mathlib.Core.Path.{refl}
 use Rattle.rules.specs.Mosts as Most
 use Rattle.box_tool.proofs.JobTexts.{prints_in, prints_run, prints_saved}
@@ -19,10 +19,6 @@ returns-in-Strip c =
 pub returns-in-Draw : goal.returns-in-Draw
 returns-in-Draw c =
     rw c.in-Draw.is (prints_in _ refl c.args.output.now Most.drawing c.requires c.print_drawn.ensures)
-
-pub returns-in-Race : goal.returns-in-Race
-returns-in-Race c =
-    rw c.in-Race.is (prints_run _ refl c.args.output.now c.requires c.print_race.ensures)
 
 pub returns-in-Reached : goal.returns-in-Reached
 returns-in-Reached c =

@@ -1,11 +1,9 @@
 -- `buffer::put_text` meets its contract: before turn i the first i bytes stand there.
-use Prim.Native.Nat.{◌+◌, ◌-◌, ◌≤◌}
+use Prim.Native.Nat.{◌≤◌}
 use native.Mathlib.Nat.{add-zero}
 use native.Mathlib.Omega.{arith}
-use mathlib.Core.Path.{◌≡◌}
-use lib.ListN.{length, take}
+use lib.ListN.{length}
 use lib.Seq.{take_all}
-use Rattle.buffer.specs.Writing.{Wrote}
 use Rattle.buffer.proofs.Appends.{nothing, one_more_byte, same_text}
 use Rattle.std.proofs.Common.{rules}
 use Rattle.buffer.proofs.put_text.Goals as goal

@@ -1,13 +1,10 @@
 -- `buffer::put_text` meets its contract: before turn i the first i bytes stand there.
 use Prim.Native.Nat.{◌+◌, ◌-◌, ◌≤◌}
-use native.Mathlib.Nat.{add-zero}
-use native.Mathlib.Omega.{arith}
 use mathlib.Core.Path.{◌≡◌}
 use lib.ListN.{length, take}
-use lib.Seq.{take_all}
 use Rattle.buffer.specs.Writing.{Wrote}
-use Rattle.buffer.proofs.Appends.{nothing, one_more_byte, same_text}
 use Rattle.buffer.proofs.put_text.Given as goal
+
 abbrev pub invariant-loop-i : goal.invariant-loop-i
 invariant-loop-i l = (l.i ≤ length l.text) × (length l.buf ≡ length l.initial.buf) × Wrote l.i l.initial.buf l.buf l.at (l.at + l.i) (take l.i l.text)
 

@@ -35,14 +35,14 @@ overflow_add-result c =
 pub first_dangling-line-requires : goal.first_dangling-line-requires
 first_dangling-line-requires c =
     let d = (done_with c.scan_lines-scan.ensures.scans c.in-Done.is) in
-    (search rules, d.few-kinds, d.few-blocks, d.few-lines)
+    (search rules, d.few_kinds, d.few_blocks, d.few_lines)
 
 pub returns-then-line-lines : goal.returns-then-line-lines
 returns-then-line-lines c =
     let a = c.args in
     let head = c.script_end-head in
-    let reads = read_behind a.text.now head.result head.ensures.0 in
-    makes_none a.text.now c.if-text-gt16384.false
+    let reads = read_behind a.text.now head.result head.ensures.s_value in
+    makes_none a.text.now c.if-short.false
     (λ fresh. dangling a.text.now c.if-text-gt16384.false (edition_of (not (eqb head.result 0))) _ reads
     (done_with c.scan_lines-scan.ensures.scans c.in-Done.is) fresh
     c.first_dangling-line.ensures.first_dangling c.if-line-lines.true ∙ rw c.lines_before-then-line-lines.ensures.value)
@@ -50,7 +50,7 @@ returns-then-line-lines c =
 pub put_counts-requires : goal.put_counts-requires
 put_counts-requires c =
     let d = (done_with c.scan_lines-scan.ensures.scans c.in-Done.is) in
-    (search rules, d.few-kinds, d.few-blocks, d.few-lines)
+    (search rules, d.few_kinds, d.few_blocks, d.few_lines)
 
 pub returns-in-Fault : goal.returns-in-Fault
 returns-in-Fault c =
@@ -64,8 +64,8 @@ pub returns-else-line-lines : goal.returns-else-line-lines
 returns-else-line-lines c =
     let a = c.args in
     let head = c.script_end-head in
-    let reads = read_behind a.text.now head.result head.ensures.0 in
-    makes_read a.text.now c.if-text-gt16384.false
+    let reads = read_behind a.text.now head.result head.ensures.s_value in
+    makes_read a.text.now c.if-short.false
     (λ fresh. words_are a.text.now c.if-text-gt16384.false (edition_of (not (eqb head.result 0))) _ reads
     (done_with c.scan_lines-scan.ensures.scans c.in-Done.is) fresh
     c.first_dangling-line.ensures.first_dangling c.if-line-lines.false (rw c.edition_word.ensures at c.put_counts.ensures.counted))

@@ -45,18 +45,6 @@ returns-then-is-5 c =
       sym c.is-5.ensures ∙ c.if-is-5.true,
     )
 
-pub returns-then-is-6 : goal.returns-then-is-6
-unfolding input_command_of
-returns-then-is-6 c =
-    rw (
-      sym c.is.ensures ∙ c.if-is.false,
-      sym c.is-2.ensures ∙ c.if-is-2.false,
-      sym c.is-3.ensures ∙ c.if-is-3.false,
-      sym c.is-4.ensures ∙ c.if-is-4.false,
-      sym c.is-5.ensures ∙ c.if-is-5.false,
-      sym c.is-6.ensures ∙ c.if-is-6.true,
-    )
-
 pub returns : goal.returns
 unfolding input_command_of
 returns c =
@@ -66,5 +54,4 @@ returns c =
       sym c.is-3.ensures ∙ c.if-is-3.false,
       sym c.is-4.ensures ∙ c.if-is-4.false,
       sym c.is-5.ensures ∙ c.if-is-5.false,
-      sym c.is-6.ensures ∙ c.if-is-6.false,
     )

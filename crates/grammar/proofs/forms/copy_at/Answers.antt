@@ -1,16 +1,10 @@
 -- Each part is read where the one before it ends.
-use native.Mathlib.Omega.{arith}
 use mathlib.Core.Path.{refl, ◌∙◌}
-use Rattle.rules.specs.Lists.{all}
 use Rattle.rules.specs.Text.{bytes}
 use Rattle.rules.specs.Tables.{cap_of}
-use Rattle.grammar.specs.Words.{plain}
 use Rattle.grammar.proofs.Told.{fits_as, two_words, word, last, a_number, a_cap}
 use Rattle.grammar.proofs.Telling.{short_row, copy_tells}
 use Rattle.grammar.proofs.forms.copy_at.Goals as goal
-
-pub overflow_add-slot : goal.overflow_add-slot
-overflow_add-slot c = omega (arith, §c.before.before.before.before.before.before.before.before.before)
 
 pub returns : goal.returns
 returns c =

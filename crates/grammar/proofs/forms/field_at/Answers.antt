@@ -1,18 +1,9 @@
 -- Each part is read where the one before it ends.
-use native.Mathlib.Omega.{arith}
 use mathlib.Core.Path.{refl, ◌∙◌}
-use Rattle.rules.specs.Lists.{all}
 use Rattle.rules.specs.Text.{bytes}
-use Rattle.grammar.specs.Words.{plain}
 use Rattle.grammar.proofs.Told.{fits_as, two_words, word, last, a_number}
 use Rattle.grammar.proofs.Telling.{short_row, field_tells}
 use Rattle.grammar.proofs.forms.field_at.Goals as goal
-
-pub overflow_add-field : goal.overflow_add-field
-overflow_add-field c = omega (arith, §c.before.before.before.before.before.before.before.before)
-
-pub overflow_add-l : goal.overflow_add-l
-overflow_add-l c = omega (arith, §c.before.before.before.before.before.before.before.before.before.before.before.before.before.before.before.before.before)
 
 pub returns : goal.returns
 returns c =

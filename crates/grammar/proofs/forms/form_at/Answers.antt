@@ -1,4 +1,5 @@
 -- The byte that the code looks at is the one that `only_form` asks for; a let is told further by `let_form`.
+use native.Mathlib.Omega.{arith}
 use mathlib.Core.Path.{sym, ◌∙◌}
 use lib.Seq.{get_or-drop}
 use borrow.Author.Tests.{ne_eqb}
@@ -23,4 +24,4 @@ returns-in-103 c = let a = c.args in rw (get_or-drop a.at a.s.now 1 0 ∙ sym c.
 
 pub returns-in_default : goal.returns-in_default
 unfolding only_form
-returns-in_default c = let a = c.args in rw (get_or-drop a.at a.s.now 1 0 ∙ sym c.byte-first.ensures, ne_eqb _ _ c.in_default.in_default-own.rest.0.0.0.1, ne_eqb _ _ c.in_default.in_default-own.rest.0.0.1, ne_eqb _ _ c.in_default.in_default-own.rest.0.1, ne_eqb _ _ c.in_default.in_default-own.rest.1) c.let_form.ensures
+returns-in_default c = let a = c.args in rw (get_or-drop a.at a.s.now 1 0 ∙ sym c.byte-first.ensures, ne_eqb c.byte-first.result 107 (λ e. omega arith), ne_eqb c.byte-first.result 116 (λ e. omega arith), ne_eqb c.byte-first.result 109 (λ e. omega arith), ne_eqb c.byte-first.result 103 (λ e. omega arith)) c.let_form.ensures

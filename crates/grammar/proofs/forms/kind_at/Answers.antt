@@ -1,8 +1,6 @@
 -- Each part is read where the one before it ends; the list tells its own words and what is over.
 use mathlib.Core.Path.{◌∙◌}
-use Rattle.rules.specs.Lists.{all}
 use Rattle.rules.specs.Text.{bytes}
-use Rattle.grammar.specs.Words.{plain}
 use Rattle.grammar.proofs.Told.{fits_as, two_words, word, last, a_number, some_numbers}
 use Rattle.grammar.proofs.Telling.{kind_tells}
 use Rattle.grammar.proofs.forms.kind_at.Goals as goal

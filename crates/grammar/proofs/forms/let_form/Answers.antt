@@ -1,4 +1,5 @@
 -- The bytes that the code looks at are those that `let_form` asks for: each arm of the code is an arm of it.
+use native.Mathlib.Omega.{arith}
 use mathlib.Core.Path.{sym, ◌∙◌}
 use lib.Seq.{get_or-drop}
 use borrow.Author.Tests.{ne_eqb}
@@ -39,7 +40,7 @@ returns-in-112 c = let a = c.args in rw (get_or-drop a.at a.s.now 6 0 ∙ sym c.
 
 pub returns-in_default-second : goal.returns-in_default-second
 unfolding let_form
-returns-in_default-second c = let a = c.args in rw (get_or-drop a.at a.s.now 6 0 ∙ sym c.byte-first.ensures ∙ c.in-115.is, get_or-drop a.at a.s.now 7 0 ∙ sym c.byte-second.ensures, ne_eqb _ _ c.in_default-second.in_default-second-own.rest.0.1, ne_eqb _ _ c.in_default-second.in_default-second-own.rest.1)
+returns-in_default-second c = let a = c.args in rw (get_or-drop a.at a.s.now 6 0 ∙ sym c.byte-first.ensures ∙ c.in-115.is, get_or-drop a.at a.s.now 7 0 ∙ sym c.byte-second.ensures, ne_eqb c.byte-second.result 119 (λ e. omega arith), ne_eqb c.byte-second.result 112 (λ e. omega arith))
 
 pub returns-then-byte-eq99 : goal.returns-then-byte-eq99
 unfolding let_form
@@ -51,4 +52,4 @@ returns-else-byte-eq99 c = let a = c.args in rw (get_or-drop a.at a.s.now 6 0 �
 
 pub returns-in_default : goal.returns-in_default
 unfolding let_form
-returns-in_default c = let a = c.args in rw (get_or-drop a.at a.s.now 6 0 ∙ sym c.byte-first.ensures, ne_eqb _ _ c.in_default.in_default-own.rest.0.0.0.0.1, ne_eqb _ _ c.in_default.in_default-own.rest.0.0.0.1, ne_eqb _ _ c.in_default.in_default-own.rest.0.0.1, ne_eqb _ _ c.in_default.in_default-own.rest.0.1, ne_eqb _ _ c.in_default.in_default-own.rest.1)
+returns-in_default c = let a = c.args in rw (get_or-drop a.at a.s.now 6 0 ∙ sym c.byte-first.ensures, ne_eqb c.byte-first.result 102 (λ e. omega arith), ne_eqb c.byte-first.result 110 (λ e. omega arith), ne_eqb c.byte-first.result 99 (λ e. omega arith), ne_eqb c.byte-first.result 115 (λ e. omega arith), ne_eqb c.byte-first.result 114 (λ e. omega arith))

@@ -1,8 +1,8 @@
 -- The form that a few bytes tell is the only one that can fit, so what that form gives is the line; where the text is too short, none fits.
 use mathlib.Core.Path.{sym, ◌∙◌}
-use mathlib.Core.Logic.{⊎_elim}
 use native.Mathlib.Omega.{arith}
-use Rattle.grammar.proofs.Fronts.{line_by_form, line_by_either, line_in_short, past_all, one_past, not_up_to, line_by_none}
+use Rattle.grammar.proofs.Fronts.{line_by_form, line_by_either, line_in_short, not_up_to, line_by_none}
+use Rattle.grammar.proofs.forms.line_at.Goals.{in_default-via-then-form-lt1, in_default-via-else-form-lt1+else-form-lt6+else-form-lt9}
 use Rattle.grammar.proofs.forms.line_at.Goals as goal
 
 pub returns-then-s-lt9 : goal.returns-then-s-lt9
@@ -30,7 +30,7 @@ pub returns-in-11 : goal.returns-in-11
 returns-in-11 c = line_by_form 10 (omega arith) (sym c.form_at-form.ensures ∙ c.in-11.is) c.spawn_at.ensures
 
 pub returns-in-12 : goal.returns-in-12
-returns-in-12 c = line_by_form 11 (omega arith) (sym c.form_at-form.ensures ∙ c.in-12.is) §c.IsSend-at.ensures
+returns-in-12 c = line_by_form 11 (omega arith) (sym c.form_at-form.ensures ∙ c.in-12.is) c.send_at.ensures
 
 pub returns-in-13 : goal.returns-in-13
 returns-in-13 c = line_by_form 12 (omega arith) (sym c.form_at-form.ensures ∙ c.in-13.is) c.recv_at.ensures
@@ -39,18 +39,15 @@ pub returns-in-14 : goal.returns-in-14
 returns-in-14 c = line_by_form 13 (omega arith) (sym c.form_at-form.ensures ∙ c.in-14.is) c.copy_at.ensures
 
 pub returns-in-4 : goal.returns-in-4
-returns-in-4 c =
-    let low = past_all 3 _ c.in_default-1.rest.0.0.0.0.0.0.0 c.in-4.if-form-lt1-own.false in
-    line_by_either 3 (omega arith) c.form_at-form.ensures low c.in-4.if-form-lt6-own.true c.give_or_value_at.ensures
+returns-in-4 c = line_by_either 3 (omega arith) c.form_at-form.ensures (omega arith) (omega arith) c.give_or_value_at.ensures
 
 pub returns-in-7 : goal.returns-in-7
-returns-in-7 c =
-    line_by_either 6 (omega arith) c.form_at-form.ensures (one_past _ 6 c.in_default-1.rest.0.0.0.0.0.0.1 c.in-7.if-form-lt6-own.false) c.in-7.if-form-lt9-own.true c.swap_or_call_at.ensures
+returns-in-7 c = line_by_either 6 (omega arith) c.form_at-form.ensures (omega arith) (omega arith) c.swap_or_call_at.ensures
 
 pub returns-in_default : goal.returns-in_default
 returns-in_default c =
     line_by_none _ _ _ _ c.short_line-in_default.ensures.ok_value.0 c.form_at-form.ensures
-    (⊎_elim
-    (λ w. let low = w.taken in not_up_to 14 _ (λ j h e. omega arith))
-    (λ w. let high = w.2.left in ((((((not_up_to 8 _ (λ j h e. omega arith), c.in_default-1.rest.0.0.0.0.0.1), c.in_default-1.rest.0.0.0.0.1), c.in_default-1.rest.0.0.0.1), c.in_default-1.rest.0.0.1), c.in_default-1.rest.0.1), c.in_default-1.rest.1))
-    c.in_default.branch)
+    (elim c.in_default.branch [
+      | in_default-via-then-form-lt1 w ↦ not_up_to 14 _ (λ j h e. omega arith)
+      | in_default-via-else-form-lt1+else-form-lt6+else-form-lt9 w ↦ not_up_to 14 _ (λ j h e. omega arith)
+    ])

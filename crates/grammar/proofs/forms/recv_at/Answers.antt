@@ -1,8 +1,6 @@
 -- Each part is read where the one before it ends.
 use mathlib.Core.Path.{refl, ◌∙◌}
-use Rattle.rules.specs.Lists.{all}
 use Rattle.rules.specs.Text.{bytes}
-use Rattle.grammar.specs.Words.{plain}
 use Rattle.grammar.proofs.Told.{fits_as, two_words, last, a_number}
 use Rattle.grammar.proofs.Telling.{short_row, recv_tells}
 use Rattle.grammar.proofs.forms.recv_at.Goals as goal

@@ -1,9 +1,7 @@
 -- The line is two fixed words, and a text that is shorter than it cannot begin with it.
 use native.Mathlib.Omega.{arith}
 use mathlib.Core.Path.{refl, sym, ◌∙◌}
-use Rattle.rules.specs.Lists.{all}
 use Rattle.rules.specs.Text.{bytes}
-use Rattle.grammar.specs.Words.{plain}
 use Rattle.grammar.proofs.Told.{fits_as, word, last}
 use Rattle.grammar.proofs.Fronts.{script_short}
 use Rattle.grammar.proofs.forms.script_end.Goals as goal

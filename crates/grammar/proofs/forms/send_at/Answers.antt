@@ -1,19 +1,10 @@
 -- Each part is read where the one before it ends.
-use native.Mathlib.Omega.{arith}
 use mathlib.Core.Path.{refl, ◌∙◌}
-use Rattle.rules.specs.Lists.{all}
 use Rattle.rules.specs.Text.{bytes}
 use Rattle.rules.specs.Tables.{operand_of}
-use Rattle.grammar.specs.Words.{plain}
 use Rattle.grammar.proofs.Told.{fits_as, two_words, word, last, a_number, an_operand}
 use Rattle.grammar.proofs.Telling.{short_row, send_tells}
 use Rattle.grammar.proofs.forms.send_at.Goals as goal
-
-pub overflow_add-w : goal.overflow_add-w
-overflow_add-w c = omega (arith, §c.before.before.before.before.before.before.before.before.before)
-
-pub overflow_add-target-2 : goal.overflow_add-target-2
-overflow_add-target-2 c = omega (arith, §c.before.before.before.before.before.before.before.before.before.before.before.before.before.before.before.before.before.before)
 
 pub returns : goal.returns
 returns c =

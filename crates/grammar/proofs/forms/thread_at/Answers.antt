@@ -1,9 +1,7 @@
 -- Two words, and nothing that a table holds but the number of the form.
 use native.Mathlib.Omega.{arith}
 use mathlib.Core.Path.{◌∙◌}
-use Rattle.rules.specs.Lists.{all}
 use Rattle.rules.specs.Text.{bytes}
-use Rattle.grammar.specs.Words.{plain}
 use Rattle.grammar.proofs.Told.{fits_as, word, last}
 use Rattle.grammar.proofs.Telling.{short_row, thread_tells}
 use Rattle.grammar.proofs.forms.thread_at.Goals as goal

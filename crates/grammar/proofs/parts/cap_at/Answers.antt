@@ -1,8 +1,6 @@
 -- The four words are tried in turn, as the rule tries them.
 use mathlib.Core.Path.{sym, ◌∙◌}
 use native.Mathlib.Omega.{arith}
-use Rattle.rules.specs.Lists.{all}
-use Rattle.grammar.specs.Words.{plain}
 use Rattle.grammar.proofs.PartLaws.{capability_begins}
 use Rattle.grammar.proofs.parts.cap_at.Goals as goal
 

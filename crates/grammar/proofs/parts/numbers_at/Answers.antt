@@ -1,26 +1,13 @@
 -- `parts::numbers_at` meets its contract. The loop's invariant: the numbers read so far, put before what the list still gives at the place reached,
 -- are the whole list. The measure is what is left of the text: the loop goes on at a space only, which lies inside the text, and each number ends past it.
-use Prim.Native.Nat.{ℕ, suc, ◌-◌, ◌≤◌}
+use Prim.Native.Nat.{suc}
 use native.Mathlib.Numerals.{add-one}
 use native.Mathlib.Omega.{arith}
 use mathlib.Core.Path.{refl}
-use mathlib.Core.Bool.{Bool}
-use mathlib.Core.List.{List, [], ◌∷◌, ◌++◌, map, map-id}
-use lib.ListN.{length}
-use Rattle.rules.specs.Templates.{number}
-use Rattle.grammar.specs.declared.parts.Items.{Items}
-use Rattle.grammar.specs.Items.{Listed}
-use Rattle.grammar.proofs.Many.{ReadTo, read_none, read_inside, read_more, read_all, number_shortens}
+use mathlib.Core.List.{[], ◌∷◌, ◌++◌, map-id}
+use Rattle.grammar.proofs.Many.{read_none, read_inside, read_more, read_all, number_shortens}
 use Rattle.grammar.proofs.ItemLists.{listed_more}
 use Rattle.grammar.proofs.parts.numbers_at.Goals as goal
-
--- what the loop has read of the list at a place
-record NumbersTo (s : List ℕ) (at : ℕ) (l : Items) (more : Bool) : Type 0 where
-  items : List ℕ
-  read : ReadTo number s at items l.ok l.end more
-  listed : Listed l (map suc items) (map (λ n. n) items)
-  start : at ≤ l.end
-  limit : l.end ≤ 65800
 
 pub loop-more-init : goal.loop-more-init
 loop-more-init c =
@@ -49,8 +36,11 @@ loop-more-preserved c =
     }
 
 pub returns : goal.returns
-returns c = record { numbers_at = record {
-        items = c.loop-more.invariant.items;
-        fits = read_all _ c.loop-more.invariant.read c.loop-more-test.false;
-        listed = rw map-id at c.loop-more.invariant.listed;
-      }; at_le_end = (c.loop-more.invariant.start, c.loop-more.invariant.limit) }
+returns c = record {
+  numbers_at = record {
+    items = c.loop-more.invariant.items;
+    fits = read_all _ c.loop-more.invariant.read c.loop-more-test.false;
+    listed = rw map-id at c.loop-more.invariant.listed;
+  };
+  at_le_end = (c.loop-more.invariant.start, c.loop-more.invariant.limit);
+}

@@ -1,18 +1,23 @@
 -- `parts::numbers_at` meets its contract. The loop's invariant: the numbers read so far, put before what the list still gives at the place reached,
 -- are the whole list. The measure is what is left of the text: the loop goes on at a space only, which lies inside the text, and each number ends past it.
 use Prim.Native.Nat.{ℕ, suc, ◌-◌, ◌≤◌}
-use native.Mathlib.Numerals.{add-one}
-use native.Mathlib.Omega.{arith}
-use mathlib.Core.Path.{refl}
 use mathlib.Core.Bool.{Bool}
-use mathlib.Core.List.{List, [], ◌∷◌, ◌++◌, map, map-id}
+use mathlib.Core.List.{List, map}
 use lib.ListN.{length}
 use Rattle.rules.specs.Templates.{number}
 use Rattle.grammar.specs.declared.parts.Items.{Items}
 use Rattle.grammar.specs.Items.{Listed}
-use Rattle.grammar.proofs.Many.{ReadTo, read_none, read_inside, read_more, read_all, number_shortens}
-use Rattle.grammar.proofs.ItemLists.{listed_more}
+use Rattle.grammar.proofs.Many.{ReadTo}
 use Rattle.grammar.proofs.parts.numbers_at.Given as goal
+
+-- what the loop has read of the list at a place
+pub record NumbersTo (s : List ℕ) (at : ℕ) (l : Items) (more : Bool) : Type 0 where
+  pub items : List ℕ
+  pub read : ReadTo number s at items l.ok l.end more
+  pub listed : Listed l (map suc items) (map (λ n. n) items)
+  pub start : at ≤ l.end
+  pub limit : l.end ≤ 65800
+
 abbrev pub invariant-loop-more : goal.invariant-loop-more
 invariant-loop-more l = NumbersTo l.s l.at l.l l.more
 

@@ -1,33 +1,17 @@
 -- `parts::operands_at` meets its contract. The loop's invariant: the operands read so far, put before what the list still gives at the place reached,
 -- are the whole list. The measure is what is left of the text: the loop goes on at a space only, which lies inside the text, and each operand ends past it.
-use Prim.Native.Nat.{ℕ, ◌-◌, ◌≤◌}
 use native.Mathlib.Omega.{arith}
-use mathlib.Core.Path.{◌≡◌, refl, sym, ◌∙◌}
-use mathlib.Core.Bool.{Bool}
-use mathlib.Core.List.{List, [], ◌∷◌, ◌++◌, map}
-use lib.ListN.{length}
+use mathlib.Core.Path.{refl, sym, ◌∙◌}
+use mathlib.Core.List.{[], ◌∷◌, ◌++◌}
 use Rattle.rules.specs.Lists.{any}
-use Rattle.rules.specs.Script.{Operand}
-use Rattle.rules.specs.Templates.{operand}
 use Rattle.rules.specs.Tables.{operand_item, operand_of}
 use Rattle.rules.specs.Reading.{slot_of, takes_first}
 use Rattle.rules.proofs.TableWords.{slot_of_word}
-use Rattle.grammar.specs.declared.parts.Items.{Items}
-use Rattle.grammar.specs.Items.{Listed, past}
-use Rattle.grammar.proofs.Many.{ReadTo, read_none, read_inside, read_more, read_all, operand_shortens}
+use Rattle.grammar.specs.Items.{past}
+use Rattle.grammar.proofs.Many.{read_none, read_inside, read_more, read_all, operand_shortens}
 use Rattle.grammar.proofs.ItemLists.{any_more, past_more, listed_more}
 use Rattle.grammar.proofs.OperandWords.{operand_item_lem, operand_first}
 use Rattle.grammar.proofs.parts.operands_at.Goals as goal
-
--- what the loop has read of the list at a place
-record OperandsTo (s : List ℕ) (at : ℕ) (l : Items) (more : Bool) : Type 0 where
-  items : List Operand
-  read : ReadTo operand s at items l.ok l.end more
-  listed : Listed l (map operand_item items) (map slot_of items)
-  need : l.need ≡ past (map slot_of items)
-  own : l.own ≡ any takes_first items
-  start : at ≤ l.end
-  limit : l.end ≤ 65800
 
 pub loop-more-init : goal.loop-more-init
 unfolding past any
@@ -62,10 +46,13 @@ loop-more-preserved c =
     }
 
 pub returns : goal.returns
-returns c = record { operands_at = record {
-        items = c.loop-more.invariant.items;
-        fits = read_all _ c.loop-more.invariant.read c.loop-more-test.false;
-        listed = c.loop-more.invariant.listed;
-        need = c.loop-more.invariant.need;
-        own = c.loop-more.invariant.own;
-      }; at_le_end = (c.loop-more.invariant.start, c.loop-more.invariant.limit) }
+returns c = record {
+  operands_at = record {
+    items = c.loop-more.invariant.items;
+    fits = read_all _ c.loop-more.invariant.read c.loop-more-test.false;
+    listed = c.loop-more.invariant.listed;
+    need = c.loop-more.invariant.need;
+    own = c.loop-more.invariant.own;
+  };
+  at_le_end = (c.loop-more.invariant.start, c.loop-more.invariant.limit);
+}

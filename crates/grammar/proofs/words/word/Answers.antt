@@ -1,18 +1,16 @@
 -- The bytes passed, from the last one down, make the number of the rest of the word.
-use Prim.Native.Nat.{◌≤◌}
 use native.Mathlib.Omega.{arith}
 use mathlib.Core.Path.{◌≡◌, ap, ◌∙◌}
-use lib.ListN.{length, drop}
+use lib.ListN.{drop}
 use lib.Seq.{drop-length}
-use Rattle.rules.specs.Lists.{Every}
-use Rattle.grammar.specs.Words.{Byte, word_of}
+use Rattle.grammar.specs.Words.{word_of}
 use Rattle.grammar.proofs.WordLaws.{every_byte, six_bytes, word_earlier}
 use Rattle.grammar.proofs.words.word.Goals as goal
 
 pub loop-i-init : goal.loop-i-init
 unfolding word_of
 loop-i-init c =
-    (omega arith, rw (drop-length c.args.w.now), every_byte c.args.w.now (λ i. (c.shared_slice_known-1.given i).fits))
+    (omega arith, rw (drop-length c.args.w.now), every_byte c.args.w.now (λ i. (c.type_inv.w i).fits))
 
 pub overflow_sub-i : goal.overflow_sub-i
 overflow_sub-i c = omega arith

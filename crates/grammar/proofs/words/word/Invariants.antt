@@ -1,13 +1,11 @@
 -- The bytes passed, from the last one down, make the number of the rest of the word.
 use Prim.Native.Nat.{◌≤◌}
-use native.Mathlib.Omega.{arith}
-use mathlib.Core.Path.{◌≡◌, ap, ◌∙◌}
+use mathlib.Core.Path.{◌≡◌}
 use lib.ListN.{length, drop}
-use lib.Seq.{drop-length}
 use Rattle.rules.specs.Lists.{Every}
 use Rattle.grammar.specs.Words.{Byte, word_of}
-use Rattle.grammar.proofs.WordLaws.{every_byte, six_bytes, word_earlier}
 use Rattle.grammar.proofs.words.word.Given as goal
+
 abbrev pub invariant-loop-i : goal.invariant-loop-i
 invariant-loop-i l = (l.i ≤ length l.w) × (l.x ≡ word_of (drop l.i l.w)) × Every Byte l.w
 

@@ -1,10 +1,7 @@
 -- No LF stands between the place and i: from both, the first LF is the same.
-use Prim.Native.Nat.{◌+◌, ◌-◌, ◌≤◌}
-use mathlib.Core.Path.{◌≡◌, refl, sym, ◌∙◌}
+use mathlib.Core.Path.{refl, sym, ◌∙◌}
 use native.Mathlib.Nat.{add-zero}
 use native.Mathlib.Omega.{arith}
-use lib.ListN.{length, drop}
-use Rattle.rules.specs.Text.{without_lf}
 use Rattle.reader.proofs.Lines.{lf_here, lf_further, lf_nowhere}
 use Rattle.std.proofs.Common.{rules}
 use Rattle.reader.proofs.finder.find_lf.Goals as goal

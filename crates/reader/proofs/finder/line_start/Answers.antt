@@ -1,10 +1,10 @@
 -- Line n of the text is line n - i of what stands from at on, and starts at the same place.
-use Prim.Native.Nat.{ℕ, ◌+◌, ◌-◌, ◌≤◌}
+use Prim.Native.Nat.{ℕ, ◌-◌}
 use mathlib.Core.List.{[]}
 use mathlib.Core.Path.{◌≡◌, ap, sym, ◌∙◌}
 use native.Mathlib.Nat.{sub-zero, zero-add}
 use native.Mathlib.Omega.{arith}
-use lib.ListN.{length, drop, get_or}
+use lib.ListN.{drop, get_or}
 use Rattle.rules.specs.Text.{lines, start_of}
 use Rattle.reader.proofs.Lines.{past_lf, past_last, start_of_first}
 use Rattle.std.proofs.Common.{rules}

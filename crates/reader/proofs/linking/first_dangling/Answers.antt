@@ -1,7 +1,6 @@
 -- Before line n no line dangled, and linking goes on from there.
-use Prim.Native.Nat.{◌-◌, ◌≤◌}
 use native.Mathlib.Omega.{arith}
-use Rattle.reader.proofs.Links.{LinkedTo, at_first_line, line_found, line_passed, no_line_left}
+use Rattle.reader.proofs.Links.{at_first_line, line_found, line_passed, no_line_left}
 use Rattle.reader.proofs.linking.first_dangling.Goals as goal
 
 pub loop-n-init : goal.loop-n-init

@@ -1,8 +1,8 @@
 -- Before line n no line dangled, and linking goes on from there.
 use Prim.Native.Nat.{◌-◌, ◌≤◌}
-use native.Mathlib.Omega.{arith}
-use Rattle.reader.proofs.Links.{LinkedTo, at_first_line, line_found, line_passed, no_line_left}
+use Rattle.reader.proofs.Links.{LinkedTo}
 use Rattle.reader.proofs.linking.first_dangling.Given as goal
+
 abbrev pub invariant-loop-n : goal.invariant-loop-n
 invariant-loop-n l = (l.n ≤ l.lines) × LinkedTo l.t l.kinds l.blocks l.lines l.n
 

@@ -15,11 +15,14 @@ returns-then-r-ne0 c = record { finishes = record { is = rw (ne_eqb c.args.r.blo
 
 pub returns : goal.returns
 unfolding R.finish
-returns c = record { finishes = record {
-        is = (
-          rw (ne_eqb c.args.r.blocks 0 c.if-r-eq0.false, place_outside c.args.r.opener c.args.r.filled, eq-eqb c.args.r.opener 0 c.if-r-ne0.false),
-          refl,
-          refl,
-          refl,
-        );
-      }; result_value = refl }
+returns c = record {
+  finishes = record {
+    is = (
+      rw (ne_eqb c.args.r.blocks 0 c.if-r-eq0.false, place_outside c.args.r.opener c.args.r.filled, eq-eqb c.args.r.opener 0 c.if-r-ne0.false),
+      refl,
+      refl,
+      refl,
+    );
+  };
+  result_value = refl;
+}

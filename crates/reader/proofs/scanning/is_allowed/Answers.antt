@@ -3,7 +3,7 @@ use Prim.Native.Nat.{ℕ, ◌+◌, ◌-◌, ◌≤◌, ◌<◌}
 use native.Mathlib.Omega.{arith}
 use mathlib.Core.Path.{◌≡◌, refl, sym}
 use mathlib.Core.Bool.{Bool, true, not, ◌||◌}
-use mathlib.Core.Logic.{⊎_elim, inl, inr}
+use mathlib.Core.Logic.{⊎_elim}
 use lib.Dec.{eqb}
 use borrow.Author.Tests.{ne_eqb, not-true}
 use Rattle.rules.specs.Text.{lf, space, allowed}
@@ -33,7 +33,7 @@ returns-in-97-to-122 c = sym (passes allowed 97 26 c.args.b refl (omega arith) (
 
 pub returns-in_default : goal.returns-in_default
 returns-in_default c =
-    sym (not-true _ (rw (ne_eqb c.args.b lf (λ e. c.in_default-1.rest.1 (inl e)), ne_eqb c.args.b space (λ e. c.in_default-1.rest.1 (inr e))) at (before_brackets c.args.b (omega arith))))
+    sym (not-true _ (rw (ne_eqb c.args.b lf (λ e. grind arith), ne_eqb c.args.b space (λ e. grind arith)) at (before_brackets c.args.b (omega arith))))
 
 -- between the brackets and 0
 pub returns-in_default-2 : goal.returns-in_default-2

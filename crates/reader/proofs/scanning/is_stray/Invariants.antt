@@ -1,12 +1,10 @@
 -- No stray byte stands before i.
-use borrow.Author.Tests.{not-true, not-false}
 use Prim.Native.Nat.{◌-◌, ◌≤◌}
-use mathlib.Core.Path.{◌≡◌, refl, sym, ◌∙◌}
-use native.Mathlib.Omega.{arith}
+use mathlib.Core.Path.{◌≡◌}
 use lib.ListN.{length, drop}
 use Rattle.rules.specs.Text.{stray}
-use Rattle.reader.proofs.Lines.{stray_here, stray_further, stray_nowhere}
 use Rattle.reader.proofs.scanning.is_stray.Given as goal
+
 abbrev pub invariant-loop-i : goal.invariant-loop-i
 invariant-loop-i l = (l.i ≤ length l.s) × (stray l.s ≡ stray (drop l.i l.s))
 

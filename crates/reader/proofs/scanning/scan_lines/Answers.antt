@@ -1,21 +1,8 @@
 -- The loop keeps what was read in the table and the lines from here on still to scan; each turn takes one line.
 use native.Mathlib.Omega.{arith}
-use Prim.Native.Nat.{◌-◌}
-use lib.ListN.{length}
 use borrow.Author.Tests.{not-true, not-false}
-use Rattle.reader.specs.Sofar.{edition_of}
-use Rattle.reader.proofs.Scan.{Scanning, at_start, at_end, unfit_line, refused_line, Passes, passes, few_lines, small, room, further, next_line}
+use Rattle.reader.proofs.Scan.{at_start, at_end, unfit_line, refused_line, passes, few_lines, small, room, further, next_line}
 use Rattle.reader.proofs.scanning.scan_lines.Goals as goal
-
--- past its checks
-line_passes : (c : tie.Else2 invariant_loop decreases_loop)
-    → (let x = c.before.before.before.before.before.before.loop in
-    let a = c.before.before.before.before.before.before.before.before.before.args in
-    let l = c.before.before.before.before.line_at in
-    Passes a.m a.text.now x.r x.at l.result x.invariant.forms l.ensures.form)
-line_passes c =
-    let s = c.before.before.before.before.before.before.loop.invariant in
-    passes s c.before.before.before.before.line_at.ensures (not-false _ c.before.before.if1.false) c.before.fault.ensures c.if2.false
 
 pub loop-at-init : goal.loop-at-init
 loop-at-init c =
@@ -45,23 +32,23 @@ returns-then-k-ne0 c = record { scans = refused_line c.loop-at.invariant c.line_
 
 pub put_line-requires : goal.put_line-requires
 put_line-requires c =
-    (omega (arith, c.loop-at.invariant.same_length), room c.loop-at.invariant (line_passes §c.before))
+    (omega (arith, c.loop-at.invariant.same_length), room c.loop-at.invariant (passes c.loop-at.invariant c.line_at-l.ensures (not-false _ c.if-not-l.false) c.fault-k.ensures c.if-k-ne0.false))
 
 pub after_line-next-requires : goal.after_line-next-requires
 after_line-next-requires c = small c.loop-at.invariant
 
 pub overflow_add-n : goal.overflow_add-n
 overflow_add-n c =
-    let h = room c.loop-at.invariant (line_passes §c.before.before.before.before.before) in
+    let h = room c.loop-at.invariant (passes c.loop-at.invariant c.line_at-l.ensures (not-false _ c.if-not-l.false) c.fault-k.ensures c.if-k-ne0.false) in
     omega arith
 
 pub loop-at-smaller : goal.loop-at-smaller
 loop-at-smaller c =
-    further c.loop-at.invariant (line_passes §c.before.before.before.before.before) c.loop-at-test.true
+    further c.loop-at.invariant (passes c.loop-at.invariant c.line_at-l.ensures (not-false _ c.if-not-l.false) c.fault-k.ensures c.if-k-ne0.false) c.loop-at-test.true
 
 pub loop-at-preserved : goal.loop-at-preserved
 loop-at-preserved c =
-    next_line c.loop-at.invariant (line_passes §c.before.before.before.before.before) c.put_line.ensures §c.after_Line.ensures c.put_line.auto.0
+    next_line c.loop-at.invariant (passes c.loop-at.invariant c.line_at-l.ensures (not-false _ c.if-not-l.false) c.fault-k.ensures c.if-k-ne0.false) c.put_line.ensures c.after_line-next.ensures c.put_line.auto.words
 
 pub finish-requires : goal.finish-requires
 finish-requires c = tt

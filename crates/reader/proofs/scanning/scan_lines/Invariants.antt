@@ -1,11 +1,10 @@
 -- The loop keeps what was read in the table and the lines from here on still to scan; each turn takes one line.
-use native.Mathlib.Omega.{arith}
 use Prim.Native.Nat.{◌-◌}
 use lib.ListN.{length}
-use borrow.Author.Tests.{not-true, not-false}
 use Rattle.reader.specs.Sofar.{edition_of}
-use Rattle.reader.proofs.Scan.{Scanning, at_start, at_end, unfit_line, refused_line, Passes, passes, few_lines, small, room, further, next_line}
+use Rattle.reader.proofs.Scan.{Scanning}
 use Rattle.reader.proofs.scanning.scan_lines.Given as goal
+
 abbrev pub invariant-loop-at : goal.invariant-loop-at
 invariant-loop-at l = Scanning l.m (edition_of l.second) l.text l.initial.words l.words l.r l.n l.at
 

@@ -1,7 +1,6 @@
 -- `run::ends::all_wait` meets its contract: before turn t the threads before t would wait; one that would not is one of all.
-use Prim.Native.Nat.{◌-◌, ◌≤◌}
 use native.Mathlib.Omega.{arith}
-use Rattle.run.proofs.EndLaws.{WaitTo, none_asked, one_waits, one_does_not, all_asked}
+use Rattle.run.proofs.EndLaws.{none_asked, one_waits, one_does_not, all_asked}
 use Rattle.run.proofs.ends.all_wait.Goals as goal
 
 pub loop-t-init : goal.loop-t-init

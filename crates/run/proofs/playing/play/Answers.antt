@@ -1,29 +1,21 @@
 -- Each stretch goes on where the one before it ended; past the last copy the run is the rules'.
 use native.Mathlib.Omega.{arith}
-use Prim.Native.Nat.{ℕ}
-use mathlib.Core.Path.{◌≡◌, refl, ◌∙◌}
-use mathlib.Core.List.{List}
-use lib.ListN.{length}
-use Rattle.run.specs.Played.{PlaysFrom}
-use Rattle.run.proofs.TurnByTurn.{plays_past, plays_all, turns_left, fewer_left}
+use Rattle.run.proofs.TurnByTurn.{plays_past, plays_all, fewer_left}
 use Rattle.run.proofs.playing.play.Goals as goal
 
 pub loop-stretch-init : goal.loop-stretch-init
-loop-stretch-init c = (λ l plays. plays, refl)
-
-pub shape_of-s-in-Ended : goal.shape_of-s-in-Ended
-shape_of-s-in-Ended c = c.loop-stretch.invariant.1 ∙ c.play_from-stretch.auto.1.0
+loop-stretch-init c = λ l plays. plays
 
 pub returns-in-Ended : goal.returns-in-Ended
-returns-in-Ended c = plays_all (c.loop-stretch.invariant.0 _ c.play_from-stretch.ensures) c.in-Ended.is
+returns-in-Ended c = plays_all (c.loop-stretch.invariant _ c.play_from-stretch.ensures) c.in-Ended.is
 
 pub play_past-stretch-requires : goal.play_past-stretch-requires
 play_past-stretch-requires c =
-    (c.requires.0, omega (arith, c.loop-stretch.invariant.1, c.play_from-stretch.auto.1.0, c.requires.1), c.requires.2, ((c.loop-stretch.invariant.0 _ c.play_from-stretch.ensures).next _ _ _ c.in-AtCopy.is).1)
+    (c.requires.0, omega arith, c.requires.2, ((c.loop-stretch.invariant _ c.play_from-stretch.ensures).next _ _ _ c.in-AtCopy.is).1)
 
 pub loop-stretch-smaller : goal.loop-stretch-smaller
-loop-stretch-smaller c = fewer_left (c.loop-stretch.invariant.0 _ c.play_from-stretch.ensures) c.in-AtCopy.is c.play_past-stretch.ensures
+loop-stretch-smaller c = fewer_left (c.loop-stretch.invariant _ c.play_from-stretch.ensures) c.in-AtCopy.is c.play_past-stretch.ensures
 
 pub loop-stretch-preserved : goal.loop-stretch-preserved
 loop-stretch-preserved c =
-    (λ l plays. plays_past (c.loop-stretch.invariant.0 l plays) c.in-AtCopy.is c.play_past-stretch.ensures, c.play_past-stretch.auto.1.0 ∙ c.loop-stretch.invariant.1)
+    λ l plays. plays_past (c.loop-stretch.invariant l plays) c.in-AtCopy.is c.play_past-stretch.ensures

@@ -1,15 +1,13 @@
 -- Each stretch goes on where the one before it ended; past the last copy the run is the rules'.
-use native.Mathlib.Omega.{arith}
 use Prim.Native.Nat.{ℕ}
-use mathlib.Core.Path.{◌≡◌, refl, ◌∙◌}
 use mathlib.Core.List.{List}
-use lib.ListN.{length}
 use Rattle.run.specs.Played.{PlaysFrom}
-use Rattle.run.proofs.TurnByTurn.{plays_past, plays_all, turns_left, fewer_left}
+use Rattle.run.proofs.TurnByTurn.{turns_left}
 use Rattle.run.proofs.playing.play.Given as goal
+
 -- what the first stretch comes to, this one does
 abbrev pub invariant-loop-stretch : goal.invariant-loop-stretch
-invariant-loop-stretch l = ((l : List ℕ) → PlaysFrom l.p l l.turns 0 0 l.initial.stretch l.initial.s → PlaysFrom l.p l l.turns 0 0 l.stretch l.s) × (length l.s ≡ length l.initial.s)
+invariant-loop-stretch l = (s₀ : List ℕ) → PlaysFrom l.p s₀ l.turns 0 0 l.initial.stretch l.initial.s → PlaysFrom l.p s₀ l.turns 0 0 l.stretch l.s
 
 abbrev pub decreases-loop-stretch : goal.decreases-loop-stretch
 decreases-loop-stretch l = turns_left l.turns l.stretch

@@ -16,5 +16,5 @@ returns-in-Waits c =
 pub returns-in_default : goal.returns-in_default
 returns-in_default c =
     stops_past c.requires.3 c.requires.2 c.perform_copy-step.ensures
-    (other_steps_stop c.perform_copy-step.result c.in_default.is ∙ ap stop (sym c.stop_number-number.ensures))
+    (other_steps_stop c.perform_copy-step.result c.in_default.not-Next c.in_default.not-Stay c.in_default.not-Turned c.in_default.not-Waits ∙ ap stop (sym c.stop_number-number.ensures))
     c.frame_block-b.ensures.sees c.frame_line-l.ensures.sees

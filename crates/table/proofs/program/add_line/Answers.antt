@@ -1,5 +1,5 @@
 -- `table::program::add_line` meets its contract: the eight words are written where the zeros after the lines begin.
-use Rattle.std.proofs.Common.{◌≡◌, ◌+◌, ◌*◌, [], ◌∷◌, ◌++◌, take, drop, ap, ◌∙◌, arith, length-set, rules}
+use Rattle.std.proofs.Common.{◌≡◌, ◌+◌, ◌*◌, [], ◌∷◌, ◌++◌, take, drop, ap, ◌∙◌, arith, length-set}
 use Rattle.table.proofs.ProgramTable.{eight_set, line_added}
 use Rattle.table.proofs.program.add_line.Goals as goal
 

@@ -1,5 +1,5 @@
 -- `table::program::add_opener` meets its contract: the opener's line is written, and the number of the line after it as one first line more.
-use Rattle.std.proofs.Common.{◌+◌, set, ap, rules}
+use Rattle.std.proofs.Common.{◌+◌, set, ap}
 use Rattle.table.proofs.ProgramTable.{opener_added}
 use Rattle.table.proofs.program.add_opener.Goals as goal
 

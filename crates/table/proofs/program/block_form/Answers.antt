@@ -1,5 +1,5 @@
 -- `table::program::block_form` meets its contract: the line before a block's first line is its opener, and stands within the table.
-use Rattle.std.proofs.Common.{◌+◌, ◌*◌, ◌%◌, get_or, ap, ◌∙◌, rules}
+use Rattle.std.proofs.Common.{◌+◌, ◌*◌, ◌%◌, get_or, ap, ◌∙◌}
 use Rattle.table.proofs.ProgramLines.{block_form_is}
 use Rattle.table.proofs.program.block_form.Goals as goal
 

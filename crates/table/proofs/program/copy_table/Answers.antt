@@ -1,5 +1,5 @@
 -- `table::program::copy_table` meets its contract: before turn i the first i words are copied.
-use Rattle.std.proofs.Common.{◌≡◌, ◌-◌, ◌≤◌, List, ◌++◌, length, get_or, drop, set, sym, refl, ap, ◌∙◌, zero-add, add-one, arith, length-set, take_all, rules}
+use Rattle.std.proofs.Common.{◌≡◌, List, ◌++◌, get_or, drop, set, sym, refl, ap, ◌∙◌, zero-add, add-one, arith, length-set, take_all, rules}
 use lib.Seq.{paste, paste-zero, paste-suc}
 use Rattle.table.proofs.program.copy_table.Goals as goal
 

@@ -1,5 +1,5 @@
 -- `table::program::edition` meets its contract: it is the word after the counts, which stand first.
-use Rattle.std.proofs.Common.{refl, arith, rules}
+use Rattle.std.proofs.Common.{refl, arith}
 use Rattle.table.proofs.ProgramTable.{count_is}
 use Rattle.table.proofs.program.edition.Goals as goal
 

@@ -1,5 +1,5 @@
 -- `table::program::first_line` meets its contract: the first lines stand after the eight words of counts.
-use Rattle.std.proofs.Common.{◌+◌, refl, arith, rules}
+use Rattle.std.proofs.Common.{◌+◌, refl, arith}
 use Rattle.table.proofs.ProgramTable.{first_line_is}
 use Rattle.table.proofs.program.first_line.Goals as goal
 

@@ -1,5 +1,5 @@
 -- `table::program::kind_fields` meets its contract: kind n is line n, whose first part is the number of fields.
-use Rattle.std.proofs.Common.{◌≡◌, ◌+◌, ◌*◌, get_or, ap, ◌∙◌, arith, rules}
+use Rattle.std.proofs.Common.{◌≡◌, ◌+◌, ◌*◌, get_or, ap, ◌∙◌, arith}
 use Rattle.rules.specs.Script.{lines_of}
 use Rattle.table.proofs.ProgramLines.{kind_there, kind_fields_is}
 use Rattle.table.proofs.program.kind_fields.Goals as goal

@@ -1,5 +1,5 @@
 -- `table::program::line_count` meets its contract: it is the third of the counts, which stand first.
-use Rattle.std.proofs.Common.{refl, arith, rules}
+use Rattle.std.proofs.Common.{refl, arith}
 use Rattle.table.proofs.ProgramTable.{count_is}
 use Rattle.table.proofs.program.line_count.Goals as goal
 

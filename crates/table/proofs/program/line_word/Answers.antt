@@ -1,5 +1,5 @@
 -- `table::program::line_word` meets its contract: past the counts and the first lines, line n's words begin at n * 8.
-use Rattle.std.proofs.Common.{refl, arith, rules}
+use Rattle.std.proofs.Common.{refl, arith}
 use Rattle.table.proofs.ProgramTable.{line_word_is}
 use Rattle.table.proofs.program.line_word.Goals as goal
 

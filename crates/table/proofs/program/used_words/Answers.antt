@@ -1,5 +1,5 @@
 -- `table::program::used_words` meets its contract: behind the counts and the blocks' first lines, each line of the text has its eight words.
-use Rattle.std.proofs.Common.{refl, arith, rules, le-ltb, lt-ltb}
+use Rattle.std.proofs.Common.{refl, arith, le-ltb, lt-ltb}
 use Rattle.table.proofs.ProgramTable.{too_many_lines, used_by_lines}
 use Rattle.table.proofs.program.used_words.Goals as goal
 

@@ -1,5 +1,5 @@
 -- `table::state::add_object` meets its contract: the words that are put are those of the values.
-use Rattle.std.proofs.Common.{map, ap, rules}
+use Rattle.std.proofs.Common.{map, ap}
 use Rattle.rules.specs.Tables.{word}
 use Rattle.table.proofs.state.add_object.Goals as goal
 

@@ -1,5 +1,5 @@
 -- `table::state::cap` meets its contract: it is told by the first of the object's words.
-use Rattle.std.proofs.Common.{arith, rules}
+use Rattle.std.proofs.Common.{arith}
 use Rattle.table.proofs.StateReads.{cap_seen}
 use Rattle.table.proofs.state.cap.Goals as goal
 

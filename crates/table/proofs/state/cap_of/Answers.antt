@@ -1,6 +1,5 @@
 -- `table::state::cap_of` meets its contract: each arm is the definition's own.
 use Rattle.table.proofs.StateReads.{other_cap}
-use Rattle.std.proofs.Common.{rules}
 use Rattle.table.proofs.state.cap_of.Goals as goal
 
 pub returns-in_default : goal.returns-in_default

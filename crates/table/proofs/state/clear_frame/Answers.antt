@@ -1,5 +1,5 @@
 -- `table::state::clear_frame` meets its contract: before turn i the frame's first i words are zero.
-use Rattle.std.proofs.Common.{◌≡◌, ◌+◌, ◌-◌, ◌≤◌, length, set, refl, ap, ◌∙◌, arith, length-set, rules}
+use Rattle.std.proofs.Common.{◌≡◌, ◌+◌, set, refl, ap, ◌∙◌, arith, length-set, rules}
 use lib.Seq.{paste, paste-zero}
 use Rattle.table.proofs.StateFrames.{zeros, zero_more, frame_left}
 use Rattle.table.proofs.state.clear_frame.Goals as goal
@@ -10,8 +10,7 @@ loop-i-init c = (search rules, refl, paste-zero c.args.s.now c.args.h.frame (zer
 pub loop-i-preserved : goal.loop-i-preserved
 loop-i-preserved c =
     let a = c.args in
-    let at = a.h.frame in
-    (
+    let at = a.h.frame in (
       omega arith,
       simp length-set c.loop-i.invariant.1,
       ap (λ l. set l (at + c.loop-i.i) 0) c.loop-i.invariant.2 ∙ zero_more a.s.now at 19 c.loop-i.i _ refl (omega arith) (omega arith),

@@ -1,11 +1,14 @@
 -- `table::state::clear_slot` meets its contract: the word of an absent value is 0.
-use Rattle.std.proofs.Common.{refl, rules}
+use Rattle.std.proofs.Common.{refl}
 use Rattle.table.proofs.StateMoves.{slot_cleared}
 use Rattle.table.proofs.state.clear_slot.Goals as goal
 
 pub returns : goal.returns
 returns c =
     let a = c.args in
-    let h = a.h in record { s_after = refl; becomes = record {
+    let h = a.h in record {
+      s_after = refl;
+      becomes = record {
         becomes = λ S rest held has. slot_cleared held h.thread h.depth h.frame c.requires.1.thread c.requires.1.depth c.requires.1.frame a.i c.requires.2 has;
-      } }
+      };
+    }

@@ -1,6 +1,5 @@
 -- `table::state::drop_frame` meets its contract: the values of its slots are let go, then its words are zero.
 use Rattle.table.proofs.HolderCounts.{frame_dropped}
-use Rattle.std.proofs.Common.{rules}
 use Rattle.table.proofs.state.drop_frame.Goals as goal
 
 pub returns : goal.returns

@@ -1,5 +1,5 @@
 -- `table::state::empty_channel` meets its contract: the channel's first word is its message, and 0 is absent.
-use Rattle.std.proofs.Common.{refl, arith, rules}
+use Rattle.std.proofs.Common.{refl, arith}
 use Rattle.table.proofs.StateRecords.{channel_emptied}
 use Rattle.table.proofs.state.empty_channel.Goals as goal
 

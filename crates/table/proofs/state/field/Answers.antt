@@ -1,5 +1,5 @@
 -- `table::state::field` meets its contract: field j is word 4 + j of the object's; no object has a fifth.
-use Rattle.std.proofs.Common.{arith, rules}
+use Rattle.std.proofs.Common.{arith}
 use Rattle.table.proofs.StateReads.{field_seen, no_field_seen}
 use Rattle.table.proofs.state.field.Goals as goal
 

@@ -1,5 +1,5 @@
 -- `table::state::frame_count` meets its contract: it is the first of the thread's words.
-use Rattle.std.proofs.Common.{refl, arith, rules}
+use Rattle.std.proofs.Common.{refl, arith}
 use Rattle.table.proofs.StateTable.{frames_at}
 use Rattle.table.proofs.state.frame_count.Goals as goal
 

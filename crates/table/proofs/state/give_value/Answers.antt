@@ -1,5 +1,4 @@
 -- `table::state::give_value` meets its contract: the word is that of the value.
-use Rattle.std.proofs.Common.{rules}
 use Rattle.table.proofs.state.give_value.Goals as goal
 
 pub returns : goal.returns

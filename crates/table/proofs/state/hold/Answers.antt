@@ -1,5 +1,5 @@
 -- `table::state::hold` meets its contract: only an object has a count, and its word is the next one, modulo 65,536.
-use Rattle.std.proofs.Common.{arith, rules}
+use Rattle.std.proofs.Common.{arith}
 use Rattle.table.proofs.StateReads.{object_in_table}
 use Rattle.table.proofs.HolderCounts.{absent_uncounted, channel_uncounted, object_counted, counts_by}
 use Rattle.table.proofs.state.hold.Goals as goal

@@ -1,5 +1,5 @@
 -- `table::state::holder_count` meets its contract: it is the fourth of the object's words.
-use Rattle.std.proofs.Common.{refl, arith, rules}
+use Rattle.std.proofs.Common.{refl, arith}
 use Rattle.table.proofs.StateReads.{count_word}
 use Rattle.table.proofs.state.holder_count.Goals as goal
 

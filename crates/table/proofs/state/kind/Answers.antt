@@ -1,5 +1,5 @@
 -- `table::state::kind` meets its contract: it is the second of the object's words.
-use Rattle.std.proofs.Common.{refl, arith, rules}
+use Rattle.std.proofs.Common.{refl, arith}
 use Rattle.rules.specs.Tables.{object_words}
 use Rattle.table.proofs.StateReads.{object_word}
 use Rattle.table.proofs.state.kind.Goals as goal

@@ -1,11 +1,14 @@
 -- `table::state::locate` meets its contract: the remainders change nothing where the tables hold a state and its program.
-use Rattle.std.proofs.Common.{refl, arith, rules}
+use Rattle.std.proofs.Common.{refl, arith}
 use Rattle.table.proofs.StateFrames.{on_its_line}
 use Rattle.table.proofs.state.locate.Goals as goal
 
 pub returns : goal.returns
-returns c = record { placed = (record { thread = omega arith; depth = omega arith; frame = refl; row = omega arith; aligned = omega arith }, refl); stands = record {
-        depth = λ S rest held e few. omega arith;
-        row = λ P S counts rest₁ rest₂ filled held there few.
-            on_its_line P filled there (c.frame_block.ensures.sees.sees S rest₂ held tt) (c.frame_line-l.ensures.sees.sees S rest₂ held tt) c.first_line-first.ensures.value.0 refl few;
-      } }
+returns c = record {
+  placed = (record { thread = omega arith; depth = omega arith; frame = refl; row = omega arith; aligned = omega arith }, refl);
+  stands = record {
+    depth = λ S rest held e few. omega arith;
+    row = λ P S counts rest₁ rest₂ filled held there few.
+        on_its_line P filled there (c.frame_block.ensures.sees.sees S rest₂ held tt) (c.frame_line-l.ensures.sees.sees S rest₂ held tt) c.first_line-first.ensures.value.0 refl few;
+  };
+}

@@ -1,5 +1,5 @@
 -- `table::state::message` meets its contract: it is the first of the channel's words.
-use Rattle.std.proofs.Common.{arith, rules}
+use Rattle.std.proofs.Common.{arith}
 use Rattle.table.proofs.StateReads.{message_seen}
 use Rattle.table.proofs.state.message.Goals as goal
 

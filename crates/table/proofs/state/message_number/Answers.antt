@@ -1,5 +1,5 @@
 -- `table::state::message_number` meets its contract: it is the second of the channel's words.
-use Rattle.std.proofs.Common.{refl, arith, rules}
+use Rattle.std.proofs.Common.{refl, arith}
 use Rattle.rules.specs.Tables.{channel_words}
 use Rattle.table.proofs.StateReads.{channel_word}
 use Rattle.table.proofs.state.message_number.Goals as goal

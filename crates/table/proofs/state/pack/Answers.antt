@@ -1,5 +1,5 @@
 -- `table::state::pack` meets its contract: each arm is the definition's own; what has a place in the table has a word.
-use Rattle.std.proofs.Common.{arith, rules}
+use Rattle.std.proofs.Common.{arith}
 use Rattle.table.proofs.StateReads.{object_in_table, channel_in_table}
 use Rattle.table.proofs.state.pack.Goals as goal
 

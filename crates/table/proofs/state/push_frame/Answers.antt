@@ -1,5 +1,5 @@
 -- `table::state::push_frame` meets its contract: the words past the innermost frame are zero, so the four written make the callee's frame.
-use Rattle.std.proofs.Common.{arith, length-set, rules}
+use Rattle.std.proofs.Common.{arith, length-set}
 use Rattle.table.proofs.StateFrames.{frame_called}
 use Rattle.table.proofs.state.push_frame.Goals as goal
 

@@ -1,5 +1,5 @@
 -- `table::state::push_word` meets its contract: the three words of the frame and the sender's word are those of the state after the let.
-use Rattle.std.proofs.Common.{arith, length-set, rules}
+use Rattle.std.proofs.Common.{arith, length-set}
 use Rattle.table.proofs.StateMoves.{word_pushed}
 use Rattle.table.proofs.state.push_word.Goals as goal
 
@@ -17,6 +17,9 @@ bounds-s-t c = simp length-set (omega arith)
 
 pub returns : goal.returns
 returns c =
-    let a = c.args in record { pushes = record {
+    let a = c.args in record {
+      pushes = record {
         pushes = λ v same. record { becomes = λ S rest held room. word_pushed held a.t a.k a.at c.requires.1 c.requires.2 c.requires.3 v a.x same room };
-      }; s_len_unchanged = simp length-set }
+      };
+      s_len_unchanged = simp length-set;
+    }

@@ -1,5 +1,5 @@
 -- `table::state::put_message` meets its contract: both words of the channel are written, then the sender's; below 32,768 a number is its own remainder.
-use Rattle.std.proofs.Common.{arith, length-set, rules}
+use Rattle.std.proofs.Common.{arith, length-set}
 use Rattle.table.proofs.StateRecords.{message_put}
 use Rattle.table.proofs.state.put_message.Goals as goal
 

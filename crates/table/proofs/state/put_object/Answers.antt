@@ -1,5 +1,5 @@
 -- `table::state::put_object` meets its contract: the words of a place that is not used are zero, the object's are written over them, and then the count.
-use Rattle.std.proofs.Common.{arith, length-set, rules}
+use Rattle.std.proofs.Common.{arith, length-set}
 use Rattle.table.proofs.StateRecords.{object_added}
 use Rattle.table.proofs.state.put_object.Goals as goal
 

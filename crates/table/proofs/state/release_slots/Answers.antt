@@ -1,6 +1,6 @@
 -- `table::state::release_slots` meets its contract: before turn i the values of the first i slots are let go.
-use Rattle.std.proofs.Common.{◌≡◌, ◌-◌, ◌%◌, ◌≤◌, length, refl, add-one, arith, rules}
-use Rattle.table.proofs.HolderCounts.{ReleasesFirst, none_released, one_more_released, all_released}
+use Rattle.std.proofs.Common.{◌≡◌, ◌%◌, refl, add-one, arith, rules}
+use Rattle.table.proofs.HolderCounts.{none_released, one_more_released, all_released}
 use Rattle.table.proofs.state.release_slots.Goals as goal
 
 pub slot_count-requires : goal.slot_count-requires
@@ -18,12 +18,11 @@ release-requires c =
     (omega (arith, c.loop-i.invariant.1, c.requires.0), c.slot-v.ensures.value.1)
 
 pub loop-i-preserved : goal.loop-i-preserved
-loop-i-preserved c =
-    (
-      omega arith,
-      search rules,
-      rw (add-one c.loop-i.i) (one_more_released (omega arith) c.loop-i.invariant.2 c.slot-v.ensures.sees c.release.ensures.counts),
-    )
+loop-i-preserved c = (
+  omega arith,
+  search rules,
+  rw (add-one c.loop-i.i) (one_more_released (omega arith) c.loop-i.invariant.2 c.slot-v.ensures.sees c.release.ensures.counts),
+)
 
 pub returns : goal.returns
 returns c =

@@ -1,5 +1,4 @@
 -- `table::state::return_value` meets its contract: the word is that of the value, and the caller's frame lies just before.
-use Rattle.std.proofs.Common.{rules}
 use Rattle.table.proofs.state.return_value.Goals as goal
 
 pub returns : goal.returns

@@ -1,5 +1,5 @@
 -- `table::state::sender` meets its contract: it is the second of the thread's words.
-use Rattle.std.proofs.Common.{refl, arith, rules}
+use Rattle.std.proofs.Common.{refl, arith}
 use Rattle.table.proofs.StateTable.{sender_at}
 use Rattle.table.proofs.state.sender.Goals as goal
 

@@ -1,5 +1,5 @@
 -- `table::state::slot` meets its contract: slot i is word 3 + i of the frame's.
-use Rattle.std.proofs.Common.{◌+◌, arith, rules}
+use Rattle.std.proofs.Common.{◌+◌, arith}
 use Rattle.table.proofs.StateReads.{slot_seen}
 use Rattle.table.proofs.state.slot.Goals as goal
 

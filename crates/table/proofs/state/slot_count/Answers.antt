@@ -1,5 +1,5 @@
 -- `table::state::slot_count` meets its contract: it is the third of the frame's words.
-use Rattle.std.proofs.Common.{refl, arith, rules}
+use Rattle.std.proofs.Common.{refl, arith}
 use Rattle.rules.specs.Tables.{frame_words}
 use Rattle.table.proofs.StateReads.{frame_word}
 use Rattle.table.proofs.state.slot_count.Goals as goal

@@ -1,5 +1,5 @@
 -- `table::state::start_state` meets its contract: in a table of zeros the three words make the fresh start.
-use Rattle.std.proofs.Common.{refl, arith, length-set, rules}
+use Rattle.std.proofs.Common.{refl, arith, length-set}
 use Rattle.table.proofs.StateFrames.{all_zero_but_three}
 use Rattle.table.proofs.state.start_state.Goals as goal
 

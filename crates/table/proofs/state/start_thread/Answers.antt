@@ -1,5 +1,5 @@
 -- `table::state::start_thread` meets its contract: the words of a thread that is not there are zero; what is written over them is its only frame.
-use Rattle.std.proofs.Common.{arith, length-set, rules}
+use Rattle.std.proofs.Common.{arith, length-set}
 use Rattle.table.proofs.StateRecords.{thread_added}
 use Rattle.table.proofs.state.start_thread.Goals as goal
 

@@ -1,5 +1,5 @@
 -- `table::state::store_field` meets its contract: the value's word goes into the field's place among the object's words.
-use Rattle.std.proofs.Common.{refl, arith, rules}
+use Rattle.std.proofs.Common.{refl, arith}
 use Rattle.table.proofs.StateRecords.{field_stored}
 use Rattle.table.proofs.state.store_field.Goals as goal
 

@@ -1,5 +1,5 @@
 -- `table::state::unpack` meets its contract: the two tests are the definition's own.
-use Rattle.std.proofs.Common.{arith, rules, le-ltb, lt-ltb, eq-eqb, ne_eqb}
+use Rattle.std.proofs.Common.{arith, le-ltb, lt-ltb, eq-eqb, ne_eqb}
 use Rattle.table.proofs.state.unpack.Goals as goal
 
 pub returns-then-w-eq0 : goal.returns-then-w-eq0

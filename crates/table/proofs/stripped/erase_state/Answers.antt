@@ -1,6 +1,6 @@
 -- `table::stripped::erase_state` meets its contract: before turn o the first o objects are unsafe, and a run makes no more than 256.
-use Rattle.std.proofs.Common.{◌≡◌, ◌-◌, ◌≤◌, length, refl, add-one, arith, rules}
-use Rattle.table.proofs.StrippedWords.{ErasesFirst, none_erased, one_object_more, all_erased}
+use Rattle.std.proofs.Common.{◌≡◌, refl, add-one, arith, rules}
+use Rattle.table.proofs.StrippedWords.{none_erased, one_object_more, all_erased}
 use Rattle.table.proofs.stripped.erase_state.Goals as goal
 
 pub loop-o-init : goal.loop-o-init

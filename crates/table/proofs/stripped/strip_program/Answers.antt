@@ -1,6 +1,6 @@
 -- `table::stripped::strip_program` meets its contract: before turn n the first n lines are stripped, and a table has no more than 672.
-use Rattle.std.proofs.Common.{◌≡◌, ◌-◌, ◌≤◌, length, refl, add-one, arith, rules}
-use Rattle.table.proofs.StrippedWords.{StripsFirst, none_stripped, one_line_more, all_stripped}
+use Rattle.std.proofs.Common.{◌≡◌, refl, add-one, arith, rules}
+use Rattle.table.proofs.StrippedWords.{none_stripped, one_line_more, all_stripped}
 use Rattle.table.proofs.stripped.strip_program.Goals as goal
 
 pub loop-n-init : goal.loop-n-init

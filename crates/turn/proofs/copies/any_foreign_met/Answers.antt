@@ -1,7 +1,5 @@
 -- `turn::copies::any_foreign_met` meets its contract: before turn i none of the first i is foreign.
-use Prim.Native.Nat.{◌-◌, ◌≤◌}
-use lib.ListN.{take}
-use Rattle.turn.proofs.CopiesMade.{NoneBefore, none_before, one_is_foreign, one_is_not, none_is_foreign}
+use Rattle.turn.proofs.CopiesMade.{none_before, one_is_foreign, one_is_not, none_is_foreign}
 use Rattle.std.proofs.Common.{rules}
 use Rattle.turn.proofs.copies.any_foreign_met.Goals as goal
 

@@ -1,7 +1,6 @@
 -- `turn::copies::copy_from` meets its contract: what is met is numbered and checked as the rule does; where it passes each is copied.
 use native.Mathlib.Omega.{arith}
 use lib.ListN.{replicate}
-use borrow.Author.Tests.{ltb-true, ltb-false}
 use Rattle.walk.proofs.Numbers.{few_unmet}
 use Rattle.walk.proofs.FromNothing.{met_few}
 use Rattle.turn.proofs.CopyLines.{from_foreign, from_used_up, from_copied}
@@ -26,13 +25,13 @@ returns-then-foreign c =
 pub returns-then-used_up : goal.returns-then-used_up
 returns-then-used_up c =
     from_used_up c.walk-count.ensures.walks _ _ c.any_foreign_met-foreign.ensures c.object_count-first.ensures.sees c.if-foreign.false
-    (ltb-true _ _ c.if-used_up.true-raw)
+    c.if-used_up.true
 
 pub add_copies-requires : goal.add_copies-requires
 add_copies-requires c =
-    (search rules, search rules, omega (arith, met_few c.walk-count.ensures.grows), omega (arith, ltb-false))
+    (search rules, search rules, omega (arith, met_few c.walk-count.ensures.grows), omega arith)
 
 pub returns : goal.returns
 returns c =
     from_copied c.walk-count.ensures.walks _ _ c.any_foreign_met-foreign.ensures c.object_count-first.ensures.sees c.if-foreign.false
-    (ltb-false _ _ c.if-used_up.false-raw) c.add_copies.ensures
+    c.if-used_up.false c.add_copies.ensures

@@ -8,13 +8,13 @@ pub bounds-places-x : goal.bounds-places-x
 bounds-places-x c = omega (arith, object_in_table _ _ c.in-Obj.is c.requires.2)
 
 pub overflow_cast-number-in-Obj : goal.overflow_cast-number-in-Obj
-overflow_cast-number-in-Obj c = omega (arith, c.shared_slice_known-1.given c.in-Obj.x)
+overflow_cast-number-in-Obj c = omega (arith, c.type_inv.places c.in-Obj.x)
 
 pub overflow_add-number : goal.overflow_add-number
-overflow_add-number c = omega (arith, c.shared_slice_known-1.given c.in-Obj.x)
+overflow_add-number c = omega (arith, c.type_inv.places c.in-Obj.x)
 
 pub overflow_add-number-in-Obj : goal.overflow_add-number-in-Obj
-overflow_add-number-in-Obj c = omega (arith, c.shared_slice_known-1.given c.in-Obj.x)
+overflow_add-number-in-Obj c = omega (arith, c.type_inv.places c.in-Obj.x)
 
 pub returns-in-Chan : goal.returns-in-Chan
 returns-in-Chan c = (rw c.in-Chan.is refl, channel_in_table _ _ c.in-Chan.is c.requires.2)

@@ -32,13 +32,13 @@ pub returns-then-not-passes-2 : goal.returns-then-not-passes-2
 returns-then-not-passes-2 c =
     let fails = sym c.passes-in-Obj.ensures ∙ not-true _ c.if-not-passes-2.true-raw in
     line_halts (call_answers _ _ _ (call_forbidden _ _ _ c.operand_check-first.ensures (sym c.passes.ensures ∙ not-false _ c.if-not-passes.false-raw)
-    c.seen-x.ensures.sees c.in-Obj.is c.method_item-m.ensures c.if-not-passes.false-raw c.is_foreign.ensures c.permission_check-k.ensures
+    c.seen-x.ensures.sees c.in-Obj.is c.method_item-m.ensures c.if-m-eq0.false c.is_foreign.ensures c.permission_check-k.ensures
     fails)) fails
 
 pub returns-then-h-ge15 : goal.returns-then-h-ge15
 returns-then-h-ge15 c =
     line_halts (call_answers _ _ _ (call_used_up _ _ _ c.operand_check-first.ensures (sym c.passes.ensures ∙ not-false _ c.if-not-passes.false-raw)
-    c.seen-x.ensures.sees c.in-Obj.is c.method_item-m.ensures c.if-not-passes.false-raw c.is_foreign.ensures
+    c.seen-x.ensures.sees c.in-Obj.is c.method_item-m.ensures c.if-m-eq0.false c.is_foreign.ensures
     (passed_is_ok _ c.permission_check-k.ensures (sym c.passes-in-Obj.ensures ∙ not-false _ c.if-not-passes-2.false-raw)) c.if-h-ge15.true)) refl
 
 pub push_frame-requires : goal.push_frame-requires
@@ -47,11 +47,11 @@ push_frame-requires c =
 
 pub hold-requires : goal.hold-requires
 hold-requires c =
-    (omega (arith, c.push_frame.auto.0, c.requires.1), object_in_table _ _ c.in-Obj.is c.seen-x.ensures.in_table)
+    (omega arith, object_in_table _ _ c.in-Obj.is c.seen-x.ensures.in_table)
 
 pub leave-requires : goal.leave-requires
 leave-requires c =
-    (omega (arith, c.hold.auto.0, c.push_frame.auto.0, c.requires.1), c.requires.2, c.operand-v.ensures.in_table)
+    (omega arith, c.requires.2, c.operand-v.ensures.in_table)
 
 pub returns-in-Absent : goal.returns-in-Absent
 returns-in-Absent c =
@@ -66,7 +66,7 @@ returns-in-Chan c =
 pub returns-else-h-ge15 : goal.returns-else-h-ge15
 returns-else-h-ge15 c =
     line_moves (call_answers _ _ _ (call_passes _ _ _ c.operand_check-first.ensures (sym c.passes.ensures ∙ not-false _ c.if-not-passes.false-raw)
-    c.seen-x.ensures.sees c.in-Obj.is c.method_item-m.ensures c.if-not-passes.false-raw c.is_foreign.ensures
-    (passed_is_ok _ c.permission_check-k.ensures (sym c.passes.ensures ∙ not-false _ c.if-not-passes-2.false-raw)) c.if-h-ge15.false)) refl
+    c.seen-x.ensures.sees c.in-Obj.is c.method_item-m.ensures c.if-m-eq0.false c.is_foreign.ensures
+    (passed_is_ok _ c.permission_check-k.ensures (sym c.passes-in-Obj.ensures ∙ not-false _ c.if-not-passes-2.false-raw)) c.if-h-ge15.false)) refl
     (call_writes _ _ _ c.seen-x.ensures.sees c.in-Obj.is c.method_item-m.ensures c.operand-v.ensures.sees
     c.push_frame.ensures c.hold.ensures.counts c.leave.ensures)

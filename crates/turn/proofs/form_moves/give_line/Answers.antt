@@ -16,4 +16,4 @@ returns-then-h-eq0 c =
 pub returns : goal.returns
 returns c =
     line_moves (give_answers _ c.operand_check-k.ensures) (sym c.passes.ensures ∙ not-false _ c.if-not-passes.false-raw)
-    (return_writes _ c.if-not-passes.false-raw c.operand-v.ensures.sees c.return_value.ensures c.hold.ensures.counts c.drop_frame-2.ensures)
+    (return_writes _ c.if-h-eq0.false c.operand-v.ensures.sees c.return_value.ensures c.hold.ensures.counts c.drop_frame-2.ensures)

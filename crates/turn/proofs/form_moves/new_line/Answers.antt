@@ -16,7 +16,7 @@ pub returns-then-not-passes-2 : goal.returns-then-not-passes-2
 returns-then-not-passes-2 c =
     new_halts _
     (new_of_values _ c.items_check-first.ensures (sym c.passes.ensures ∙ not-false _ c.if-not-passes.false-raw)
-    c.item_value-va.ensures.sees c.item_value-vb.ensures.sees c.item_value-va.ensures.sees c.item_value-vd.ensures.sees c.hold_check-check.ensures)
+    c.item_value-va.ensures.sees c.item_value-vb.ensures.sees c.item_value-vc.ensures.sees c.item_value-vd.ensures.sees c.hold_check-check.ensures)
     (sym c.passes-2.ensures ∙ not-true _ c.if-not-passes-2.true-raw)
 
 pub overflow_cast-h : goal.overflow_cast-h
@@ -27,90 +27,45 @@ add_object-requires c =
     (c.requires.0, omega arith, c.item_value-va.ensures.in_table, c.item_value-vb.ensures.in_table, c.item_value-vc.ensures.in_table, c.item_value-vd.ensures.in_table)
 
 pub give_value-requires : goal.give_value-requires
-give_value-requires c =
-    (
-      omega (
-        arith,
-        c.add_object.auto.0,
-        c.requires.0,
-      ),
-      c.requires.1,
-      omega arith,
-    )
+give_value-requires c = (
+  omega arith,
+  c.requires.1,
+  omega arith,
+)
 
 pub hold-requires : goal.hold-requires
-hold-requires c =
-    (
-      omega (
-        arith,
-        c.give_value.auto.0,
-        c.add_object.auto.0,
-        c.requires.0,
-      ),
-      omega arith,
-    )
+hold-requires c = (
+  omega arith,
+  omega arith,
+)
 
 pub leave_item-requires : goal.leave_item-requires
-leave_item-requires c =
-    (
-      omega (
-        arith,
-        c.hold.auto.0,
-        c.give_value.auto.0,
-        c.add_object.auto.0,
-        c.requires.0,
-      ),
-      c.requires.1,
-      c.item_value-va.ensures.in_table,
-    )
+leave_item-requires c = (
+  omega arith,
+  c.requires.1,
+  c.item_value-va.ensures.in_table,
+)
 
 pub leave_item-requires-2 : goal.leave_item-requires-2
-leave_item-requires-2 c =
-    (
-      omega (
-        arith,
-        c.leave_item.auto.0,
-        c.hold.auto.0,
-        c.give_value.auto.0,
-        c.add_object.auto.0,
-        c.requires.0,
-      ),
-      c.requires.1,
-      c.item_value-vb.ensures.in_table,
-    )
+leave_item-requires-2 c = (
+  omega arith,
+  c.requires.1,
+  c.item_value-vb.ensures.in_table,
+)
 
 pub leave_item-requires-3 : goal.leave_item-requires-3
-leave_item-requires-3 c =
-    (
-      omega (
-        arith,
-        c.leave_item-2.auto.0,
-        c.leave_item.auto.0,
-        c.hold.auto.0,
-        c.give_value.auto.0,
-        c.add_object.auto.0,
-        c.requires.0,
-      ),
-      c.requires.1,
-      c.item_value-vc.ensures.in_table,
-    )
+leave_item-requires-3 c = (
+  omega arith,
+  c.requires.1,
+  c.item_value-vc.ensures.in_table,
+)
 
 pub leave_item-requires-4 : goal.leave_item-requires-4
-leave_item-requires-4 c =
-    (
-      omega (
-        arith,
-        c.leave_item-3.auto.0,
-        c.leave_item-2.auto.0,
-        c.leave_item.auto.0,
-        c.hold.auto.0,
-        c.give_value.auto.0,
-        c.add_object.auto.0,
-        c.requires.0,
-      ),
-      c.requires.1,
-      c.item_value-vd.ensures.in_table,
-    )
+leave_item-requires-4 c = (
+  omega arith,
+  c.requires.1,
+  c.item_value-vd.ensures.in_table,
+)
 
 pub returns : goal.returns
 returns c =
@@ -124,4 +79,4 @@ returns c =
     (then_left c.leave_item-3.ensures (then_left c.leave_item-4.ensures none_left))))
     (new_of_values _ c.items_check-first.ensures (sym c.passes.ensures ∙ not-false _ c.if-not-passes.false-raw)
     seen-a seen_b seen-c seen-d c.hold_check-check.ensures)
-    (sym c.passes-2.ensures ∙ not-false _ c.if-not-passes.false-raw)
+    (sym c.passes-2.ensures ∙ not-false _ c.if-not-passes-2.false-raw)

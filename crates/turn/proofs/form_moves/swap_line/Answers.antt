@@ -29,11 +29,11 @@ field-old-requires c =
 
 pub store_field-requires : goal.store_field-requires
 store_field-requires c =
-    (omega (arith, c.give_value.auto.0, c.requires.0), object_in_table _ _ c.in-Obj.is c.seen-x.ensures.in_table, search rules, c.operand-v.ensures.in_table)
+    (omega arith, object_in_table _ _ c.in-Obj.is c.seen-x.ensures.in_table, search rules, c.operand-v.ensures.in_table)
 
 pub leave-requires : goal.leave-requires
 leave-requires c =
-    (omega (arith, c.store_field.auto.0, c.give_value.auto.0, c.requires.0), c.requires.1, c.operand-v.ensures.in_table)
+    (omega arith, c.requires.1, c.operand-v.ensures.in_table)
 
 pub returns-in-Absent : goal.returns-in-Absent
 returns-in-Absent c =
@@ -47,19 +47,19 @@ pub returns-in-Absent-old : goal.returns-in-Absent-old
 returns-in-Absent-old c =
     line_moves {k = c.swap_into-k.result} (swap_answers _ _ _ (swap_of_object _ _ _ c.operand_check-first.ensures (sym c.passes.ensures ∙ not-false _ c.if-not-passes.false-raw)
     c.seen-x.ensures.sees c.in-Obj.is refl c.operand-v.ensures.sees c.swap_into-k.ensures))
-    (sym c.passes.ensures ∙ not-false _ c.if-not-passes.false-raw)
+    (sym c.passes-in-Obj.ensures ∙ not-false _ c.if-not-passes-2.false-raw)
     (swap_of_none _ c.field-old.ensures.sees _ c.args.w c.seen-x.ensures.sees c.in-Obj.is c.in-Absent-old.is)
 
 pub returns-in-Chan-old : goal.returns-in-Chan-old
 returns-in-Chan-old c =
     line_moves {k = c.swap_into-k.result} (swap_answers _ _ _ (swap_of_object _ _ _ c.operand_check-first.ensures (sym c.passes.ensures ∙ not-false _ c.if-not-passes.false-raw)
     c.seen-x.ensures.sees c.in-Obj.is refl c.operand-v.ensures.sees c.swap_into-k.ensures))
-    (sym c.passes.ensures ∙ not-false _ c.if-not-passes.false-raw)
+    (sym c.passes-in-Obj.ensures ∙ not-false _ c.if-not-passes-2.false-raw)
     (swap_of_other _ c.field-old.ensures.sees _ c.args.w c.seen-x.ensures.sees c.in-Obj.is c.in-Chan-old.is)
 
 pub returns-in-Obj-old : goal.returns-in-Obj-old
 returns-in-Obj-old c =
     line_moves {k = c.swap_into-k.result} (swap_answers _ _ _ (swap_of_object _ _ _ c.operand_check-first.ensures (sym c.passes.ensures ∙ not-false _ c.if-not-passes.false-raw)
     c.seen-x.ensures.sees c.in-Obj.is refl c.operand-v.ensures.sees c.swap_into-k.ensures))
-    (sym c.passes.ensures ∙ not-false _ c.if-not-passes.false-raw)
+    (sym c.passes-in-Obj.ensures ∙ not-false _ c.if-not-passes-2.false-raw)
     (swap_writes _ c.field-old.ensures.sees c.give_value.ensures _ c.operand-v.ensures.sees c.store_field.ensures.becomes c.leave.ensures _ c.seen-x.ensures.sees c.in-Obj.is)

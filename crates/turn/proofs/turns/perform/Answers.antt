@@ -1,8 +1,9 @@
 -- `turn::turns::perform` meets its contract: the words at the thread's place tell its line, which is the one that is called; no line of a block has
 -- another form.
 use native.Mathlib.Omega.{arith}
-use mathlib.Core.Path.{sym, ◌∙◌}
-use Rattle.rules.proofs.FormNumbers.{number_told}
+use mathlib.Core.Path.{sym, ◌∙◌, ap}
+use mathlib.Core.Logic.{inl, inr}
+use Rattle.rules.proofs.FormNumbers.{place, number_told}
 use Rattle.turn.proofs.Dispatch.{tells_give, tells_value, tells_field, tells_swap, tells_call, tells_cast, tells_spawn, tells_send, tells_recv, performs_loaded, performs_here, performs_new, no_such_line}
 use Rattle.std.proofs.Common.{rules}
 use Rattle.turn.proofs.turns.perform.Goals as goal
@@ -33,7 +34,7 @@ pub returns-in-Swap : goal.returns-in-Swap
 returns-in-Swap c =
     performs_here
     (tells_swap c.part.ensures c.part-in-Swap.ensures c.part-in-Swap-2.ensures c.part-in-Swap-3.ensures (number_told c.form_of-form.ensures c.in-Swap.is (omega arith)))
-    §c.before.before.Swap-Line.ensures
+    c.swap_line.ensures
 
 pub returns-in-Call : goal.returns-in-Call
 returns-in-Call c =
@@ -76,4 +77,5 @@ pub returns-in-Copy : goal.returns-in-Copy
 returns-in-Copy c = c.perform_copy.ensures
 
 pub returns-in-NoForm : goal.returns-in-NoForm
-returns-in-NoForm c = no_such_line c.part.ensures c.form_of-form.ensures c.in-NoForm.is
+returns-in-NoForm c = no_such_line c.part.ensures c.form_of-form.ensures
+    (elim c.in-NoForm.is [ inl a ↦ inl (ap place a) | inr b ↦ inr (elim b [ inl a ↦ inl (ap place a) | inr d ↦ inr (elim d [ inl a ↦ inl (ap place a) | inr e ↦ inr (ap place e) ]) ]) ])

@@ -1,8 +1,9 @@
 -- `turn::turns::would_wait` meets its contract: a thread without a frame waits; of the lines only a send and a recv can.
 use native.Mathlib.Omega.{arith}
-use mathlib.Core.List.{[], ◌∷◌}
+use mathlib.Core.Path.{◌≡◌, ap, ◌∙◌}
 use Rattle.rules.specs.declared.forms.Form.TheVariants.{Send, Recv}
-use Rattle.rules.proofs.FormNumbers.{number_told, all_but, not_told}
+use Rattle.rules.specs.Forms.{form_of}
+use Rattle.rules.proofs.FormNumbers.{number_told}
 use Rattle.turn.proofs.Dispatch.{tells_send, tells_recv}
 use Rattle.turn.proofs.Located.{past_idles, frameless_idles, locates}
 use Rattle.turn.proofs.Waiting.{idle_waits, line_would_wait, others_would_not}
@@ -26,6 +27,6 @@ returns-in-Recv c =
 
 pub returns-in-NoForm : goal.returns-in-NoForm
 returns-in-NoForm c =
-    let ks = all_but (Send ∷ Recv ∷ []) in
     others_would_not (locates c.frame_count-d.ensures.sees c.if-d-eq0.false c.locate-h.ensures.placed.1 c.locate-h.ensures.stands) c.part.ensures
-    (not_told ks c.form_of-form.ensures c.in-NoForm.is tt) (not_told ks c.form_of-form.ensures c.in-NoForm.is tt)
+    (λ e. let told : c.form_of-form.result ≡ Send = c.form_of-form.ensures ∙ ap form_of e in grind arith)
+    (λ e. let told : c.form_of-form.result ≡ Recv = c.form_of-form.ensures ∙ ap form_of e in grind arith)

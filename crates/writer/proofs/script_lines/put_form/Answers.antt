@@ -1,7 +1,7 @@
 -- `writer::script_lines::put_form` meets its contract: each form has its own text, and no form has another number.
 use native.Mathlib.Omega.{arith}
 use mathlib.Core.Path.{sym, ◌∙◌}
-use Rattle.rules.proofs.FormNumbers.{at_place, number_told}
+use Rattle.rules.proofs.FormNumbers.{number_told}
 use Rattle.buffer.proofs.Appends.{nothing, same_text}
 use Rattle.writer.proofs.Texts.{kind_text, thread_text, method_text, give_text, value_text_lem, field_text, swap_text, call_text, new_text, cast_text, spawn_text, send_text, recv_text, copy_text, no_text}
 use Rattle.std.proofs.Common.{rules}
@@ -80,4 +80,4 @@ returns-in-Copy c =
 pub returns-in-NoForm : goal.returns-in-NoForm
 returns-in-NoForm c =
     let x = c.args in
-    same_text 77 (no_text x.form x.a x.b x.c x.d x.e x.f (sym c.form_of-named.ensures ∙ at_place c.in-NoForm.is)) (omega arith) (nothing 0 (search rules))
+    same_text 77 (no_text x.form x.a x.b x.c x.d x.e x.f (sym c.form_of-named.ensures ∙ c.in-NoForm.is)) (omega arith) (nothing 0 (search rules))

@@ -1,8 +1,6 @@
 -- `writer::script_lines::put_lines` meets its contract: before turn n the first n lines are written; where they are too long, no text that is short enough was begun.
-use Prim.Native.Nat.{◌-◌, ◌≤◌}
-use mathlib.Core.Path.{◌≡◌, refl}
-use lib.ListN.{length}
-use Rattle.writer.proofs.Rows.{SoFar, none_yet, one_line_more, all_written, too_long}
+use mathlib.Core.Path.{refl}
+use Rattle.writer.proofs.Rows.{none_yet, one_line_more, all_written, too_long}
 use Rattle.std.proofs.Common.{rules}
 use Rattle.writer.proofs.script_lines.put_lines.Goals as goal
 
