@@ -237,7 +237,7 @@ def checks():
 
 
 def main():
-    results = list(checks()) if os.path.isfile(BOXRUN) else [(BOXRUN, 'is not there; rt check boxrun makes it')]
+    results = list(checks()) if os.path.isfile(BOXRUN) else [(BOXRUN, 'is not there; make makes it')]
     faults = ['%s: %s' % (where, fault) for where, fault in results if fault]
     print('\n'.join(faults + ['%d passed, %d failed' % (len(results) - len(faults), len(faults))]))
     return 1 if faults else 0
