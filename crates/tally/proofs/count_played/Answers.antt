@@ -1,9 +1,7 @@
 -- Before turn i the counts are those of the turns before it, and the rules' own tally goes on from them.
-use Prim.Native.Nat.{◌-◌}
 use native.Mathlib.Omega.{arith}
 use mathlib.Core.Path.{refl, sym, ◌∙◌}
-use lib.ListN.{length}
-use Rattle.tally.proofs.CountLaws.{none_wide, low_most, Counting, none_counted_lem, counts_one, counts_stop, all_counted}
+use Rattle.tally.proofs.CountLaws.{none_wide, low_most, none_counted_lem, counts_one, counts_stop, all_counted}
 use Rattle.tally.proofs.count_played.Goals as goal
 
 pub loop-i-init : goal.loop-i-init
@@ -11,7 +9,7 @@ loop-i-init c =
     let a = c.args in none_counted_lem a.p.now a.s.now a.turns.now a.counts.now c.requires.3
 
 pub overflow_cast-t : goal.overflow_cast-t
-overflow_cast-t c = let byte = (c.shared_slice_known-in-loop-i-1.given c.loop-i.i).fits in omega (arith, byte)
+overflow_cast-t c = omega (arith, c.type_inv.turns c.loop-i.i)
 
 pub take_turn-fate-requires : goal.take_turn-fate-requires
 take_turn-fate-requires c =
@@ -23,7 +21,7 @@ count-requires c =
 
 pub shape_of-counts-then-is_stop : goal.shape_of-counts-then-is_stop
 shape_of-counts-then-is_stop c =
-    omega (arith, c.count.auto.0, c.loop-i.invariant.wide, none_wide c.args.counts.now c.requires.3)
+    omega (arith, c.count.auto.counts, c.loop-i.invariant.wide, none_wide c.args.counts.now c.requires.3)
 
 pub returns-then-is_stop : goal.returns-then-is_stop
 returns-then-is_stop c =
@@ -31,7 +29,7 @@ returns-then-is_stop c =
 
 pub loop-i-preserved : goal.loop-i-preserved
 loop-i-preserved c =
-    rw c.count.ensures (counts_one c.loop-i.invariant c.loop-i-test.true c.requires.2 refl c.take_turn-fate.ensures c.take_turn-fate.auto.1.0 (sym c.is_stop.ensures ∙ c.if-is_stop.false))
+    rw c.count.ensures (counts_one c.loop-i.invariant c.loop-i-test.true c.requires.2 refl c.take_turn-fate.ensures c.take_turn-fate.auto.s (sym c.is_stop.ensures ∙ c.if-is_stop.false))
 
 pub shape_of-counts : goal.shape_of-counts
 shape_of-counts c =

@@ -20,4 +20,4 @@ returns-in-Waits c =
 
 pub returns-in_default : goal.returns-in_default
 returns-in_default c =
-    halts_one c.frame_count.ensures.sees c.if-frame_count-eq0.false c.turn-step.ensures (other_steps_stop c.turn-step.result c.in_default.is)
+    halts_one c.frame_count.ensures.sees c.if-frame_count-eq0.false c.turn-step.ensures (other_steps_stop c.turn-step.result c.in_default.not-Next c.in_default.not-Stay c.in_default.not-Turned c.in_default.not-Waits)

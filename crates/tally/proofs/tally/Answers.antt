@@ -8,7 +8,7 @@ use Rattle.tally.proofs.tally.Goals as goal
 pub count_played-played-requires : goal.count_played-played-requires
 unfolding none_counted
 count_played-played-requires c =
-    (c.requires.0, omega (arith, c.requires.1, c.start_state.auto.0), c.requires.2, refl)
+    (c.requires.0, omega (arith, c.requires.1, c.start_state.auto.s), c.requires.2, refl)
 
 pub returns : goal.returns
 returns c =
