@@ -1,11 +1,11 @@
 -- `races::judging::judge_turns` meets its contract: before each turn the marks are those of the turns so far, of which none raced.
-use Prim.Native.Nat.{◌+◌, ◌-◌}
+use Prim.Native.Nat.{◌+◌}
 use mathlib.Core.Path.{◌∙◌, subst}
 use native.Mathlib.Omega.{arith}
-use lib.ListN.{length, get_or}
+use lib.ListN.{get_or}
 use Rattle.races.specs.Marks.{marks}
 use Rattle.races.specs.Judged.{Plays}
-use Rattle.races.proofs.TurnsJudged.{Judging, judging_starts, judging_stops, judging_finds, judging_goes_on, judging_ends}
+use Rattle.races.proofs.TurnsJudged.{judging_starts, judging_stops, judging_finds, judging_goes_on, judging_ends}
 use Rattle.races.proofs.judging.judge_turns.Goals as goal
 
 pub loop-k-init : goal.loop-k-init
