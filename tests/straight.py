@@ -55,6 +55,7 @@ PASSED = [
     '    ensures { result ≡ slice_index_or s.now (at + 1) [] }',
     '    requires short { length s.now ≡ 0 → (xs : List ℕ) → IfOk {E = ℕ} result (λ x. x ≡ [first]) }\n    ensures { true }',
     '#![tactic(auto)]\n\n#[derive(Clone, Copy)]\npub struct Line {',
+    '#![tactic(auto, unfolding(crate::specs::Words::plain, rules::specs::Lists::all))]',
 ]
 
 
@@ -86,7 +87,7 @@ def without_clauses(source):
 
 def code(source):
     """The source without its remarks, attributes and contracts."""
-    return without_clauses(re.sub(r'//[^\n]*|^ghost use [^\n]*|#!?\[\w+\([\w, ]*\)\]', '', source, flags=re.M))
+    return without_clauses(re.sub(r'//[^\n]*|^ghost use [^\n]*|#!?\[\w+\((?:[\w:, ]|\([\w:, ]*\))*\)\]', '', source, flags=re.M))
 
 
 def quoted(text):

@@ -711,7 +711,7 @@ fn what_is_printed() {
     assert_eq!(printed(&"(".repeat(65_537)), "(refused 1 0)\n");
 }
 
-/// Each command that the page shows has below it what is printed of its example.
+/// Each example that the page names has below it what is printed of it.
 #[test]
 fn the_page_shows_races() {
     let page = include_str!("../../../docs/RACES.md");

@@ -20,17 +20,17 @@ put_if-n-requires c =
       arith,
       c.loop-i.invariant.2.few,
       c.loop-i.invariant.1,
-      c.clear.auto.0,
+      c.clear.auto.list,
       c.requires.1,
       c.loop-i-test.true,
     )
 
 pub loop-i-preserved : goal.loop-i-preserved
 loop-i-preserved c =
-    (omega arith, c.put_if-n.auto.0 ∙ c.loop-i.invariant.1, number_next c.loop-i.invariant.2 c.loop-i-test.true _ refl c.put_if-n.ensures.0 c.put_if-n.ensures.1)
+    (omega arith, c.put_if-n.auto.list ∙ c.loop-i.invariant.1, number_next c.loop-i.invariant.2 c.loop-i-test.true _ refl c.put_if-n.ensures.0 c.put_if-n.ensures.1)
 
 pub shape_of-list : goal.shape_of-list
-shape_of-list c = c.loop-i.invariant.1 ∙ c.clear.auto.0
+shape_of-list c = c.loop-i.invariant.1 ∙ c.clear.auto.list
 
 pub returns : goal.returns
 returns c = let all = all_listed c.args.list.now c.clear.ensures c.loop-i-test.false c.loop-i.invariant.0 c.loop-i.invariant.2 in record { value = all.0; list_after = all.1 }

@@ -31,8 +31,8 @@ loop-i-preserved c =
     let a = c.args in
     (
       omega arith,
-      c.walk-met.auto.1.0 ∙ c.loop-i.invariant.1,
-      c.walk-met.auto.1.1.0 ∙ c.loop-i.invariant.2,
+      c.walk-met.auto.places ∙ c.loop-i.invariant.1,
+      c.walk-met.auto.order ∙ c.loop-i.invariant.2,
       row_next (λ S. (frame_at S a.t a.k).slots) c.loop-i.i (slot_seen a.t a.k c.loop-i.i c.frame_slot.ensures.sees) c.loop-i.invariant.3 c.walk-met.ensures.walks,
       grows_then c.loop-i.invariant.4 c.walk-met.ensures.grows,
     )

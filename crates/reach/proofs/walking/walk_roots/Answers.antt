@@ -8,8 +8,8 @@ pub walk-requires : goal.walk-requires
 walk-requires c =
     (
       c.requires.1,
-      omega (arith, c.walk_thread-n.auto.1.0, c.requires.2),
-      omega (arith, c.walk_thread-n.auto.1.1.0, c.requires.3),
+      omega (arith, c.walk_thread-n.auto.places, c.requires.2),
+      omega (arith, c.walk_thread-n.auto.order, c.requires.3),
       c.in_flight.ensures.in_table,
       omega (arith, c.walk_thread-n.ensures.grows.room, few_unmet 256 c.args.places.now),
     )

@@ -30,8 +30,8 @@ pub loop-k-preserved : goal.loop-k-preserved
 loop-k-preserved c =
     (
       omega arith,
-      c.walk_frame-met.auto.1.0 ∙ c.loop-k.invariant.1,
-      c.walk_frame-met.auto.1.1.0 ∙ c.loop-k.invariant.2,
+      c.walk_frame-met.auto.places ∙ c.loop-k.invariant.1,
+      c.walk_frame-met.auto.order ∙ c.loop-k.invariant.2,
       frame_next c.args.t c.frame_count-n.ensures.sees c.loop-k.k c.loop-k-test.true c.loop-k.invariant.3 c.walk_frame-met.ensures.walks,
       grows_then c.loop-k.invariant.4 c.walk_frame-met.ensures.grows,
     )
