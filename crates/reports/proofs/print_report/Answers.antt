@@ -11,7 +11,9 @@ use Rattle.reports.proofs.print_report.Goals as goal
 pub returns-in-Refused : goal.returns-in-Refused
 returns-in-Refused c =
     let a = c.args in
-    let told = the_report a.text.now a.turns.now c.reach-report.ensures (search rules) (search rules) (search rules) in let all = rw (refusal_printed a.text.now a.turns.now a.thread told c.in-Refused.is) c.print_refusal.ensures in record { value = all.0; output_after = all.1 }
+    let told = the_report a.text.now a.turns.now c.reach-report.ensures (search rules) (search rules) (search rules) in
+    rw (refusal_printed a.text.now a.turns.now a.thread told c.in-Refused.is)
+    (record { value = c.print_refusal.ensures.value; output_after = c.print_refusal.ensures.output_after })
 
 pub returns-in-Reached : goal.returns-in-Reached
 returns-in-Reached c =

@@ -1,11 +1,7 @@
 -- `reports::put_numbers` meets its contract: before turn i the first i numbers are written.
-use Prim.Native.Nat.{◌-◌, ◌*◌, ◌≤◌}
 use native.Mathlib.Omega.{arith}
 use mathlib.Core.Path.{◌≡◌, refl}
-use lib.ListN.{length, take}
-use Rattle.buffer.specs.Writing.{Wrote}
 use Rattle.buffer.proofs.Appends.{same_text}
-use Rattle.reports.specs.ReachedLines.{numbers_text}
 use Rattle.reports.proofs.ReachedTexts.{no_number_yet, number_next}
 use Rattle.std.proofs.Common.{rules}
 use Rattle.reports.proofs.put_numbers.Goals as goal

@@ -17,12 +17,16 @@ print_graph_cut-requires c =
     (fit.0, fit.1, search rules)
 
 pub returns-in-Away : goal.returns-in-Away
-returns-in-Away c = let all = rw (drawn_told c.split-parts.ensures (search rules) _ c.in-Away.is)
-    (long_in Most.drawing _ c.args.output.now (omega arith) c.if-output-lt65536.false c.print_refusal.ensures) in record { value = all.0; output_after = all.1 }
+returns-in-Away c =
+    let both = long_in Most.drawing _ c.args.output.now (omega arith) c.if-output-lt65536.false (c.print_refusal.ensures.value, c.print_refusal.ensures.output_after) in
+    rw (drawn_told c.split-parts.ensures (search rules) _ c.in-Away.is) (record { value = both.0; output_after = both.1 })
 
 pub returns-in-Fault : goal.returns-in-Fault
-returns-in-Fault c = let all = rw (drawn_told c.split-parts.ensures (search rules) _ c.in-Fault.is)
-    (long_in Most.drawing _ c.args.output.now (omega arith) c.if-output-lt65536.false c.print_refusal-in-Fault.ensures) in record { value = all.0; output_after = all.1 }
+returns-in-Fault c =
+    let both = long_in Most.drawing _ c.args.output.now (omega arith) c.if-output-lt65536.false (c.print_refusal-in-Fault.ensures.value, c.print_refusal-in-Fault.ensures.output_after) in
+    rw (drawn_told c.split-parts.ensures (search rules) _ c.in-Fault.is) (record { value = both.0; output_after = both.1 })
 
 pub returns-in-Turns : goal.returns-in-Turns
-returns-in-Turns c = let all = rw (drawn_told c.split-parts.ensures (search rules) _ c.in-Turns.is) c.print_graph_cut.ensures in record { value = all.0; output_after = all.1 }
+returns-in-Turns c =
+    rw (drawn_told c.split-parts.ensures (search rules) _ c.in-Turns.is)
+    (record { value = c.print_graph_cut.ensures.value; output_after = c.print_graph_cut.ensures.output_after })

@@ -15,10 +15,16 @@ print_verdict_cut-requires c =
     (fit.0, fit.1, search rules)
 
 pub returns-in-Away : goal.returns-in-Away
-returns-in-Away c = let all = rw (race_told c.split-parts.ensures (search rules) _ c.in-Away.is) c.print_refusal.ensures in record { value = all.0; output_after = all.1 }
+returns-in-Away c =
+    rw (race_told c.split-parts.ensures (search rules) _ c.in-Away.is)
+    (record { value = c.print_refusal.ensures.value; output_after = c.print_refusal.ensures.output_after })
 
 pub returns-in-Fault : goal.returns-in-Fault
-returns-in-Fault c = let all = rw (race_told c.split-parts.ensures (search rules) _ c.in-Fault.is) c.print_refusal-in-Fault.ensures in record { value = all.0; output_after = all.1 }
+returns-in-Fault c =
+    rw (race_told c.split-parts.ensures (search rules) _ c.in-Fault.is)
+    (record { value = c.print_refusal-in-Fault.ensures.value; output_after = c.print_refusal-in-Fault.ensures.output_after })
 
 pub returns-in-Turns : goal.returns-in-Turns
-returns-in-Turns c = let all = rw (race_told c.split-parts.ensures (search rules) _ c.in-Turns.is) c.print_verdict_cut.ensures in record { value = all.0; output_after = all.1 }
+returns-in-Turns c =
+    rw (race_told c.split-parts.ensures (search rules) _ c.in-Turns.is)
+    (record { value = c.print_verdict_cut.ensures.value; output_after = c.print_verdict_cut.ensures.output_after })

@@ -10,7 +10,9 @@ use Rattle.reports.proofs.raced.print_verdict.Goals as goal
 
 pub returns-in-Refused : goal.returns-in-Refused
 returns-in-Refused c =
-    let a = c.args in let all = rw (verdict_printed a.text.now a.turns.now c.find_race-found.ensures (search rules) (search rules) c.in-Refused.is) c.print_refusal.ensures in record { value = all.0; output_after = all.1 }
+    let a = c.args in
+    rw (verdict_printed a.text.now a.turns.now c.find_race-found.ensures (search rules) (search rules) c.in-Refused.is)
+    (record { value = c.print_refusal.ensures.value; output_after = c.print_refusal.ensures.output_after })
 
 pub returns-in-Absent : goal.returns-in-Absent
 returns-in-Absent c =
