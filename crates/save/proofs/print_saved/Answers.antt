@@ -15,13 +15,18 @@ save_script-requires c =
 pub returns-in-Away : goal.returns-in-Away
 returns-in-Away c =
     let start = c.args in
-    let line = saved_away c.split-parts.ensures (search rules) c.in-Away.is in let all = rw line (saved_line _ start.output.now c.if-output-lt65536.false c.print_refusal.ensures) in record { value = all.0; output_after = all.1 }
+    let line = saved_away c.split-parts.ensures (search rules) c.in-Away.is in
+    let all = saved_line _ start.output.now c.if-output-lt65536.false (c.print_refusal.ensures.value, c.print_refusal.ensures.output_after) in
+    rw line (record { value = all.0; output_after = all.1 })
 
 pub returns-in-Fault : goal.returns-in-Fault
 returns-in-Fault c =
     let start = c.args in
-    let line = saved_fault c.split-parts.ensures (search rules) c.in-Fault.is in let all = rw line (saved_line _ start.output.now c.if-output-lt65536.false c.print_refusal-in-Fault.ensures) in record { value = all.0; output_after = all.1 }
+    let line = saved_fault c.split-parts.ensures (search rules) c.in-Fault.is in
+    let all = saved_line _ start.output.now c.if-output-lt65536.false (c.print_refusal-in-Fault.ensures.value, c.print_refusal-in-Fault.ensures.output_after) in
+    rw line (record { value = all.0; output_after = all.1 })
 
 pub returns-in-Turns : goal.returns-in-Turns
 returns-in-Turns c =
-    let script = saved_turns c.split-parts.ensures (search rules) c.in-Turns.is (search rules) in let all = rw script c.save_script.ensures in record { value = all.0; output_after = all.1 }
+    let script = saved_turns c.split-parts.ensures (search rules) c.in-Turns.is (search rules) in
+    rw script (record { value = c.save_script.ensures.value; output_after = c.save_script.ensures.output_after })
