@@ -24,7 +24,8 @@ returns-in-Refused c =
 pub returns-in-Refused-written : goal.returns-in-Refused-written
 returns-in-Refused-written c =
     let is = sym c.in-Read.is ∙ c.read-answer.ensures.value in
-    let written = script_written (take c.args.at c.args.input.now) _ (search rules) (drop c.args.at c.args.input.now) is c.read-answer.ensures.table_after c.requires.2 c.write-written.ensures in absurd (never_refused (take c.args.at c.args.input.now) (drop c.args.at c.args.input.now) c.args.output.now written c.in-Refused-written.is)
+    let written = script_written (take c.args.at c.args.input.now) _ (search rules) (drop c.args.at c.args.input.now) is c.read-answer.ensures.table_after c.requires.2 c.write-written.ensures in
+    absurd (never_refused (take c.args.at c.args.input.now) (drop c.args.at c.args.input.now) c.args.output.now written c.in-Refused-written.is)
 
 pub returns-in-Written : goal.returns-in-Written
 returns-in-Written c =
