@@ -1,9 +1,7 @@
 -- `reach::walking::list_met` meets its contract: before turn i the objects below i that are met stand in the list.
-use Prim.Native.Nat.{◌-◌, ◌≤◌}
 use native.Mathlib.Omega.{arith}
-use mathlib.Core.Path.{◌≡◌, refl, ◌∙◌}
-use lib.ListN.{length}
-use Rattle.reach.proofs.Listed.{Listing, none_listed, number_next, all_listed}
+use mathlib.Core.Path.{refl, ◌∙◌}
+use Rattle.reach.proofs.Listed.{none_listed, number_next, all_listed}
 use Rattle.std.proofs.Common.{rules}
 use Rattle.reach.proofs.walking.list_met.Goals as goal
 
