@@ -1,12 +1,6 @@
 -- `drawing::graph::put_edges` meets its contract: before turn o the lines of the objects below o are written.
-use Prim.Native.Nat.{◌-◌, ◌*◌, ◌≤◌}
 use native.Mathlib.Omega.{arith}
-use mathlib.Core.Path.{◌≡◌}
-use lib.ListN.{length, take}
-use Rattle.rules.specs.Listing.{numbered}
 use Rattle.rules.specs.Drawing.{edge_lines}
-use Rattle.table.specs.StateTable.{Any}
-use Rattle.listing.specs.StateWriting.{Writes}
 use Rattle.listing.proofs.StateRows.{no_object_yet, object_after, all_objects_lem}
 use Rattle.std.proofs.Common.{rules}
 use Rattle.drawing.proofs.graph.put_edges.Goals as goal
@@ -26,12 +20,11 @@ pub loop-o-smaller : goal.loop-o-smaller
 loop-o-smaller c = omega arith
 
 pub loop-o-preserved : goal.loop-o-preserved
-loop-o-preserved c =
-    (
-      omega arith,
-      search rules,
-      object_after edge_lines c.object_count-n.ensures.sees c.loop-o.o c.loop-o-test.true (omega arith) c.loop-o.invariant.2 c.put_fields-m.ensures,
-    )
+loop-o-preserved c = (
+  omega arith,
+  search rules,
+  object_after edge_lines c.object_count-n.ensures.sees c.loop-o.o c.loop-o-test.true (omega arith) c.loop-o.invariant.2 c.put_fields-m.ensures,
+)
 
 pub shape_of-buf : goal.shape_of-buf
 shape_of-buf c = c.loop-o.invariant.1

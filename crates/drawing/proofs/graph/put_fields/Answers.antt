@@ -1,12 +1,5 @@
 -- `drawing::graph::put_fields` meets its contract: before turn j the edges of the first j fields are written.
-use Prim.Native.Nat.{◌-◌, ◌*◌, ◌≤◌, ◌<◌}
 use native.Mathlib.Omega.{arith}
-use mathlib.Core.Path.{◌≡◌}
-use lib.ListN.{length, take}
-use Rattle.rules.specs.State.{object_at}
-use Rattle.rules.specs.Listing.{numbered}
-use Rattle.rules.specs.Drawing.{edge_line}
-use Rattle.listing.specs.StateWriting.{Writes}
 use Rattle.drawing.proofs.GraphLines.{no_edge_yet, edge_after, all_edges}
 use Rattle.std.proofs.Common.{rules}
 use Rattle.drawing.proofs.graph.put_fields.Goals as goal
@@ -24,12 +17,11 @@ put_edge-m-requires c =
     omega (arith, c.loop-j.invariant.2.most)
 
 pub loop-j-preserved : goal.loop-j-preserved
-loop-j-preserved c =
-    (
-      search rules,
-      search rules,
-      edge_after c.args.o c.loop-j.j c.loop-j.invariant.2 c.field.ensures.sees c.put_edge-m.ensures,
-    )
+loop-j-preserved c = (
+  search rules,
+  search rules,
+  edge_after c.args.o c.loop-j.j c.loop-j.invariant.2 c.field.ensures.sees c.put_edge-m.ensures,
+)
 
 pub shape_of-buf : goal.shape_of-buf
 shape_of-buf c = c.loop-j.invariant.1
