@@ -35,15 +35,17 @@ all: $(LIBRARY) $(PROGRAMS:%=target/bin/%) target/bin/$(TOOL)
 $(LIBRARY): target/staticlib/libhost.a
 	cp $< $@
 
-# What the host stands on is proved first, on all cores: rt staticlib would prove one crate after the other.
+# What stands below is proved first, crate after crate; rt leaves as it is what has not changed.
 target/staticlib/libhost.a: $(SOURCES)
-	rt check $$(sed -n 's/^host: \([^#]*\).*/\1/p' crates.txt)
-	rt staticlib host
+	cd crates/host && rt lib
+	mkdir -p $(@D)
+	cp crates/host/out/libhost.a $@
 
-# rt leaves a program as it is where nothing that it is made of has changed.
+# rt builds a program as it runs it: here to no purpose. What it tells comes on standard error.
 $(PROGRAMS:%=target/bin/%) target/bin/$(TOOL): target/bin/%: $(SOURCES)
-	rt check $*
-	touch -c $@
+	cd crates/$* && rt run -- --version </dev/null 2>&1 >/dev/null
+	mkdir -p $(@D)
+	cp crates/$*/out/$* $@
 
 install: all
 	$(INSTALL) -d "$(DESTDIR)$(bindir)" "$(DESTDIR)$(libdir)" "$(DESTDIR)$(pkgconfigdir)" "$(DESTDIR)$(headers)" "$(DESTDIR)$(mandir)/man1"

@@ -51,6 +51,13 @@ def root_of(crate):
     return library if read(library) else 'crates/%s/src/main.rt' % crate
 
 
+def passed_on(library):
+    """The module and the name of each item that a crate's root passes on."""
+    for module, names in re.findall(r'^pub use (\w+)::(\w+|\{[^}]*\});', library, re.M):
+        for name in re.findall(r'\w+', names):
+            yield module, name
+
+
 def stands(cited):
     """What a piece in backticks cites, each with whether it stands; nothing where the piece fits no convention."""
     place, colon, names = cited.partition(': ')
@@ -74,8 +81,8 @@ def stands(cited):
     if re.fullmatch(r'\w+(::\w+){1,2}', cited):
         crate, *module, name = cited.split('::')
         path = 'crates/%s/src/%s.rt' % (crate, module[0]) if module else root_of(crate)
-        passed_on = not module and in_file(path, r'^pub use \w+::%s;')(name)
-        return [(cited, passed_on or in_file(path, ITEM)(name))]
+        passed = not module and name in [other for _, other in passed_on(read(path))]
+        return [(cited, passed or in_file(path, ITEM)(name))]
     if re.fullmatch(r'[\w.-]+(/[\w.-]+)+|[\w-]+\.\w+', cited):
         return [(cited, os.path.exists(os.path.join(ROOT, cited)))]
     return []
@@ -83,11 +90,11 @@ def stands(cited):
 
 def public_functions():
     """Each function that a crate's lib.rt declares pub or passes on."""
-    for crate in re.findall(r'^(\w+):', read('crates.txt'), re.M):
+    for crate in re.findall(r'^(\w+)(?: staticlib)?:', read('crates.txt'), re.M):
         library = read('crates/%s/src/lib.rt' % crate)
         for name in re.findall(r'^pub (?:extern "C" )?fn (\w+)', library, re.M):
             yield '%s::%s' % (crate, name)
-        for module, name in re.findall(r'^pub use (\w+)::(\w+);', library, re.M):
+        for module, name in passed_on(library):
             if in_file('crates/%s/src/%s.rt' % (crate, module), r'^pub fn %s\b')(name):
                 yield '%s::%s' % (crate, name)
 

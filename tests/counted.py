@@ -53,10 +53,15 @@ FOUND = [
     ('turn', 'use table::same_table;\nfn same(s: &[u16]) -> bool {\n    same_table(s, s)\n}'),
     ('turn', 'use table::erase_state as fresh;\nfn count(s: &mut [u16]) {\n    fresh(s);\n}'),
     ('table', 'fn fresh(s: &mut [u16]) {\n    stripped::erase_state(s);\n}'),
+    ('turn', 'use table::{clear_slot, same_table};\nfn same(s: &[u16]) -> bool {\n    same_table(s, s)\n}'),
+    ('turn', 'use table::{\n    clear_slot,\n    erase_state as fresh,\n};\nfn count(s: &mut [u16]) {\n    fresh(s);\n}'),
+    ('turn', 'fn count(s: &[u16])\n    ensures { result ≡ {s} }\n{\n    loop {\n    }\n}'),
 ]
 PASSED = [
     ('turn', '// a while over all objects, or a loop\nfn put(s: &mut [u16]) {\n    table::put(s);\n}'),
-    ('turn', 'fn put(s: &mut [u16])\n    requires { ⌜ for while put (loop) ⌝ }\n    ensures { λ r. ⌜ put r ⌝ }\n{\n    s[0] = 1;\n}'),
+    ('turn', 'fn put(s: &mut [u16])\n    requires { for while put (loop) }\n    ensures { put {s} (result) }\n{\n    s[0] = 1;\n}'),
+    ('turn', 'fn put(s: &mut [u16])\n    requires short { for\n        while put (loop) }\n    ensures sees { put (result) }\n{\n    s[0] = 1;\n}'),
+    ('run', 'use turn::{perform, turn};\nfn run(s: &mut [u16]) {\n    perform(s);\n}'),
     ('turn', 'fn whiles(format: u16) -> u16 {\n    let looped = format;\n    looped\n}'),
     ('turn', 'fn first() -> u16 {\n    second()\n}\nfn second() -> u16 {\n    1\n}'),
     ('turn', 'fn take_slot(s: &mut [u16]) {\n    table::take_slot(s);\n}'),
@@ -73,7 +78,7 @@ def read(path):
         return file.read()
 
 
-BELOW = dict(re.findall(r'^(\w+):([^#\n]*)', read('crates.txt'), re.M))
+BELOW = dict(re.findall(r'^(\w+)(?: staticlib)?:([^#\n]*)', read('crates.txt'), re.M))
 
 
 def stands_on(crate):
@@ -84,15 +89,28 @@ def stands_on(crate):
     return crates
 
 
+def without_clauses(source):
+    """The source without the clauses of its contracts."""
+    left, at = '', 0
+    for clause in re.finditer(r'^[^\S\n]*(?:requires|ensures)\b[^{\n]*\{', source, re.M):
+        if clause.start() >= at:
+            left, at, depth = left + source[at:clause.start()], clause.end(), 1
+            while depth and at < len(source):
+                depth += {'{': 1, '}': -1}.get(source[at], 0)
+                at += 1
+    return left + source[at:]
+
+
 def code(source):
     """The source without its remarks, contracts and texts."""
-    return re.sub(r'//[^\n]*|⌜.*?⌝|^ghost use [^\n]*|b"(?:[^"\\]|\\.)*"', '', source, flags=re.S | re.M)
+    return without_clauses(re.sub(r'//[^\n]*|^ghost use [^\n]*|b"(?:[^"\\]|\\.)*"', '', source, flags=re.S | re.M))
 
 
 def imported(source):
     """The crate and the name behind each name that a source takes from another crate."""
-    used = re.findall(r'^(?:pub )?use (\w+)::(?:\w+::)*(\w+)(?: as (\w+))?;', source, re.M)
-    return {other or name: (crate, name) for crate, name, other in used if crate in BELOW}
+    used = re.findall(r'^(?:pub )?use (\w+)::(?:\w+::)*(\w+(?: as \w+)?|\{[^}]*\});', source, re.M)
+    names = [(crate, name, other) for crate, names in used for name, other in re.findall(r'(\w+)(?: as (\w+))?', names)]
+    return {other or name: (crate, name) for crate, name, other in names if crate in BELOW}
 
 
 def functions(source):

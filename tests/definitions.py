@@ -21,31 +21,31 @@ LEAST_EDGES = 10       # and fewer drawings with an edge
 
 HEAD = '''-- What the definitions print for random inputs, computed.
 use Prim.Native.Nat.{ℕ}
-use mathlib.Core.Path.{_≡_, refl}
+use mathlib.Core.Path.{◌≡◌, refl}
 use mathlib.Core.List.{List}
-use Rattle·rules.specs.Mosts.{mosts}
-use Rattle·rules.specs.Text.{bytes, join}
-use Rattle·rules.specs.Templates.{print}
-use Rattle·rules.specs.Reading.{reading}
-use Rattle·rules.specs.Calls.{longText, longTurns}
-use Rattle·rules.specs.Run.{refused}
-use Rattle·rules.specs.Listing.{answerLine}
-use Rattle·rules.specs.Drawing.{drawing, nodeLine, edgeLine, edgeLines}
-use Rattle·rules.specs.Input.{boxrun, Outcome, turnsAway, ran, outcome, turnsOf, lastLine, linesBefore}
-use Rattle·agreement·proofs.proofs.Computing.{reads-texts, runs-programs, prints-runs}
+use Rattle.rules.specs.Mosts.{mosts}
+use Rattle.rules.specs.Text.{bytes, join}
+use Rattle.rules.specs.Templates.{print}
+use Rattle.rules.specs.Reading.{reading}
+use Rattle.rules.specs.Calls.{long_text, long_turns}
+use Rattle.rules.specs.Run.{refused}
+use Rattle.rules.specs.Listing.{answer_line}
+use Rattle.rules.specs.Drawing.{drawing, node_line, edge_line, edge_lines}
+use Rattle.rules.specs.Input.{boxrun, Outcome, turns_away, ran, outcome, turns_of, last_line, lines_before}
+use Rattle.agreement.proofs.Computing.{reads_texts, runs_programs, prints_runs}
 
-abbrev drawnOf : Outcome → List ℕ
-drawnOf (turnsAway k n) = answerLine (refused k n)
-drawnOf (ran a S) = drawing S
+abbrev drawn_of : Outcome → List ℕ
+drawn_of (turns_away k n) = answer_line (refused k n)
+drawn_of (ran a S) = drawing S
 '''
 CASE = '''
 case-%d : boxrun mosts (bytes "%s") ≡ bytes "%s"
-unfolding boxrun outcome turnsOf lastLine linesBefore join reading longText longTurns reads-texts runs-programs prints-runs
+unfolding boxrun outcome turns_of last_line lines_before join reading long_text long_turns reads_texts runs_programs prints_runs
 case-%d = refl
 '''
 DRAWN = '''
-case-%d : drawnOf (outcome mosts (bytes "%s")) ≡ bytes "%s"
-unfolding outcome turnsOf lastLine linesBefore join reading longText longTurns reads-texts runs-programs prints-runs print drawing nodeLine edgeLine edgeLines
+case-%d : drawn_of (outcome mosts (bytes "%s")) ≡ bytes "%s"
+unfolding outcome turns_of last_line lines_before join reading long_text long_turns reads_texts runs_programs prints_runs print drawing node_line edge_line edge_lines
 case-%d = refl
 '''
 
@@ -86,14 +86,14 @@ def main():
     compared = [(CASE, i, o) for i, o in pairs] + [(DRAWN, i, o) for i, o in drawn]
     cases = [case % (n, quoted(i), quoted(o), n) for n, (case, i, o) in enumerate(compared)]
     with tempfile.TemporaryDirectory() as folder:
-        shutil.copytree(os.path.join(ROOT, 'crates/rules'), os.path.join(folder, 'crates/rules'), ignore=shutil.ignore_patterns('must-fail'))
+        shutil.copytree(os.path.join(ROOT, 'crates/rules'), os.path.join(folder, 'crates/rules'), ignore=shutil.ignore_patterns('must-fail', 'out'))
         write(folder, 'crates.txt', 'rules:\nagreement: rules\n')
         agreement = os.path.join(folder, 'crates/agreement')
-        write(agreement, 'src/lib.rt', '// No code: cases alone.\n')
+        write(agreement, 'src/lib.rt', '// No code: cases alone.\n#![tactic(auto)]\n')
         write(agreement, 'proofs/Lib.antt', 'mod Computing\nmod Agreement\n')
         write(agreement, 'proofs/Agreement.antt', HEAD + ''.join(cases))
         shutil.copy(os.path.join(ROOT, 'crates/theorems/proofs/Computing.antt'), os.path.join(agreement, 'proofs'))
-        check = subprocess.run(['rt', 'check', 'agreement'], cwd=folder, stdout=subprocess.PIPE, stderr=subprocess.STDOUT, text=True)
+        check = subprocess.run(['rt', 'check'], cwd=agreement, stdout=subprocess.PIPE, stderr=subprocess.STDOUT, text=True)
     failed = sorted(set(int(n) for n in re.findall(r'error: `case-(\d+)`', check.stdout)))
     for n in failed:
         print('the definitions %s something else for\n' % ('draw' if compared[n][0] == DRAWN else 'print') + compared[n][1].decode())

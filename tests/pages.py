@@ -3,8 +3,8 @@
 
 In docs/SCRIPTS.md a fenced block `box` is an input of boxrun, and the block `output` after it is, byte for byte, what target/bin/boxrun prints of
 it. A block `output unsafe` after that is what it prints of the same input with every capability changed to unsafe. There is no other fenced
-block, so that nothing looks like an input and is not run; commands for a shell are indented. In README.md an indented `$ boxrun < FILE`,
-`$ box check FILE` or `$ box race FILE` has its output below it, and each `scripts/box ..` is well; so it is in docs/RACES.md. The page's table of who may hold whom is tried pair by pair. The graph
+block, so that nothing looks like an input and is not run; commands for a shell are indented. In README.md an indented `$ boxrun < FILE` or
+`$ box check FILE` has its output below it, and each `scripts/box ..` is well. The page's table of who may hold whom is tried pair by pair. The graph
 of docs/DRAWING.md is what `box draw` prints of the example, and its picture has the same nodes and edges.
 
 Besides: the numbers of that page, and of the index of docs/DECISIONS.md, are those of README.md with the same words; the index names every point,
@@ -25,9 +25,8 @@ sys.path.insert(0, os.path.join(ROOT, 'docs', 'pictures'))
 import draw  # noqa: E402: the module stands beside its pictures
 
 BOXRUN, BOX = os.path.join(ROOT, 'target', 'bin', 'boxrun'), os.path.join(ROOT, 'scripts', 'box')
-SCRIPTS, DECISIONS, DRAWING, RACES, README = 'docs/SCRIPTS.md', 'docs/DECISIONS.md', 'docs/DRAWING.md', 'docs/RACES.md', 'README.md'
+SCRIPTS, DECISIONS, DRAWING, README = 'docs/SCRIPTS.md', 'docs/DECISIONS.md', 'docs/DRAWING.md', 'README.md'
 DRAWN, PICTURE = 'examples/stale-write-back.box', 'docs/pictures/drawing.svg'
-IN_README, IN_RACES = {'boxrun <', 'box check', 'box race'}, {'box race'}
 CAPABILITY = re.compile(r'\((new|cast|copy) (?:imm|iso|local|unsafe)\b')
 
 
@@ -74,14 +73,13 @@ def runs(page):
     yield SCRIPTS, None if page.count('\n```') == 2 * len(list(fenced(page))) else 'a fence that is not closed'
 
 
-def commands(where, page, words):
-    """The commands that a page shows with their output: these and no other, each at least once."""
-    found = list(re.finditer(r'^    \$ (boxrun <|box check|box race) (\S+)\n((?:(?:    (?!\$).*)?\n)+)', page, re.M))
+def commands(page):
+    found = list(re.finditer(r'^    \$ (boxrun <|box check) (\S+)\n((?:(?:    (?!\$).*)?\n)+)', page, re.M))
     for command in found:
-        got = printed(read(command[2])) if command[1] == 'boxrun <' else asked_of(command[1].split()[1], command[2])
+        got = printed(read(command[2])) if command[1] == 'boxrun <' else asked_of('check', command[2])
         shown = re.sub('^    ', '', command[3], flags=re.M).rstrip('\n') + '\n'
-        yield '%s: %s %s' % (where, command[1], command[2]), None if got == shown else 'it prints\n' + got
-    yield where, None if {command[1] for command in found} == words else 'shows other commands than ' + ', '.join(sorted(words))
+        yield '%s: %s %s' % (README, command[1], command[2]), None if got == shown else 'it prints\n' + got
+    yield README, None if len({command[1] for command in found}) == 2 else 'boxrun and box check are not both shown'
 
 
 def asked(page):
@@ -90,7 +88,7 @@ def asked(page):
     for command in found:
         ended = subprocess.run(command.split(), cwd=ROOT, stdout=subprocess.PIPE, timeout=60)
         yield '%s: %s' % (README, command), None if ended.returncode == 0 and ended.stdout else 'exits with %d' % ended.returncode
-    yield README, None if len(found) == 8 else 'not every command of box is shown'
+    yield README, None if len(found) == 7 else 'not every command of box is shown'
 
 
 def drawing(page, picture):
@@ -198,10 +196,7 @@ def tried():
     yield finds('a changed input', runs(page.replace('(turns 0 0)', '(turns 0)', 1)))
     yield finds('an input without its output', runs(page.replace('```output\n(end open 0)\n(thread 0 ready 0 0 absent)\n```\n', '', 1)))
     yield finds('a block of another sort', runs(page + '```sh\nboxrun\n```\n'))
-    yield finds('a wrong byte below a command', commands(README, read(README).replace('(stopped 20 1 1 3 14)', '(stopped 20 1 1 3 15)'), IN_README))
-    yield finds('a command that is not shown', commands(README, read(README).replace('$ box check ', '$ box '), IN_README))
-    yield finds('another race', commands(RACES, read(RACES).replace('    (race 11 15 2 0)', '    (race 11 15 0 2)'), IN_RACES))
-    yield finds('a race where there is none', commands(RACES, read(RACES).replace('    (norace)', '    (race 11 15 2 0)', 1), IN_RACES))
+    yield finds('a wrong byte below a command', commands(read(README).replace('(stopped 20 1 1 3 14)', '(stopped 20 1 1 3 15)')))
     yield finds('a command that is refused', asked(read(README).replace('box reach examples/case-a.box 1', 'box reach examples/case-a.box 2')))
     drawn, picture = read(DRAWING), read(PICTURE)
     yield finds('a wrong byte of a graph', drawing(drawn.replace('      2 -> 1 [label="0"];', '      2 -> 0 [label="0"];'), picture))
@@ -222,8 +217,7 @@ def tried():
 def checks():
     page, decisions = read(SCRIPTS), read(DECISIONS)
     yield from runs(page)
-    yield from commands(README, read(README), IN_README)
-    yield from commands(RACES, read(RACES), IN_RACES)
+    yield from commands(read(README))
     yield from asked(read(README))
     yield from drawing(read(DRAWING), read(PICTURE))
     yield from holders(page)
@@ -237,7 +231,7 @@ def checks():
 
 
 def main():
-    results = list(checks()) if os.path.isfile(BOXRUN) else [(BOXRUN, 'is not there; rt check boxrun makes it')]
+    results = list(checks()) if os.path.isfile(BOXRUN) else [(BOXRUN, 'is not there; make makes it')]
     faults = ['%s: %s' % (where, fault) for where, fault in results if fault]
     print('\n'.join(faults + ['%d passed, %d failed' % (len(results) - len(faults), len(faults))]))
     return 1 if faults else 0

@@ -37,6 +37,8 @@ FOUND = [
     'const WORD: [u8; 4] = *b"isot";',
     'const WORD: [u8; 3] = [0u8; 3];',
     'let word = *b"iso";',
+    'fn front(s: &[u8]) -> Line\n    ensures { result ≡ front {s} }\n{\n    let line = [0u8; 64];',
+    '#[derive(Clone, Copy)]\nstruct Line([u8; 64]);',
 ]
 PASSED = [
     'let a = s[at + 1];',
@@ -50,7 +52,10 @@ PASSED = [
     'let opened = begins_at(s, at, b"(let (");',
     '// a line is no [u8; 64]',
     "if s[i] == b'\\n' {",
-    'ensures { λ r. ⌜ r ≡ getD (now s) (at + 1) [] ⌝ }',
+    '    ensures { result ≡ slice_index_or s.now (at + 1) [] }',
+    '    requires short { length s.now ≡ 0 → (xs : List ℕ) → IfOk {E = ℕ} result (λ x. x ≡ [first]) }\n    ensures { true }',
+    '#![tactic(auto)]\n\n#[derive(Clone, Copy)]\npub struct Line {',
+    '#![tactic(auto, unfolding(crate::specs::Words::plain, rules::specs::Lists::all))]',
 ]
 
 
@@ -61,16 +66,28 @@ def read(path):
 
 def stands_on(crate):
     """A crate and all that it stands on, by crates.txt."""
-    below = dict(re.findall(r'^(\w+):([^#\n]*)', read('crates.txt'), re.M))
+    below = dict(re.findall(r'^(\w+)(?: staticlib)?:([^#\n]*)', read('crates.txt'), re.M))
     crates = [crate]
     for one in crates:
         crates += [dep for dep in below.get(one, '').split() if dep not in crates]
     return crates
 
 
+def without_clauses(source):
+    """The source without the clauses of its contracts."""
+    left, at = '', 0
+    for clause in re.finditer(r'^[^\S\n]*(?:requires|ensures)\b[^{\n]*\{', source, re.M):
+        if clause.start() >= at:
+            left, at, depth = left + source[at:clause.start()], clause.end(), 1
+            while depth and at < len(source):
+                depth += {'{': 1, '}': -1}.get(source[at], 0)
+                at += 1
+    return left + source[at:]
+
+
 def code(source):
-    """The source without its remarks and contracts."""
-    return re.sub(r'//[^\n]*|⌜.*?⌝|^ghost use [^\n]*', '', source, flags=re.S | re.M)
+    """The source without its remarks, attributes and contracts."""
+    return without_clauses(re.sub(r'//[^\n]*|^ghost use [^\n]*|#!?\[\w+\((?:[\w:, ]|\([\w:, ]*\))*\)\]', '', source, flags=re.M))
 
 
 def quoted(text):

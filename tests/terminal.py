@@ -11,7 +11,7 @@ ROOT = os.path.dirname(os.path.dirname(os.path.abspath(__file__)))
 BOXRUN, BOX = os.path.join(ROOT, 'target', 'bin', 'boxrun'), os.path.join(ROOT, 'scripts', 'box')
 ACCEPTED = '(thread)\n(let (spawn 0))\n(give (read 1))\n(turns 0 0 1 1)\n'
 CUT = '(thread)\n(let (spawn 0))\n'
-COMMANDS = [[BOXRUN]] + [[BOX, command] for command in ('check', 'run', 'save', 'strip', 'draw', 'race')] + [[BOX, 'reach', '-', '0']]
+COMMANDS = [[BOXRUN]] + [[BOX, command] for command in ('check', 'run', 'save', 'strip', 'draw')] + [[BOX, 'reach', '-', '0']]
 
 
 def piped(words, text):

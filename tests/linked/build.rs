@@ -1,4 +1,4 @@
-//! Links the static library of the box, from where `rt staticlib` puts it, and writes the calls of include/calls.txt in Rust.
+//! Links the static library of the box, from where `make` puts it, and writes the calls of include/calls.txt in Rust.
 
 use std::env;
 use std::fs;

@@ -1,13 +1,11 @@
 // The input of a command: a file that an argument names, or standard input. A failure is told.
 ghost use Rattle.streams.specs.Counted.{Within};
 
+use super::words::is;
 use std::env::FillError;
-use std::fs;
 use std::io::{Error, Read};
 use std::rt::Env;
-use std::str;
-
-use super::words::is;
+use std::{fs, str};
 use streams::Reading;
 
 // The system's numbers of a name that is too long, and of bytes that are no text.
@@ -18,7 +16,7 @@ const NO_TEXT: i32 = 84;
 // Tells on standard error what failed, and why.
 fn tell(rt: &HostRuntime, what: &[u8], error: Error) {
     let _ = rt.eprint("box: ");
-    streams::tell(&mut rt.stderr(), what, error);
+    let _ = streams::tell(&mut rt.stderr(), what, error);
 }
 
 fn read_from<R: Read>(rt: &HostRuntime, reader: &mut R, name: &[u8], buf: &mut [u8]) -> Reading

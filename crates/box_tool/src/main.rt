@@ -13,14 +13,13 @@ ghost use Rattle.streams.specs.Counted.{IsPrefixLen};
 ghost use Rattle.box_tool.specs.Status.{status_of, status_of_sheet, Unless};
 ghost use Rattle.box_tool.specs.Jobs.{IsText, Finishes};
 
-use std::env::FillError;
-use std::fs::OpenOptions;
-use std::rt::Env;
-
 use commands::{Command, Job, command_of, takes};
 use files::read_input;
 use listing::Printed;
 use sheet::Checked;
+use std::env::FillError;
+use std::fs::OpenOptions;
+use std::rt::Env;
 use streams::Reading;
 use words::{Number, begins, is, number_of};
 
@@ -62,7 +61,7 @@ fn write_out(rt: &HostRuntime, text: &[u8], status: u8) -> u8
 {
     let written = streams::write_all(&mut rt.stdout(), text);
     if let Err(error) = written {
-        streams::tell(&mut rt.stderr(), b"box: standard output", error);
+        let _ = streams::tell(&mut rt.stderr(), b"box: standard output", error);
         return FAULT;
     }
     status

@@ -13,7 +13,7 @@ fn print(rt: &HostRuntime, input: &[u8]) {
         Printed::Written(n) => {
             let written = streams::write_all(&mut rt.stdout(), &output[..n]);
             if let Err(error) = written {
-                streams::tell(&mut rt.stderr(), b"boxrun: standard output", error);
+                let _ = streams::tell(&mut rt.stderr(), b"boxrun: standard output", error);
             }
         }
         Printed::Refused(_, _) => {} // the output is long enough
@@ -28,7 +28,7 @@ fn main(rt: HostRuntime) {
             print(&rt, &input[..n]);
         }
         Reading::Failed(error) => {
-            streams::tell(&mut rt.stderr(), b"boxrun: standard input", error);
+            let _ = streams::tell(&mut rt.stderr(), b"boxrun: standard input", error);
         }
     }
 }

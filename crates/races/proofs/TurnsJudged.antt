@@ -327,6 +327,8 @@ module _ {p ts s₀ s s₁ : List ℕ} {M M₁ : Marks} {k : ℕ} (before : Judg
     where
       go : (P : Program) (rest : List ℕ) → Valid mosts P → So P ts s M k rest → (x : Res State) → turn mosts P (run_before mosts P ts k).state (get_or ts k 0) ≡ x
           → Comes P (run_before mosts P ts k).state (get_or ts k 0) (suc k) M M₁ s₁ rest x J.Halted → T.Absent ≡ race_of (verdict mosts P ts)
+      go P rest valid so (ok S₁) is came = elim came [ ]
+      go P rest valid so wait is came = elim came [ ]
       go P rest valid so (stop n) is to_stop = rw (stop_ends valid there so is) refl
 
   pub judging_finds : {F : Found} → Plays p s (get_or ts k 0) (k + 1) M (J.Goes F) s₁ M₁ → (F.turn ≡ 0 → ⊥)
@@ -342,6 +344,7 @@ module _ {p ts s₀ s s₁ : List ℕ} {M M₁ : Marks} {k : ℕ} (before : Judg
           → T.Found (F.turn - 1) k F.object F.field ≡ race_of (verdict mosts P ts)
       go F P rest valid so wait is (to_wait held same) some = absurd (some refl)
       go F P rest valid so (ok S₁) is (to_move held met notes) some = rw (move_races valid there so is M₁ F met notes (F.turn - 1) (one_less F.turn some)) refl
+      go F P rest valid so (stop n) is came some = elim came [ ]
 
   pub judging_goes_on : {F : Found} → Plays p s (get_or ts k 0) (k + 1) M (J.Goes F) s₁ M₁ → F.turn ≡ 0 → length s₁ ≡ length s → Wide M₁ → Judging p ts s₀ s₁ M₁ (k + 1)
   judging_goes_on {F} plays None-found same wide =
@@ -360,6 +363,7 @@ module _ {p ts s₀ s s₁ : List ℕ} {M M₁ : Marks} {k : ℕ} (before : Judg
       go F P rest valid so wait is (to_wait held same-marks) None-found = wait_so valid there so is held same-marks
       go F P rest valid so (ok S₁) is (to_move held met notes) None-found =
           move_so valid there so is M₁ F met notes (roomy before.wide) None-found held
+      go F P rest valid so (stop n) is came None-found = elim came [ ]
 
 -- all turns are played
 pub judging_ends : {p ts s₀ s : List ℕ} {M : Marks} {k : ℕ} → Judging p ts s₀ s M k → length ts ≤ k → JudgesTurns p ts s₀ T.Absent

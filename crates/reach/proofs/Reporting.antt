@@ -25,7 +25,7 @@ use Rattle.rules.proofs.Accepted.{reading_accepted}
 use Rattle.rules.proofs.Counts.{times_among, times_not_among}
 use Rattle.rules.proofs.Walks.{walked_reached}
 use Rattle.rules.proofs.Reports.{rising_lists, roots_made, reached_range, reach_lists}
-use Rattle.table.specs.StateTable.{Held, Sees, Any}
+use Rattle.table.specs.StateTable.{Sees, Any}
 use Rattle.walk.specs.Walking.{Tally, tally}
 use Rattle.walk.proofs.Numbers.{number_met, no_number_not_met, none_numbered}
 use Rattle.run.specs.declared.Answer.{Answer}

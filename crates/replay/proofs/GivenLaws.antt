@@ -18,7 +18,7 @@ use Rattle.replay.specs.declared.turns_line.Line.TheVariants.{Fault, Turns as Co
 use Rattle.replay.specs.declared.Parts.{Parts}
 use Rattle.replay.specs.declared.Parts.TheVariants as C
 use Rattle.replay.specs.Told.{turns_told, count_of}
-use Rattle.replay.specs.Given.{Given, away, faulty, given, given_by, given_of, given_in, printed_given, told_of, cut_of, turns_in, Splits}
+use Rattle.replay.specs.Given.{Given, away, given_by, given_of, given_in, printed_given, told_of, cut_of, turns_in, Splits}
 
 -- ---- What is printed
 

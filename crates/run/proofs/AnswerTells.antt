@@ -2,9 +2,7 @@
 use Prim.Native.Nat.{ℕ}
 use mathlib.Core.Path.{◌≡◌, refl, sym, ap, ◌∙◌}
 use mathlib.Core.Bool.{true, false}
-use mathlib.Core.List.{List, [], ◌∷◌}
-use types.Run.{OneOf, miss}
-use denote.Enum.Declared.{tag_of}
+use mathlib.Core.List.{List}
 use Rattle.rules.specs.Mosts.{mosts}
 use Rattle.rules.specs.Script.{Program}
 use Rattle.rules.specs.Reading.{Reading, turned_away, accepted}
@@ -17,7 +15,6 @@ use Rattle.run.specs.declared.Answer.{Answer}
 use Rattle.run.specs.declared.Answer.TheVariants.{Refused, Finished, Stuck, Open, Stopped}
 use Rattle.run.specs.RunAnswers.{answer_of, is_refusal}
 use Rattle.run.specs.Made.{Holds, Made}
-use Rattle.run.specs.contracts.Answer.{the_type}
 
 -- a run that was made is never answered with a refusal
 run_no_refusal : (P : Program) (turns : List ℕ) → is_refusal (answer_of (answer mosts P (run mosts P turns))) ≡ false
@@ -75,9 +72,9 @@ refusal_is turns (turned_away i j) {k} {n} e =
 refusal_is turns (accepted P) e = let both = ap is_refusal e ∙ run_no_refusal P turns in impossible cc
 
 -- any answer but the first of its enum
-pub other_answers_made : (r : Answer) → OneOf (1 ∷ 2 ∷ 3 ∷ 4 ∷ []) (tag_of the_type r) → is_refusal r ≡ false
-other_answers_made (Refused k n) one = absurd (miss (1 ∷ 2 ∷ 3 ∷ 4 ∷ []) 0 tt one)
-other_answers_made (Finished m) one = refl
-other_answers_made (Stuck m) one = refl
-other_answers_made (Open m) one = refl
-other_answers_made (Stopped k t b l m) one = refl
+pub other_answers_made : (r : Answer) → ((k n : ℕ) → r ≡ Refused k n → ⊥) → is_refusal r ≡ false
+other_answers_made (Refused k n) other = absurd (other k n refl)
+other_answers_made (Finished m) other = refl
+other_answers_made (Stuck m) other = refl
+other_answers_made (Open m) other = refl
+other_answers_made (Stopped k t b l m) other = refl

@@ -1,5 +1,5 @@
 -- What was read and is written back is the text itself; what was not read is printed as its refusal.
-use Prim.Native.Nat.{ℕ, ◌+◌, ◌-◌, ◌≤◌, ◌<◌}
+use Prim.Native.Nat.{ℕ, ◌-◌, ◌≤◌, ◌<◌}
 use native.Mathlib.Nat.{zero-add}
 use native.Mathlib.Omega.{arith}
 use mathlib.Core.Path.{◌≡◌, refl, sym, ap, ◌∙◌, subst}
@@ -17,7 +17,7 @@ use Rattle.rules.specs.Reading.{Reading, turned_away, accepted, reading}
 use Rattle.rules.specs.Run.{refused}
 use Rattle.rules.specs.Calls.{long_text, long_turns, short_table, read_call, program_after}
 use Rattle.rules.specs.Listing.{answer_line}
-use Rattle.rules.specs.Input.{Turns, fault, turns, turns_of, last_line, lines_before, Outcome, turns_away, ran, ran_on, outcome_by, outcome}
+use Rattle.rules.specs.Input.{Turns, fault, turns, turns_of, last_line, lines_before, Outcome, turns_away, ran_on, outcome_by, outcome}
 use Rattle.rules.specs.Writer as Writer
 use Rattle.rules.specs.Writer.{wrote, short_buffer, WriteCall}
 use Rattle.rules.proofs.ListLaws.{impossible, by_bool}

@@ -2,8 +2,9 @@
 // interrupted is made again.
 #![tactic(auto)]
 
-ghost use Rattle.std.specs.Prelude.{◌-◌, ◌≤◌, length};
+ghost use Rattle.std.specs.Prelude.{◌-◌, ◌≤◌, length, OnOk};
 ghost use Rattle.streams.specs.Counted.{AtMost, Within};
+ghost use Rattle.streams.specs.Told.{Tells};
 
 use std::io::{Cursor, Error, ErrorKind, Read, Write};
 use std::{io, str};
@@ -133,15 +134,19 @@ pub fn write_all<W: Write>(writer: &mut W, text: &[u8]) -> io::Result<()> {
     Ok(())
 }
 
-// Tells on a stream what failed, as the caller names it, and why, by the system's own words. Where the stream fails too, nothing more can be told.
-pub fn tell<W: Write>(to: &mut W, what: &[u8], error: Error) {
+// Tells on a stream what failed, as the caller names it, and why, by the system's own words: a line.
+pub fn tell<W: Write>(to: &mut W, what: &[u8], error: Error) -> io::Result<()>
+    ensures { OnOk result (Tells (W.contents to.old) (W.contents to.new) what.now) }
+{
     let mut text = Cursor::new([0u8; 320]); // longer than all that an error says
     let _ = write!(text, "{error}");
     let text = text.into_inner();
-    let _ = to.write_all(what);
-    let _ = to.write_all(b": ");
-    let _ = to.write_all(reason(&text).as_bytes());
-    let _ = to.write_all(b"\n");
+    let reason = reason(&text);
+    to.write_all(what)?;
+    to.write_all(b": ")?;
+    to.write_all(reason.as_bytes())?;
+    to.write_all(b"\n")?;
+    Ok(())
 }
 
 // What an error says, which stands at the front of zeros, without the system's number of it.

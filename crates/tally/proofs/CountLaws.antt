@@ -1,16 +1,15 @@
 -- What the loop over the turns keeps: the counts so far, and that the rules' own tally goes on from them.
 use Prim.Native.Nat.{ℕ, suc, ◌+◌, ◌≤◌, ◌<◌}
-use native.Mathlib.Nat.{add-zero, add-suc}
+use native.Mathlib.Nat.{add-zero}
 use native.Mathlib.Numerals.{add-one}
 use native.Mathlib.Omega.{arith}
-use mathlib.Core.Path.{◌≡◌, refl, sym, ap, ◌∙◌, subst}
+use mathlib.Core.Path.{◌≡◌, refl, sym, ap, ◌∙◌}
 use mathlib.Core.Bool.{Bool, true, false}
 use mathlib.Core.List.{List, [], ◌∷◌}
-use lib.ListN.{length, get_or, set, drop, replicate, length-set, drop_of_length-le}
+use lib.ListN.{length, get_or, drop, length-set, drop_of_length-le}
 use lib.Seq.{drop-cons}
 use Rattle.rules.specs.Mosts as Most
 use Rattle.rules.specs.Mosts.{mosts}
-use Rattle.rules.specs.Lists.{Every}
 use Rattle.rules.specs.Script.{Program}
 use Rattle.rules.specs.Valid.{Valid}
 use Rattle.rules.specs.State.{State, thread_at, start}
@@ -23,8 +22,8 @@ use Rattle.table.specs.StateTable.{Held, Starts}
 use Rattle.turn.specs.Performed.{Loaded}
 use Rattle.run.specs.Reached.{going}
 use Rattle.tally.specs.declared.Fate.{Fate}
-use Rattle.tally.specs.declared.Fate.TheVariants.{Moved, Waited, Idled, Halted, Unplayed}
-use Rattle.tally.specs.Fates.{fate_by, fate_of, count_at, raise, none_counted, tally_from, tally, goes_on, played_from, played}
+use Rattle.tally.specs.declared.Fate.TheVariants.{Unplayed}
+use Rattle.tally.specs.Fates.{fate_by, count_at, raise, none_counted, tally_from, tally, goes_on, played_from, played}
 use Rattle.tally.specs.Counted.{TakesOne, stops, Low, unplayed_from, CountsPlayed, Tallies}
 
 -- ---- Counts

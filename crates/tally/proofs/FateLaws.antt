@@ -1,14 +1,12 @@
 -- What comes of one turn on the tables is what the rules say of it.
-use Prim.Native.Nat.{ℕ, ◌≤◌, ◌<◌}
+use Prim.Native.Nat.{ℕ, ◌≤◌}
 use native.Mathlib.Omega.{arith}
-use mathlib.Core.Path.{◌≡◌, refl, sym, ap, ◌∙◌, subst}
+use mathlib.Core.Path.{◌≡◌, refl, sym, ap, ◌∙◌}
 use mathlib.Core.Bool.{true, false}
 use mathlib.Core.List.{List, [], ◌∷◌}
 use lib.ListN.{length}
-use Rattle.rules.specs.Mosts as Most
 use Rattle.rules.specs.Mosts.{mosts}
 use Rattle.rules.specs.Script.{Program}
-use Rattle.rules.specs.Valid.{Valid}
 use Rattle.rules.specs.State.{Frame, State, thread_at}
 use Rattle.rules.specs.Turn.{Res, ok, wait, stop, turn}
 use Rattle.rules.specs.Run.{after, is_finished}
@@ -18,7 +16,7 @@ use Rattle.table.specs.StateTable.{Held, Sees, Any}
 use Rattle.checks.specs.Checked.{result_of}
 use Rattle.checks.specs.declared.form_checks.Step.{Step}
 use Rattle.checks.specs.declared.form_checks.Step.TheVariants.{Waits}
-use Rattle.turn.specs.Performed.{Loaded, Taken, moved, waited, stopped, TakesTurn}
+use Rattle.turn.specs.Performed.{Taken, moved, waited, stopped, TakesTurn}
 use Rattle.turn.proofs.Located.{no_frames, no_frame_waits}
 use Rattle.tally.specs.declared.Fate.{Fate}
 use Rattle.tally.specs.declared.Fate.TheVariants.{Moved, Waited, Idled, Halted}

@@ -21,7 +21,7 @@ fn inputs(tally: &mut Tally, room: &Path, wrapper: &str) {
     let (good, bad) = (file(room, "good", INPUT), file(room, "bad", REFUSED));
     let missing = room.join("missing").display().to_string();
     let folder = room.display().to_string();
-    for command in ["run", "save", "strip", "check", "draw", "race"] {
+    for command in ["run", "save", "strip", "check", "draw"] {
         let (out, refused) = (prints(command, INPUT), prints(command, REFUSED));
         let told = |path: &str, why: &str| ended(2, "", &format!("box: {}: {}\n", path, why));
         let cases = [
@@ -84,9 +84,6 @@ fn asked(tally: &mut Tally, room: &Path, wrapper: &str) {
         (vec!["reach"], usage.clone()),
         (vec!["reach", &path, "0", "1"], usage.clone()),
         (vec!["draw", &path, "0"], usage.clone()),
-        (vec!["race", &path], ended(0, "(norace)\n", "")),
-        (vec!["race"], ended(0, "(norace)\n", "")),
-        (vec!["race", &path, "0"], usage.clone()),
         (vec!["strip", &path, "0"], usage),
     ] {
         tally.same(
@@ -97,29 +94,6 @@ fn asked(tally: &mut Tally, room: &Path, wrapper: &str) {
     }
     let got = boxed(wrapper, &["reach", "-", "0"], REFUSED);
     tally.same("box reach, refused", &got, &ended(1, &printed(REFUSED), ""));
-}
-
-/// A race is an answer as any other: the status is 0. So many turns as can be asked for are; one more is refused.
-fn races(tally: &mut Tally, wrapper: &str) {
-    let script = "(kind (fields 0) (does))\n(kind (fields 1) (does))\n(thread)\n(let (new imm 0))\n(let (new unsafe 1 (read 1)))\n(let (spawn 1))\n\
-                  (let (send 3 (read 2)))\n(let (swap 2 0 (read 1)))\n(give (read 1))\n(thread)\n(let (recv 0))\n(let (field 1 0))\n(give (read 1))\n";
-    let idle = |count: usize| " 9".repeat(count);
-    for (turns, status, out) in [
-        (" 0 0 0 0 1 0 0 1".to_string(), 0, "(race 6 7 1 0)\n"),
-        (" 0 0 0 0 1 0 1 0".to_string(), 0, "(race 6 7 1 0)\n"),
-        (" 0 0 0 0 1 0 0".to_string(), 0, "(norace)\n"),
-        (String::new(), 0, "(norace)\n"),
-        (idle(1_024), 0, "(norace)\n"),
-        (idle(1_025), 1, "(refused 1 0)\n"),
-        (" 256".to_string(), 1, "(refused 4 13)\n"),
-    ] {
-        let input = format!("{}(turns{})\n", script, turns);
-        tally.same(
-            &format!("box race on {} bytes of turns", turns.len()),
-            &boxed(wrapper, &["race"], &input),
-            &ended(status, out, ""),
-        );
-    }
 }
 
 /// The status of a check goes by the verdict: 1 where the turns alone are not filed, 0 after a guard's stop.
@@ -163,7 +137,6 @@ fn others(tally: &mut Tally, wrapper: &str) {
         "box strip [FILE]",
         "box reach FILE THREAD",
         "box draw [FILE]",
-        "box race [FILE]",
         "box explain NUMBER",
     ] {
         tally.holds(usage.contains(line), || format!("no {} in the usage", line));
@@ -171,7 +144,7 @@ fn others(tally: &mut Tally, wrapper: &str) {
     let none = ended(1, "", NUMBERS);
     let wrong = ended(2, "", &usage);
     let mut cases = vec![
-        (vec!["--version"], ended(0, "box 1.9.0\n", "")),
+        (vec!["--version"], ended(0, "box 1.8.0\n", "")),
         (vec!["--help"], ended(0, &usage, "")),
         (vec!["help"], ended(0, &usage, "")),
     ];
@@ -202,7 +175,6 @@ fn others(tally: &mut Tally, wrapper: &str) {
         vec!["run", "-", "-"],
         vec!["save", "-", "-"],
         vec!["draw", "-", "-"],
-        vec!["race", "-", "-"],
         vec!["explain", "1", "2"],
         vec!["--version", "1"],
         vec!["--help", "run"],
@@ -254,7 +226,7 @@ fn installed(tally: &mut Tally, room: &Path, folder: &str, wrapper: &str) {
         got.status == Ok(2) && got.out.is_empty() && got.err.contains("box_tool is neither in");
     tally.holds(alone, || format!("without its program: {}", got));
     fs::copy(format!("{}/box_tool", folder), lib.join("box_tool")).expect("a copy of the program");
-    let wanted = ended(0, "box 1.9.0\n", "");
+    let wanted = ended(0, "box 1.8.0\n", "");
     tally.same("installed", &boxed(&path, &["--version"], ""), &wanted);
     let link = room.join("link").display().to_string();
     symlink(&path, &link).expect("a link");
@@ -267,7 +239,6 @@ fn installed(tally: &mut Tally, room: &Path, folder: &str, wrapper: &str) {
 pub fn all(tally: &mut Tally, room: &Path, folder: &str, wrapper: &str) {
     inputs(tally, room, wrapper);
     asked(tally, room, wrapper);
-    races(tally, wrapper);
     checks(tally, wrapper);
     stopped(tally, wrapper);
     others(tally, wrapper);

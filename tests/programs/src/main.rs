@@ -15,7 +15,7 @@ use std::fs;
 use std::path::{Path, PathBuf};
 use std::process;
 
-use second::input::{boxrun, drawn, raced, saved, stripped};
+use second::input::{boxrun, drawn, saved, stripped};
 use second::sheet::checked;
 
 use faults::{Faults, Subject};
@@ -79,7 +79,6 @@ fn prints(command: &str, input: &str) -> String {
         "strip" => stripped,
         "check" => checked,
         "draw" => drawn,
-        "race" => raced,
         _ => boxrun,
     };
     String::from_utf8_lossy(&print(input.as_bytes())).into_owned()
@@ -107,8 +106,6 @@ fn subjects(folder: &str, wrapper: &str, path: &str, input: &str) -> Vec<Subject
         ("check", None),
         ("draw", Some(path)),
         ("draw", Some("-")),
-        ("race", None),
-        ("race", Some(path)),
     ] {
         let mut words = vec![wrapper.to_string(), command.to_string()];
         words.extend(file.map(str::to_string));

@@ -37,7 +37,7 @@ fn standard_input_is_run() {
 }
 
 #[test]
-fn standard_input_is_checked_saved_stripped_reported_on_drawn_and_asked_for_races() {
+fn standard_input_is_checked_saved_stripped_reported_on_and_drawn() {
     let input = input(D, "0 0");
     let printed = |arguments: &[&str]| second(arguments, input.as_bytes()).stdout;
     assert_eq!(printed(&["check"]), checked(input.as_bytes()));
@@ -51,7 +51,6 @@ fn standard_input_is_checked_saved_stripped_reported_on_drawn_and_asked_for_race
     let node = "  0 [label=\"0 iso\", shape=ellipse, fillcolor=palegreen];\n";
     let drawn = String::from_utf8(printed(&["draw"])).unwrap();
     assert_eq!(drawn.lines().nth(2), node.strip_suffix('\n'));
-    assert_eq!(printed(&["race"]), b"(norace)\n");
 }
 
 #[test]

@@ -711,7 +711,7 @@ fn what_is_printed() {
     assert_eq!(printed(&"(".repeat(65_537)), "(refused 1 0)\n");
 }
 
-/// Each command that the page shows has below it what is printed of its example.
+/// Each example that the page names has below it what is printed of it.
 #[test]
 fn the_page_shows_races() {
     let page = include_str!("../../../docs/RACES.md");
@@ -719,7 +719,7 @@ fn the_page_shows_races() {
     let lines: Vec<&str> = page.lines().collect();
     let mut shown = Vec::new();
     for pair in lines.windows(2) {
-        if let Some(file) = pair[0].strip_prefix("    $ box race ") {
+        if let Some(file) = pair[0].strip_prefix("    of ") {
             let input = std::fs::read([examples, file].concat()).unwrap();
             let line = format!("{}\n", pair[1].trim_start());
             assert_eq!(String::from_utf8(raced(&input)).unwrap(), line);

@@ -10,4 +10,4 @@ returns-in-Refused c =
 pub returns-in_default : goal.returns-in_default
 returns-in_default c =
     draw_told c.args.text.now c.args.turns.now c.args.program.now c.args.state.now c.args.buffer.now c.run_into-answer.ensures
-    (other_answers_made c.run_into-answer.result c.in_default.is) c.draw_on.ensures
+    (other_answers_made c.run_into-answer.result c.in_default.not-Refused) c.draw_on.ensures

@@ -11,4 +11,4 @@ returns-in-Refused c =
 pub returns-in_default : goal.returns-in_default
 returns-in_default c =
     let a = c.args in
-    count_told a.text.now a.turns.now a.program.now a.state.now a.object c.run-answer.ensures (other_answers_made c.run-answer.result c.in_default.is) c.count_on.ensures
+    count_told a.text.now a.turns.now a.program.now a.state.now a.object c.run-answer.ensures (other_answers_made c.run-answer.result c.in_default.not-Refused) c.count_on.ensures

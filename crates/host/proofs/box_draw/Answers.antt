@@ -16,9 +16,9 @@ returns-in-Refused c =
 pub returns-in-Refused-drawn : goal.returns-in-Refused-drawn
 returns-in-Refused-drawn c =
     drawing_not_refused c.args.text.now c.args.turns.now c.args.program.now c.args.state.now c.args.graph.now c.make-answer.ensures
-    (other_answers_made c.make-answer.result c.in_default.is) c.draw_on-drawn.ensures c.in-Refused-drawn.is
+    (other_answers_made c.make-answer.result c.in_default.not-Refused) c.draw_on-drawn.ensures c.in-Refused-drawn.is
 
 pub returns-in-Written : goal.returns-in-Written
 returns-in-Written c =
     drawing_done c.args.text.now c.args.turns.now c.args.program.now c.args.state.now c.args.graph.now c.make-answer.ensures
-    (other_answers_made c.make-answer.result c.in_default.is) c.draw_on-drawn.ensures c.in-Written.is
+    (other_answers_made c.make-answer.result c.in_default.not-Refused) c.draw_on-drawn.ensures c.in-Written.is

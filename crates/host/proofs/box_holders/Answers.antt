@@ -17,9 +17,9 @@ returns-in-Refused c =
 pub returns-in-Refused-told : goal.returns-in-Refused-told
 returns-in-Refused-told c =
     let a = c.args in
-    holders_no_object a.text.now a.turns.now a.program.now a.state.now a.object c.make-answer.ensures (other_answers_made c.make-answer.result c.in_default.is) c.count_on-told.ensures c.in-Refused-told.is
+    holders_no_object a.text.now a.turns.now a.program.now a.state.now a.object c.make-answer.ensures (other_answers_made c.make-answer.result c.in_default.not-Refused) c.count_on-told.ensures c.in-Refused-told.is
 
 pub returns-in-Counted : goal.returns-in-Counted
 returns-in-Counted c =
     let a = c.args in
-    holders_told a.text.now a.turns.now a.program.now a.state.now a.object c.make-answer.ensures (other_answers_made c.make-answer.result c.in_default.is) c.count_on-told.ensures c.in-Counted.is
+    holders_told a.text.now a.turns.now a.program.now a.state.now a.object c.make-answer.ensures (other_answers_made c.make-answer.result c.in_default.not-Refused) c.count_on-told.ensures c.in-Counted.is

@@ -13,7 +13,7 @@ make-answer-requires c = (refl, refl)
 pub store-requires : goal.store-requires
 store-requires c =
     let a = c.args in
-    omega (arith, list_room a.text.now a.turns.now a.program.now a.state.now a.list.now a.thread c.make-answer.ensures (other_answers_made c.make-answer.result c.in_default.is))
+    omega (arith, list_room a.text.now a.turns.now a.program.now a.state.now a.list.now a.thread c.make-answer.ensures (other_answers_made c.make-answer.result c.in_default.not-Refused))
 
 pub returns-in-Refused : goal.returns-in-Refused
 returns-in-Refused c =
@@ -23,9 +23,9 @@ returns-in-Refused c =
 pub returns-in-Refused-report : goal.returns-in-Refused-report
 returns-in-Refused-report c =
     let a = c.args in
-    reach_no_thread a.text.now a.turns.now a.program.now a.state.now a.list.now a.thread c.make-answer.ensures (other_answers_made c.make-answer.result c.in_default.is) c.report_on-report.ensures c.in-Refused-report.is
+    reach_no_thread a.text.now a.turns.now a.program.now a.state.now a.list.now a.thread c.make-answer.ensures (other_answers_made c.make-answer.result c.in_default.not-Refused) c.report_on-report.ensures c.in-Refused-report.is
 
 pub returns-in-Reached : goal.returns-in-Reached
 returns-in-Reached c =
     let a = c.args in
-    reach_done a.text.now a.turns.now a.program.now a.state.now a.list.now a.thread c.make-answer.ensures (other_answers_made c.make-answer.result c.in_default.is) c.report_on-report.ensures c.in-Reached.is c.store.ensures
+    reach_done a.text.now a.turns.now a.program.now a.state.now a.list.now a.thread c.make-answer.ensures (other_answers_made c.make-answer.result c.in_default.not-Refused) c.report_on-report.ensures c.in-Reached.is c.store.ensures

@@ -23,4 +23,4 @@ returns-in-Refused c =
 pub returns-in_default : goal.returns-in_default
 returns-in_default c =
     let a = c.args in
-    race_judged a.text.now a.turns.now a.program.now a.state.now (omega (arith, c.if-turns-gt-RACE_TURNS.false)) c.make-answer.ensures (other_answers_made c.make-answer.result c.in_default.is) c.judge.ensures
+    race_judged a.text.now a.turns.now a.program.now a.state.now (omega (arith, c.if-turns-gt-RACE_TURNS.false)) c.make-answer.ensures (other_answers_made c.make-answer.result c.in_default.not-Refused) c.judge.ensures

@@ -14,4 +14,4 @@ returns-in-Refused c =
 
 pub returns-in_default : goal.returns-in_default
 returns-in_default c =
-    let a = c.args in made_found a.text.now a.turns.now a.program.now a.state.now (omega (arith, c.if-turns-gt1024.false)) c.run_into-answer.ensures (other_answers_made c.run_into-answer.result c.in_default.is) c.judge.ensures
+    let a = c.args in made_found a.text.now a.turns.now a.program.now a.state.now (omega (arith, c.if-turns-gt1024.false)) c.run_into-answer.ensures (other_answers_made c.run_into-answer.result c.in_default.not-Refused) c.judge.ensures

@@ -11,7 +11,7 @@ pub returns-then-p-lt8192 : goal.returns-then-p-lt8192
 returns-then-p-lt8192 c = judges_no_table (omega (arith, c.if-turns-gt1024.false)) c.if-p-lt8192.true
 
 pub judge_turns-requires : goal.judge_turns-requires
-judge_turns-requires c = record { in_bounds = (omega (arith, c.if-p-lt8192.false), omega (arith, c.if-turns-gt1024.false), omega (arith, c.start_state.auto.0)); unmarked = (none_noted 4096, none_noted 16384, none_noted 16384, none_noted 16384, none_noted 16384) }
+judge_turns-requires c = record { in_bounds = (omega (arith, c.if-p-lt8192.false), omega (arith, c.if-turns-gt1024.false), omega (arith, c.start_state.auto.s)); unmarked = (none_noted 4096, none_noted 16384, none_noted 16384, none_noted 16384, none_noted 16384) }
 
 pub returns : goal.returns
 unfolding fresh_table

@@ -11,4 +11,4 @@ returns-in-Refused c =
 pub returns-in_default : goal.returns-in_default
 returns-in_default c =
     let a = c.args in
-    reach_told a.text.now a.turns.now a.program.now a.state.now a.list.now a.t c.run_into-answer.ensures (other_answers_made c.run_into-answer.result c.in_default.is) c.report_on.ensures
+    reach_told a.text.now a.turns.now a.program.now a.state.now a.list.now a.t c.run_into-answer.ensures (other_answers_made c.run_into-answer.result c.in_default.not-Refused) c.report_on.ensures

@@ -6,7 +6,8 @@ use Rattle.std.proofs.Common.{rules}
 use Rattle.save.proofs.print_saved.Goals as goal
 
 pub returns-then-output-lt65536 : goal.returns-then-output-lt65536
-returns-then-output-lt65536 c = let start = c.args in let all = saved_short (saved start.input.now) start.output.now c.if-output-lt65536.true in record { value = all.0; output_after = all.1 }
+returns-then-output-lt65536 c =
+    let short = saved_short (saved c.args.input.now) c.args.output.now c.if-output-lt65536.true in record { value = short.0; output_after = short.1 }
 
 pub save_script-requires : goal.save_script-requires
 save_script-requires c =
@@ -14,14 +15,20 @@ save_script-requires c =
 
 pub returns-in-Away : goal.returns-in-Away
 returns-in-Away c =
-    let start = c.args in
-    let line = saved_away c.split-parts.ensures (search rules) c.in-Away.is in let all = rw line (saved_line _ start.output.now c.if-output-lt65536.false c.print_refusal.ensures) in record { value = all.0; output_after = all.1 }
+    let line = saved_away c.split-parts.ensures (search rules) c.in-Away.is in
+    let told = c.print_refusal.ensures in
+    let both = saved_line _ c.args.output.now c.if-output-lt65536.false (told.value, told.output_after) in
+    rw line (record { value = both.0; output_after = both.1 })
 
 pub returns-in-Fault : goal.returns-in-Fault
 returns-in-Fault c =
-    let start = c.args in
-    let line = saved_fault c.split-parts.ensures (search rules) c.in-Fault.is in let all = rw line (saved_line _ start.output.now c.if-output-lt65536.false c.print_refusal-in-Fault.ensures) in record { value = all.0; output_after = all.1 }
+    let line = saved_fault c.split-parts.ensures (search rules) c.in-Fault.is in
+    let told = c.print_refusal-in-Fault.ensures in
+    let both = saved_line _ c.args.output.now c.if-output-lt65536.false (told.value, told.output_after) in
+    rw line (record { value = both.0; output_after = both.1 })
 
 pub returns-in-Turns : goal.returns-in-Turns
 returns-in-Turns c =
-    let script = saved_turns c.split-parts.ensures (search rules) c.in-Turns.is (search rules) in let all = rw script c.save_script.ensures in record { value = all.0; output_after = all.1 }
+    let script = saved_turns c.split-parts.ensures (search rules) c.in-Turns.is (search rules) in
+    let told = c.save_script.ensures in
+    rw script (record { value = told.value; output_after = told.output_after })

@@ -19,12 +19,13 @@ put_rest-requires c =
 
 pub returns-in-Refused : goal.returns-in-Refused
 returns-in-Refused c =
-    let is = sym c.in-Refused.is ∙ c.read-answer.ensures.value in let all = script_refused (take c.args.at c.args.input.now) _ (search rules) (drop c.args.at c.args.input.now) c.args.output.now c.requires.2 is c.print_refusal.ensures in record { value = all.0; output_after = all.1 }
+    let is = sym c.in-Refused.is ∙ c.read-answer.ensures.value in let all = script_refused (take c.args.at c.args.input.now) _ (search rules) (drop c.args.at c.args.input.now) c.args.output.now c.requires.2 is (c.print_refusal.ensures.value, c.print_refusal.ensures.output_after) in record { value = all.0; output_after = all.1 }
 
 pub returns-in-Refused-written : goal.returns-in-Refused-written
 returns-in-Refused-written c =
     let is = sym c.in-Read.is ∙ c.read-answer.ensures.value in
-    let written = script_written (take c.args.at c.args.input.now) _ (search rules) (drop c.args.at c.args.input.now) is c.read-answer.ensures.table_after c.requires.2 c.write-written.ensures in let all = absurd (never_refused (take c.args.at c.args.input.now) (drop c.args.at c.args.input.now) c.args.output.now written c.in-Refused-written.is) in record { value = all.0; output_after = all.1 }
+    let written = script_written (take c.args.at c.args.input.now) _ (search rules) (drop c.args.at c.args.input.now) is c.read-answer.ensures.table_after c.requires.2 c.write-written.ensures in
+    absurd (never_refused (take c.args.at c.args.input.now) (drop c.args.at c.args.input.now) c.args.output.now written c.in-Refused-written.is)
 
 pub returns-in-Written : goal.returns-in-Written
 returns-in-Written c =

@@ -1,9 +1,7 @@
 -- Before turn i the counts are those of the turns before it, and the rules' own tally goes on from them.
-use Prim.Native.Nat.{◌-◌}
 use native.Mathlib.Omega.{arith}
 use mathlib.Core.Path.{refl, sym, ◌∙◌}
-use lib.ListN.{length}
-use Rattle.tally.proofs.CountLaws.{none_wide, low_most, Counting, none_counted_lem, counts_one, counts_stop, all_counted}
+use Rattle.tally.proofs.CountLaws.{none_wide, low_most, none_counted_lem, counts_one, counts_stop, all_counted}
 use Rattle.tally.proofs.count_played.Goals as goal
 
 pub loop-i-init : goal.loop-i-init

@@ -1,10 +1,9 @@
 -- Before turn i the counts are those of the turns before it, and the rules' own tally goes on from them.
 use Prim.Native.Nat.{◌-◌}
-use native.Mathlib.Omega.{arith}
-use mathlib.Core.Path.{refl, sym, ◌∙◌}
 use lib.ListN.{length}
-use Rattle.tally.proofs.CountLaws.{none_wide, low_most, Counting, none_counted_lem, counts_one, counts_stop, all_counted}
+use Rattle.tally.proofs.CountLaws.{Counting}
 use Rattle.tally.proofs.count_played.Given as goal
+
 abbrev pub invariant-loop-i : goal.invariant-loop-i
 invariant-loop-i l = Counting l.p l.initial.s l.turns l.s l.counts l.i
 

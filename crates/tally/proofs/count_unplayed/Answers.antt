@@ -1,11 +1,9 @@
 -- Before turn i the turns after the stop and before it are counted.
-use Prim.Native.Nat.{◌+◌, ◌-◌}
 use native.Mathlib.Omega.{arith}
-use mathlib.Core.Path.{◌≡◌, refl, sym, ◌∙◌}
-use lib.ListN.{get_or, length, drop}
+use mathlib.Core.Path.{refl, sym, ◌∙◌}
+use lib.ListN.{get_or}
 use Rattle.tally.specs.declared.Fate.TheVariants.{Unplayed}
 use Rattle.tally.specs.Fates.{count_at}
-use Rattle.tally.specs.Counted.{Low, unplayed_from}
 use Rattle.tally.proofs.CountLaws.{low_most, raise_low, raise_length, unplayed_one, unplayed_none}
 use Rattle.tally.proofs.count_unplayed.Goals as goal
 

@@ -1,13 +1,10 @@
 -- Before turn i the turns after the stop and before it are counted.
 use Prim.Native.Nat.{◌+◌, ◌-◌}
-use native.Mathlib.Omega.{arith}
-use mathlib.Core.Path.{◌≡◌, refl, sym, ◌∙◌}
-use lib.ListN.{get_or, length, drop}
-use Rattle.tally.specs.declared.Fate.TheVariants.{Unplayed}
-use Rattle.tally.specs.Fates.{count_at}
+use mathlib.Core.Path.{◌≡◌}
+use lib.ListN.{length, drop}
 use Rattle.tally.specs.Counted.{Low, unplayed_from}
-use Rattle.tally.proofs.CountLaws.{low_most, raise_low, raise_length, unplayed_one, unplayed_none}
 use Rattle.tally.proofs.count_unplayed.Given as goal
+
 abbrev pub invariant-loop-i : goal.invariant-loop-i
 invariant-loop-i l = Low l.i l.counts × (length l.counts ≡ 85) × (unplayed_from l.initial.counts (drop (l.from + 1) l.turns) ≡ unplayed_from l.counts (drop l.i l.turns))
 

@@ -6,6 +6,7 @@ use lib.ListN.{length, drop}
 use Rattle.grammar.specs.Words as Words
 use Rattle.box_tool.proofs.Begins.{whole_word, text_ends, byte_differs, byte_agrees}
 use Rattle.box_tool.proofs.words.begins.Given as goal
+
 abbrev pub invariant-loop-i : goal.invariant-loop-i
 invariant-loop-i l = (l.i ≤ length l.word) × (Words.begins l.word l.text ≡ Words.begins (drop l.i l.word) (drop l.i l.text))
 

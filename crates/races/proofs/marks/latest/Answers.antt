@@ -1,5 +1,4 @@
 -- `races::marks::latest` meets its contract: what is kept is the latest of the threads so far.
-use Prim.Native.Nat.{◌-◌, ◌≤◌}
 use mathlib.Core.Path.{◌≡◌, refl}
 use native.Mathlib.Omega.{arith}
 use Rattle.races.specs.Marks.{latest_in}

@@ -1,11 +1,10 @@
 -- `races::marks::mark_fields` meets its contract: after i steps the fields of the first i objects are marked.
 use Prim.Native.Nat.{◌-◌, ◌≤◌}
-use mathlib.Core.Path.{◌≡◌, refl, subst}
-use native.Mathlib.Omega.{arith}
-use lib.ListN.{length, length-set}
+use mathlib.Core.Path.{◌≡◌}
+use lib.ListN.{length}
 use Rattle.races.specs.Marks.{objects_in, MarksFields}
-use Rattle.races.proofs.MarkSteps.{none_marked, four, one_marked}
 use Rattle.races.proofs.marks.mark_fields.Given as goal
+
 abbrev pub invariant-loop-i : goal.invariant-loop-i
 invariant-loop-i l = (l.i ≤ l.count) × (length l.reads ≡ length l.initial.reads) × MarksFields (objects_in l.i l.order) l.t l.mark l.initial.reads l.reads
 

@@ -1,8 +1,8 @@
 -- `races::marks::mark_first` meets its contract: after i steps the first puts of the first i objects are noted.
-use Prim.Native.Nat.{◌+◌, ◌*◌, ◌%◌, ◌-◌, ◌≤◌}
+use Prim.Native.Nat.{◌+◌, ◌*◌, ◌%◌}
 use mathlib.Core.Path.{◌≡◌, refl, subst}
 use native.Mathlib.Omega.{arith}
-use lib.ListN.{length, get_or, length-set}
+use lib.ListN.{get_or, length-set}
 use Rattle.races.specs.Marks.{objects_in, MarksFirst}
 use Rattle.races.proofs.MarkSteps.{four_steps, none_first, one_first}
 use Rattle.std.proofs.Common.{rules}

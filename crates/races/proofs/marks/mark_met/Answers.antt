@@ -1,8 +1,7 @@
 -- `races::marks::mark_met` meets its contract: after i steps the first i objects are marked.
-use Prim.Native.Nat.{◌-◌, ◌≤◌}
 use mathlib.Core.Path.{◌≡◌, refl, subst}
 use native.Mathlib.Omega.{arith}
-use lib.ListN.{length, length-set}
+use lib.ListN.{length-set}
 use Rattle.races.specs.Marks.{objects_in, MarksMet}
 use Rattle.races.proofs.MarkSteps.{none_met, one_met}
 use Rattle.std.proofs.Common.{rules}

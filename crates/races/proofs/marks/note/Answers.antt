@@ -42,11 +42,11 @@ returns-in-Quiet c = rw c.in-Quiet.is (record { receives = refl; reads = refl; r
 
 pub returns-in-Reads : goal.returns-in-Reads
 returns-in-Reads c =
-    let e = c.event-1.given.0 in rw c.in-Reads.is (record { receives = refl; reads = refl; read_puts = refl; swaps = refl; swap_puts = refl }, ap (λ x. found x e.0 (e.1.0 % 4)) c.latest_on-last.ensures)
+    let e = c.in-Reads in rw c.in-Reads.is (record { receives = refl; reads = refl; read_puts = refl; swaps = refl; swap_puts = refl }, ap (λ x. found x e.n (e.f % 4)) c.latest_on-last.ensures)
 
 pub returns-in-Swaps : goal.returns-in-Swaps
 returns-in-Swaps c =
-    let e = c.event-in-Swaps-1.given.0 in rw c.in-Swaps.is (record { receives = refl; reads = refl; read_puts = refl; swaps = refl; swap_puts = refl }, ap (λ x. found x e.0 (e.1.0 % 4)) (c.most.ensures ∙ rw (c.latest_on-x.ensures, c.latest_on-y.ensures) refl))
+    let e = c.in-Swaps in rw c.in-Swaps.is (record { receives = refl; reads = refl; read_puts = refl; swaps = refl; swap_puts = refl }, ap (λ x. found x e.n (e.f % 4)) (c.most.ensures ∙ rw (c.latest_on-x.ensures, c.latest_on-y.ensures) refl))
 
 pub returns-in-Puts : goal.returns-in-Puts
 returns-in-Puts c =

@@ -1,5 +1,4 @@
 -- `races::marks::over_fields` meets its contract: what is found on the first f fields is carried on.
-use Prim.Native.Nat.{◌-◌, ◌≤◌}
 use mathlib.Core.Path.{◌≡◌, refl, subst}
 use native.Mathlib.Omega.{arith}
 use Rattle.races.specs.Marks.{over_fields}

@@ -1,5 +1,4 @@
 -- `races::marks::over_objects` meets its contract: what is found on the first i objects is carried on.
-use Prim.Native.Nat.{◌-◌, ◌≤◌}
 use mathlib.Core.Path.{◌≡◌, refl, subst}
 use native.Mathlib.Omega.{arith}
 use Rattle.races.specs.Marks.{objects_in, over_objects, nothing}

@@ -29,8 +29,11 @@ returns-in-Obj c =
 pub returns-in-Chan : goal.returns-in-Chan
 returns-in-Chan c =
     let is-send = number_told c.form_of-form.ensures c.in-Send.is (omega arith) in
-    let place = locates c.frame_count-n.ensures.sees c.if-n-eq0.false c.locate-h.ensures.placed.1 c.locate-h.ensures.stands in record { in_table = c.message_for.ensures.in_table; sees_in_flight = target_channel place c.locate-h.ensures.placed.1 c.part.ensures c.part-in-Send.ensures is-send c.slot-x.ensures.sees
-          c.in-Chan.is c.sender.ensures.sees c.message_for.ensures.sees }
+    let place = locates c.frame_count-n.ensures.sees c.if-n-eq0.false c.locate-h.ensures.placed.1 c.locate-h.ensures.stands in record {
+      in_table = c.message_for.ensures.in_table;
+      sees_in_flight = target_channel place c.locate-h.ensures.placed.1 c.part.ensures c.part-in-Send.ensures is-send c.slot-x.ensures.sees
+          c.in-Chan.is c.sender.ensures.sees c.message_for.ensures.sees;
+    }
 
 pub returns-in-NoForm : goal.returns-in-NoForm
 returns-in-NoForm c =

@@ -1,10 +1,10 @@
 -- `reach::walking::list_met` meets its contract: before turn i the objects below i that are met stand in the list.
 use Prim.Native.Nat.{◌-◌, ◌≤◌}
-use native.Mathlib.Omega.{arith}
-use mathlib.Core.Path.{◌≡◌, refl, ◌∙◌}
+use mathlib.Core.Path.{◌≡◌}
 use lib.ListN.{length}
-use Rattle.reach.proofs.Listed.{Listing, none_listed, number_next, all_listed}
+use Rattle.reach.proofs.Listed.{Listing}
 use Rattle.reach.proofs.walking.list_met.Given as goal
+
 abbrev pub invariant-loop-i : goal.invariant-loop-i
 invariant-loop-i l = (l.i ≤ 256) × (length l.list ≡ length l.initial.list) × Listing l.places l.initial.list l.i l.n l.list
 

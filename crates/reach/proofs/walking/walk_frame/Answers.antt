@@ -1,10 +1,7 @@
 -- `reach::walking::walk_frame` meets its contract: before turn i the first i slots are walked.
-use Prim.Native.Nat.{◌-◌, ◌≤◌}
 use native.Mathlib.Omega.{arith}
-use mathlib.Core.Path.{◌≡◌, refl, ◌∙◌}
-use lib.ListN.{length, take}
-use Rattle.table.specs.StateTable.{Any, frame_at}
-use Rattle.walk.specs.Walking.{tally, Grows, Walks}
+use mathlib.Core.Path.{refl, ◌∙◌}
+use Rattle.table.specs.StateTable.{frame_at}
 use Rattle.walk.proofs.Numbers.{same_tally, grows_then}
 use Rattle.walk.proofs.WalkSteps.{row_begins, row_next}
 use Rattle.reach.proofs.ReportSteps.{slot_seen, frame_walked}
@@ -17,22 +14,20 @@ pub frame_slot-requires : goal.frame_slot-requires
 frame_slot-requires c = (c.requires.0, c.requires.4, c.requires.5, c.loop-i-test.true)
 
 pub walk-met-requires : goal.walk-met-requires
-walk-met-requires c =
-    (
-      c.requires.0,
-      omega (arith, c.loop-i.invariant.1, c.requires.1),
-      omega (arith, c.loop-i.invariant.2, c.requires.2),
-      c.frame_slot.ensures.value.1,
-      omega (arith, c.loop-i.invariant.4.room, c.requires.3),
-    )
+walk-met-requires c = (
+  c.requires.0,
+  omega (arith, c.loop-i.invariant.1, c.requires.1),
+  omega (arith, c.loop-i.invariant.2, c.requires.2),
+  c.frame_slot.ensures.value.1,
+  omega (arith, c.loop-i.invariant.4.room, c.requires.3),
+)
 
 pub loop-i-preserved : goal.loop-i-preserved
 loop-i-preserved c =
-    let a = c.args in
-    (
+    let a = c.args in (
       omega arith,
-      c.walk-met.auto.1.0 ∙ c.loop-i.invariant.1,
-      c.walk-met.auto.1.1.0 ∙ c.loop-i.invariant.2,
+      c.walk-met.auto.places ∙ c.loop-i.invariant.1,
+      c.walk-met.auto.order ∙ c.loop-i.invariant.2,
       row_next (λ S. (frame_at S a.t a.k).slots) c.loop-i.i (slot_seen a.t a.k c.loop-i.i c.frame_slot.ensures.sees) c.loop-i.invariant.3 c.walk-met.ensures.walks,
       grows_then c.loop-i.invariant.4 c.walk-met.ensures.grows,
     )

@@ -1,14 +1,11 @@
 -- `reach::walking::walk_frame` meets its contract: before turn i the first i slots are walked.
 use Prim.Native.Nat.{◌-◌, ◌≤◌}
-use native.Mathlib.Omega.{arith}
-use mathlib.Core.Path.{◌≡◌, refl, ◌∙◌}
+use mathlib.Core.Path.{◌≡◌}
 use lib.ListN.{length, take}
 use Rattle.table.specs.StateTable.{Any, frame_at}
 use Rattle.walk.specs.Walking.{tally, Grows, Walks}
-use Rattle.walk.proofs.Numbers.{same_tally, grows_then}
-use Rattle.walk.proofs.WalkSteps.{row_begins, row_next}
-use Rattle.reach.proofs.ReportSteps.{slot_seen, frame_walked}
 use Rattle.reach.proofs.walking.walk_frame.Given as goal
+
 abbrev pub invariant-loop-i : goal.invariant-loop-i
 invariant-loop-i l =
     (l.i ≤ 16) × (length l.places ≡ length l.initial.places) × (length l.order ≡ length l.initial.order)

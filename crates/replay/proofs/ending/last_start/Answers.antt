@@ -1,5 +1,5 @@
 -- From the place reached there is one line; an LF before it, or the input's start, is where that line starts.
-use Prim.Native.Nat.{◌-◌, ◌<◌}
+use Prim.Native.Nat.{◌-◌}
 use native.Mathlib.Omega.{arith}
 use mathlib.Core.Path.{◌≡◌, subst, sym}
 use lib.ListN.{length}

@@ -1,10 +1,9 @@
 -- From the place reached there is one line; an LF before it, or the input's start, is where that line starts.
-use Prim.Native.Nat.{◌-◌, ◌<◌}
-use native.Mathlib.Omega.{arith}
-use mathlib.Core.Path.{◌≡◌, subst, sym}
+use Prim.Native.Nat.{◌<◌}
 use lib.ListN.{length}
-use Rattle.replay.proofs.LastLine.{OneLine, Cut, last_byte, byte_before, none_before, empty_cut, after_lf}
+use Rattle.replay.proofs.LastLine.{OneLine}
 use Rattle.replay.proofs.ending.last_start.Given as goal
+
 abbrev pub invariant-loop-at : goal.invariant-loop-at
 invariant-loop-at l = (l.at < length l.s) × OneLine l.s l.at
 

@@ -1,11 +1,6 @@
 -- What is counted so far, with the lines before the last one from here on, is all of them.
-use Prim.Native.Nat.{◌+◌, ◌-◌, ◌≤◌}
 use native.Mathlib.Nat.{zero-add}
 use native.Mathlib.Omega.{arith}
-use mathlib.Core.Path.{◌≡◌}
-use lib.ListN.{length, drop}
-use Rattle.rules.specs.Text.{lines}
-use Rattle.rules.specs.Input.{lines_before}
 use Rattle.replay.proofs.LastLine.{count_byte, count_last}
 use Rattle.std.proofs.Common.{rules}
 use Rattle.replay.proofs.ending.lines_before.Goals as goal

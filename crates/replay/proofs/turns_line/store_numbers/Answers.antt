@@ -1,10 +1,9 @@
 -- The numbers read so far are stored, and put before what the list still gives at the place reached they are the whole list. The measure is what
 -- is left of the input: the loop goes on at a space only, which lies inside the input, and each number ends past it.
-use Prim.Native.Nat.{◌-◌}
 use native.Mathlib.Omega.{arith}
-use mathlib.Core.Path.{◌≡◌, refl, ◌∙◌}
-use lib.ListN.{length, length-set}
-use Rattle.replay.proofs.TurnsLine.{StoredTo, none_stored, inside, room_left, number_stored, all_stored}
+use mathlib.Core.Path.{refl, ◌∙◌}
+use lib.ListN.{length-set}
+use Rattle.replay.proofs.TurnsLine.{none_stored, inside, room_left, number_stored, all_stored}
 use Rattle.replay.proofs.turns_line.store_numbers.Goals as goal
 
 pub loop-more-init : goal.loop-more-init

@@ -1,11 +1,11 @@
 -- The numbers read so far are stored, and put before what the list still gives at the place reached they are the whole list. The measure is what
 -- is left of the input: the loop goes on at a space only, which lies inside the input, and each number ends past it.
 use Prim.Native.Nat.{◌-◌}
-use native.Mathlib.Omega.{arith}
-use mathlib.Core.Path.{◌≡◌, refl, ◌∙◌}
-use lib.ListN.{length, length-set}
-use Rattle.replay.proofs.TurnsLine.{StoredTo, none_stored, inside, room_left, number_stored, all_stored}
+use mathlib.Core.Path.{◌≡◌}
+use lib.ListN.{length}
+use Rattle.replay.proofs.TurnsLine.{StoredTo}
 use Rattle.replay.proofs.turns_line.store_numbers.Given as goal
+
 abbrev pub invariant-loop-more : goal.invariant-loop-more
 invariant-loop-more l = StoredTo l.s l.at l.l l.more l.turns × (length l.turns ≡ length l.initial.turns)
 
