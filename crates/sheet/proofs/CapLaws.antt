@@ -6,20 +6,21 @@ use native.Mathlib.Omega.{arith}
 use mathlib.Core.Path.{◌≡◌, refl, sym, ap, ◌∙◌, subst}
 use mathlib.Core.Bool.{Bool, true, false, cond}
 use mathlib.Core.Logic.{◌⊎◌, ⊎_elim}
-use mathlib.Core.List.{List, [], ◌∷◌, ◌++◌, append_assoc, append-nil}
+use mathlib.Core.List.{List, [], ◌∷◌, ◌++◌, map, append_assoc, append-nil}
 use lib.Dec.{eqb}
 use lib.ListN.{length, get_or, take}
 use lib.Seq.{take-suc, take_all, length-take-le}
 use borrow.Author.Tests.{eq-eqb, ne_eqb}
 use types.Run.{OneOf, miss}
 use Rattle.rules.specs.declared.forms.Form.{Form as Name}
+use Rattle.rules.specs.declared.forms.Form.TheVariants.{NoForm, Thread, Method, Kind, Give, Value, Field, Swap, Call, New, Cast, Spawn, Send, Recv, Copy}
 use Rattle.rules.specs.Forms.{form_of}
 use Rattle.rules.specs.Text.{space}
 use Rattle.rules.specs.Templates.{decimal, print_many}
 use Rattle.rules.specs.Script.{value, field, swap, call, new, cast, spawn, send, recv, copy, bind, give, thread, method, Form, kind, opens, line, rank}
 use Rattle.rules.specs.Lists.{pad}
 use Rattle.rules.specs.Tables.{cap_of, line_words, row}
-use Rattle.rules.proofs.FormNumbers.{place}
+use Rattle.rules.proofs.FormNumbers.{place, IsOneOf, one_of_keys}
 use Rattle.rules.proofs.TableWords.{cap_of_rank}
 use Rattle.buffer.specs.Writing.{Wrote, number_part}
 use Rattle.buffer.proofs.Appends.{nothing, ◌▹◌, same_text}
@@ -29,40 +30,40 @@ use Rattle.sheet.specs.CapLines.{TellsLine, CountsMaking, WritesName, WritesNami
 
 -- ---- One line
 
--- the places of the forms that name a capability, of those that make records, and of all others
-abbrev namers : List ℕ
-namers = 9 ∷ 10 ∷ 14 ∷ []
+-- the forms that name a capability, those that make records, and all others
+abbrev namers : List Name
+namers = New ∷ Cast ∷ Copy ∷ []
 
-abbrev makers : List ℕ
-makers = 9 ∷ 14 ∷ []
+abbrev makers : List Name
+makers = New ∷ Copy ∷ []
 
-abbrev nameless : List ℕ
-nameless = 0 ∷ 1 ∷ 2 ∷ 3 ∷ 4 ∷ 5 ∷ 6 ∷ 7 ∷ 8 ∷ 11 ∷ 12 ∷ 13 ∷ []
+abbrev nameless : List Name
+nameless = NoForm ∷ Thread ∷ Method ∷ Kind ∷ Give ∷ Value ∷ Field ∷ Swap ∷ Call ∷ Spawn ∷ Send ∷ Recv ∷ []
 
-abbrev makeless : List ℕ
-makeless = 0 ∷ 1 ∷ 2 ∷ 3 ∷ 4 ∷ 5 ∷ 6 ∷ 7 ∷ 8 ∷ 10 ∷ 11 ∷ 12 ∷ 13 ∷ []
+abbrev makeless : List Name
+makeless = NoForm ∷ Thread ∷ Method ∷ Kind ∷ Give ∷ Value ∷ Field ∷ Swap ∷ Call ∷ Cast ∷ Spawn ∷ Send ∷ Recv ∷ []
 
 abbrev form_at : Form → ℕ
 form_at F = place (form_of (get_or (row F) 0 0))
 
-names_one : (F : Form) → OneOf namers (form_at F) → suc (rank (cap_of (get_or (row F) 1 0))) ≡ cap_named F
+names_one : (F : Form) → OneOf (map place namers) (form_at F) → suc (rank (cap_of (get_or (row F) 1 0))) ≡ cap_named F
 unfolding row pad line_words
-names_one (kind K) one = absurd (miss namers 3 tt one)
-names_one (opens thread) one = absurd (miss namers 1 tt one)
-names_one (opens method) one = absurd (miss namers 2 tt one)
-names_one (line (give w)) one = absurd (miss namers 4 tt one)
-names_one (line (bind (value w))) one = absurd (miss namers 5 tt one)
-names_one (line (bind (field s f))) one = absurd (miss namers 6 tt one)
-names_one (line (bind (swap s f w))) one = absurd (miss namers 7 tt one)
-names_one (line (bind (call s i w))) one = absurd (miss namers 8 tt one)
+names_one (kind K) one = absurd (miss (map place namers) 3 tt one)
+names_one (opens thread) one = absurd (miss (map place namers) 1 tt one)
+names_one (opens method) one = absurd (miss (map place namers) 2 tt one)
+names_one (line (give w)) one = absurd (miss (map place namers) 4 tt one)
+names_one (line (bind (value w))) one = absurd (miss (map place namers) 5 tt one)
+names_one (line (bind (field s f))) one = absurd (miss (map place namers) 6 tt one)
+names_one (line (bind (swap s f w))) one = absurd (miss (map place namers) 7 tt one)
+names_one (line (bind (call s i w))) one = absurd (miss (map place namers) 8 tt one)
 names_one (line (bind (new k n ws))) one = ap (λ c. suc (rank c)) (cap_of_rank k)
 names_one (line (bind (cast k w))) one = ap (λ c. suc (rank c)) (cap_of_rank k)
-names_one (line (bind (spawn b))) one = absurd (miss namers 11 tt one)
-names_one (line (bind (send s w))) one = absurd (miss namers 12 tt one)
-names_one (line (bind (recv s))) one = absurd (miss namers 13 tt one)
+names_one (line (bind (spawn b))) one = absurd (miss (map place namers) 11 tt one)
+names_one (line (bind (send s w))) one = absurd (miss (map place namers) 12 tt one)
+names_one (line (bind (recv s))) one = absurd (miss (map place namers) 13 tt one)
 names_one (line (bind (copy k s))) one = ap (λ c. suc (rank c)) (cap_of_rank k)
 
-names_none : (F : Form) → OneOf nameless (form_at F) → 0 ≡ cap_named F
+names_none : (F : Form) → OneOf (map place nameless) (form_at F) → 0 ≡ cap_named F
 unfolding row pad line_words
 names_none (kind K) one = refl
 names_none (opens o) one = refl
@@ -71,31 +72,31 @@ names_none (line (bind (value w))) one = refl
 names_none (line (bind (field s f))) one = refl
 names_none (line (bind (swap s f w))) one = refl
 names_none (line (bind (call s i w))) one = refl
-names_none (line (bind (new k n ws))) one = absurd (miss nameless 9 tt one)
-names_none (line (bind (cast k w))) one = absurd (miss nameless 10 tt one)
+names_none (line (bind (new k n ws))) one = absurd (miss (map place nameless) 9 tt one)
+names_none (line (bind (cast k w))) one = absurd (miss (map place nameless) 10 tt one)
 names_none (line (bind (spawn b))) one = refl
 names_none (line (bind (send s w))) one = refl
 names_none (line (bind (recv s))) one = refl
-names_none (line (bind (copy k s))) one = absurd (miss nameless 14 tt one)
+names_none (line (bind (copy k s))) one = absurd (miss (map place nameless) 14 tt one)
 
-makes_one : (F : Form) → OneOf makers (form_at F) → suc (rank (cap_of (get_or (row F) 1 0))) ≡ cap_made F
+makes_one : (F : Form) → OneOf (map place makers) (form_at F) → suc (rank (cap_of (get_or (row F) 1 0))) ≡ cap_made F
 unfolding row pad line_words
-makes_one (kind K) one = absurd (miss makers 3 tt one)
-makes_one (opens thread) one = absurd (miss makers 1 tt one)
-makes_one (opens method) one = absurd (miss makers 2 tt one)
-makes_one (line (give w)) one = absurd (miss makers 4 tt one)
-makes_one (line (bind (value w))) one = absurd (miss makers 5 tt one)
-makes_one (line (bind (field s f))) one = absurd (miss makers 6 tt one)
-makes_one (line (bind (swap s f w))) one = absurd (miss makers 7 tt one)
-makes_one (line (bind (call s i w))) one = absurd (miss makers 8 tt one)
+makes_one (kind K) one = absurd (miss (map place makers) 3 tt one)
+makes_one (opens thread) one = absurd (miss (map place makers) 1 tt one)
+makes_one (opens method) one = absurd (miss (map place makers) 2 tt one)
+makes_one (line (give w)) one = absurd (miss (map place makers) 4 tt one)
+makes_one (line (bind (value w))) one = absurd (miss (map place makers) 5 tt one)
+makes_one (line (bind (field s f))) one = absurd (miss (map place makers) 6 tt one)
+makes_one (line (bind (swap s f w))) one = absurd (miss (map place makers) 7 tt one)
+makes_one (line (bind (call s i w))) one = absurd (miss (map place makers) 8 tt one)
 makes_one (line (bind (new k n ws))) one = ap (λ c. suc (rank c)) (cap_of_rank k)
-makes_one (line (bind (cast k w))) one = absurd (miss makers 10 tt one)
-makes_one (line (bind (spawn b))) one = absurd (miss makers 11 tt one)
-makes_one (line (bind (send s w))) one = absurd (miss makers 12 tt one)
-makes_one (line (bind (recv s))) one = absurd (miss makers 13 tt one)
+makes_one (line (bind (cast k w))) one = absurd (miss (map place makers) 10 tt one)
+makes_one (line (bind (spawn b))) one = absurd (miss (map place makers) 11 tt one)
+makes_one (line (bind (send s w))) one = absurd (miss (map place makers) 12 tt one)
+makes_one (line (bind (recv s))) one = absurd (miss (map place makers) 13 tt one)
 makes_one (line (bind (copy k s))) one = ap (λ c. suc (rank c)) (cap_of_rank k)
 
-makes_none : (F : Form) → OneOf makeless (form_at F) → 0 ≡ cap_made F
+makes_none : (F : Form) → OneOf (map place makeless) (form_at F) → 0 ≡ cap_made F
 unfolding row pad line_words
 makes_none (kind K) one = refl
 makes_none (opens o) one = refl
@@ -104,40 +105,43 @@ makes_none (line (bind (value w))) one = refl
 makes_none (line (bind (field s f))) one = refl
 makes_none (line (bind (swap s f w))) one = refl
 makes_none (line (bind (call s i w))) one = refl
-makes_none (line (bind (new k n ws))) one = absurd (miss makeless 9 tt one)
+makes_none (line (bind (new k n ws))) one = absurd (miss (map place makeless) 9 tt one)
 makes_none (line (bind (cast k w))) one = refl
 makes_none (line (bind (spawn b))) one = refl
 makes_none (line (bind (send s w))) one = refl
 makes_none (line (bind (recv s))) one = refl
-makes_none (line (bind (copy k s))) one = absurd (miss makeless 14 tt one)
+makes_none (line (bind (copy k s))) one = absurd (miss (map place makeless) 14 tt one)
 
 -- of the words that were read
 module _ {t : List ℕ} {n w₀ : ℕ} {f : Name} (first : LineWord t n 0 w₀) (told : f ≡ form_of w₀) where
-  form_of_line : (keys : List ℕ) → OneOf keys (place f) → (counts rest : List ℕ) (Fs : List Form) → Filled t counts Fs rest → n < length Fs → OneOf keys (form_at (get_or Fs n no_form))
-  form_of_line keys one counts rest Fs filled there = subst (λ (x : ℕ). OneOf keys (place (form_of x))) (first.is counts rest Fs filled there) (subst (λ (g : Name). OneOf keys (place g)) told one)
+  form_of_line : (forms : List Name) → IsOneOf forms f → (counts rest : List ℕ) (Fs : List Form) → Filled t counts Fs rest → n < length Fs
+      → OneOf (map place forms) (form_at (get_or Fs n no_form))
+  form_of_line forms one counts rest Fs filled there =
+      subst (λ (x : ℕ). OneOf (map place forms) (place (form_of x))) (first.is counts rest Fs filled there)
+      (subst (λ (g : Name). OneOf (map place forms) (place g)) told (one_of_keys place forms f one))
 
   module _ {w₁ r : ℕ} (second : LineWord t n 1 w₁) (is : r ≡ suc (rank (cap_of w₁))) where
     cap_of_line : (counts rest : List ℕ) (Fs : List Form) → Filled t counts Fs rest → n < length Fs → r ≡ suc (rank (cap_of (get_or (row (get_or Fs n no_form)) 1 0)))
     cap_of_line counts rest Fs filled there = is ∙ ap (λ (w : ℕ). suc (rank (cap_of w))) (second.is counts rest Fs filled there)
 
-    pub named_some : OneOf namers (place f) → TellsLine t n cap_named r
+    pub named_some : IsOneOf namers f → TellsLine t n cap_named r
     named_some one =
         record {
           is = λ counts rest Fs filled there.
               cap_of_line counts rest Fs filled there ∙ names_one (get_or Fs n no_form) (form_of_line namers one counts rest Fs filled there);
         }
 
-    pub made_some : OneOf makers (place f) → TellsLine t n cap_made r
+    pub made_some : IsOneOf makers f → TellsLine t n cap_made r
     made_some one =
         record {
           is = λ counts rest Fs filled there.
               cap_of_line counts rest Fs filled there ∙ makes_one (get_or Fs n no_form) (form_of_line makers one counts rest Fs filled there);
         }
 
-  pub named_none : OneOf nameless (place f) → TellsLine t n cap_named 0
+  pub named_none : IsOneOf nameless f → TellsLine t n cap_named 0
   named_none one = record { is = λ counts rest Fs filled there. names_none (get_or Fs n no_form) (form_of_line nameless one counts rest Fs filled there) }
 
-  pub made_none : OneOf makeless (place f) → TellsLine t n cap_made 0
+  pub made_none : IsOneOf makeless f → TellsLine t n cap_made 0
   made_none one = record { is = λ counts rest Fs filled there. makes_none (get_or Fs n no_form) (form_of_line makeless one counts rest Fs filled there) }
 
 -- ---- The lines one by one

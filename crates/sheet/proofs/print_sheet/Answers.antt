@@ -14,7 +14,7 @@ print_faulty-requires c =
 
 pub print_filed-requires : goal.print_filed-requires
 print_filed-requires c =
-    let fit = parts_fit c.split-parts.ensures c.in-Turns.is in (fit.0, fit.1, omega (arith, fit.1, c.split-parts.auto.1.0), omega (arith, c.if-output-lt32768.false))
+    let fit = parts_fit c.split-parts.ensures c.in-Turns.is in (fit.0, fit.1, omega (arith, fit.1, c.split-parts.auto.turns), omega (arith, c.if-output-lt32768.false))
 
 pub returns-in-Away : goal.returns-in-Away
 returns-in-Away c = let all = sheet_told c.args.input.now c.args.output.now _ (omega (arith, c.if-output-lt32768.false)) (given_told c.split-parts.ensures (omega arith) _ c.in-Away.is) (sheet_printed c.put_away.ensures refl) in record { value = all.0; output_after = all.1 }

@@ -16,11 +16,11 @@ print_cut-requires c =
 
 pub returns-in-Away : goal.returns-in-Away
 returns-in-Away c =
-    away_printed c.split-parts.ensures (search rules) (search rules) c.in-Away.is c.print_refusal.ensures
+    away_printed c.split-parts.ensures (search rules) (search rules) c.in-Away.is (c.print_refusal.ensures.value, c.print_refusal.ensures.output_after)
 
 pub returns-in-Fault : goal.returns-in-Fault
 returns-in-Fault c =
-    fault_printed c.split-parts.ensures (search rules) (search rules) c.in-Fault.is c.print_refusal-in-Fault.ensures
+    fault_printed c.split-parts.ensures (search rules) (search rules) c.in-Fault.is (c.print_refusal-in-Fault.ensures.value, c.print_refusal-in-Fault.ensures.output_after)
 
 pub returns-in-Turns : goal.returns-in-Turns
 returns-in-Turns c =

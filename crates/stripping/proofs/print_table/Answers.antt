@@ -13,7 +13,7 @@ overflow_sub-n c =
 pub returns-then-n-last : goal.returns-then-n-last
 returns-then-n-last c =
     let told = called c.args.table.now _ _ c.write-written.result c.write-written.ensures (search rules) (search rules) in
-    says_too_long told c.args.last.now (search rules) c.in-Written.is c.if-n-last.true c.print_refusal-then-n-last.ensures
+    says_too_long told c.args.last.now (search rules) c.in-Written.is c.if-n-last.true (c.print_refusal-then-n-last.ensures.value, c.print_refusal-then-n-last.ensures.output_after)
 
 pub slice_bounds-text-end : goal.slice_bounds-text-end
 slice_bounds-text-end c =
@@ -40,7 +40,7 @@ put_text-requires c =
 pub returns-in-Refused : goal.returns-in-Refused
 returns-in-Refused c =
     let told = called c.args.table.now _ _ c.write-written.result c.write-written.ensures (search rules) (search rules) in
-    says_no_script told c.args.last.now (search rules) c.in-Refused.is c.print_refusal.ensures
+    says_no_script told c.args.last.now (search rules) c.in-Refused.is (c.print_refusal.ensures.value, c.print_refusal.ensures.output_after)
 
 pub returns-else-n-last : goal.returns-else-n-last
 returns-else-n-last c =

@@ -22,7 +22,7 @@ put_name-end-requires c =
 
 pub loop-n-preserved : goal.loop-n-preserved
 loop-n-preserved c =
-    (omega (arith, c.if-lines-n.false), omega (arith, c.loop-n-test.true), named_on c.loop-n.invariant.2 c.put_name-end.ensures c.put_name-end.auto.0)
+    (omega (arith, c.if-lines-n.false), omega (arith, c.loop-n-test.true), named_on c.loop-n.invariant.2 c.put_name-end.ensures c.put_name-end.auto.buf)
 
 pub shape_of-buf : goal.shape_of-buf
 shape_of-buf c = omega (arith, c.loop-n.invariant.2.same_length)

@@ -20,7 +20,7 @@ put_row-end-requires c =
 pub loop-t-preserved : goal.loop-t-preserved
 unfolding rows_text
 loop-t-preserved c =
-    (omega (arith, c.loop-t-test.true), c.put_row-end.auto.0 ∙ c.loop-t.invariant.1, same_text ((c.loop-t.t + 1) * 93) (sym (ap (rows_text c.args.counts.now) (add-one c.loop-t.t))) (omega arith) (c.loop-t.invariant.2 ▹ c.put_row-end.ensures))
+    (omega (arith, c.loop-t-test.true), c.put_row-end.auto.buf ∙ c.loop-t.invariant.1, same_text ((c.loop-t.t + 1) * 93) (sym (ap (rows_text c.args.counts.now) (add-one c.loop-t.t))) (omega arith) (c.loop-t.invariant.2 ▹ c.put_row-end.ensures))
 
 pub shape_of-buf : goal.shape_of-buf
 shape_of-buf c = omega (arith, c.loop-t.invariant.1)

@@ -17,4 +17,4 @@ pub returns-in-Refused : goal.returns-in-Refused
 returns-in-Refused c = let all = filed_refused c.make-guarded.ensures c.requires.1 c.requires.2 c.requires.3 c.in-Refused.is (same_text 32 refl (omega arith) c.put_text-a.ensures) c.put_refused-b.ensures c.put_refused_end-c.ensures in record { wrote = all.0; holds_value = all.1 }
 
 pub returns-in_default : goal.returns-in_default
-returns-in_default c = let all = filed_ran c.make-guarded.ensures c.requires.1 c.requires.2 c.requires.3 (other_answers_made c.make-guarded.result c.in_default.is) (same_text 32 refl (omega arith) c.put_text-a.ensures) c.put_ran.ensures in record { wrote = all.0; holds_value = all.1 }
+returns-in_default c = let all = filed_ran c.make-guarded.ensures c.requires.1 c.requires.2 c.requires.3 (other_answers_made c.make-guarded.result c.in_default.not-Refused) (same_text 32 refl (omega arith) c.put_text-a.ensures) c.put_ran.ensures in record { wrote = all.0; holds_value = all.1 }
