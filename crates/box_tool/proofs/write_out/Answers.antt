@@ -3,8 +3,8 @@ use mathlib.Core.Path.{refl}
 use mathlib.Core.Logic.{inl, inr}
 use Rattle.box_tool.proofs.write_out.Goals as goal
 
-pub returns-then-not-written : goal.returns-then-not-written
-returns-then-not-written c = inl refl
+pub returns-in-Err : goal.returns-in-Err
+returns-in-Err c = inl refl
 
 pub returns : goal.returns
 returns c = inr refl
