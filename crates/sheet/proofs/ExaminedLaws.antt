@@ -3,28 +3,25 @@ use Prim.Native.Nat.{ℕ, ◌≤◌}
 use native.Mathlib.Omega.{arith}
 use mathlib.Core.Path.{◌≡◌, refl, sym, ap, ◌∙◌, subst}
 use mathlib.Core.Bool.{Bool, true, false, ◌||◌}
-use mathlib.Core.List.{List, []}
+use mathlib.Core.List.{List}
 use lib.ListN.{length, take}
 use lib.Seq.{length-take-le}
 use borrow.Author.Tests.{le-ltb}
 use Rattle.rules.specs.Mosts as Most
 use Rattle.rules.specs.Mosts.{mosts}
 use Rattle.rules.specs.Script.{Program}
-use Rattle.rules.specs.Reading.{Reading, turned_away, accepted, reading}
+use Rattle.rules.specs.Reading.{Reading, reading}
 use Rattle.rules.specs.Stripped.{strip, erase}
 use Rattle.rules.specs.Calls.{long_text, long_turns, inputs}
 use Rattle.table.specs.ProgramTable.{fresh_table, Same}
 use Rattle.table.specs.StateTable.{Becomes}
 use Rattle.run.specs.declared.Answer.{Answer}
-use Rattle.run.specs.RunAnswers.{answer_of}
 use Rattle.run.specs.Made.{Holds, Made}
-use Rattle.tally.specs.Fates.{tally, played}
 use Rattle.tally.specs.Counted.{Tallies}
-use Rattle.stripping.specs.StrippedRuns.{stripped_of, MakesStripped, guards_change_nothing}
+use Rattle.stripping.specs.StrippedRuns.{stripped_of, MakesStripped}
 use Rattle.stripping.proofs.FourthCondition.{condition_told}
-use Rattle.sheet.specs.Ticks.{reading_of, stripped_answer}
+use Rattle.sheet.specs.Ticks.{reading_of}
 use Rattle.sheet.specs.Examined.{ReadsAs, StrippedAnswers, ComparesRuns, Examines}
-use Rattle.sheet.specs.declared.examined.Examined.{Examined}
 
 -- ---- The inputs
 

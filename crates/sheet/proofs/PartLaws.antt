@@ -1,5 +1,5 @@
 -- What the parts of a sheet find in the table of a program.
-use Prim.Native.Nat.{ℕ, ◌+◌, ◌≤◌}
+use Prim.Native.Nat.{ℕ, ◌+◌}
 use native.Mathlib.Omega.{arith}
 use mathlib.Core.Path.{◌≡◌, refl, sym, ap, ◌∙◌}
 use mathlib.Core.Bool.{true}
@@ -19,7 +19,7 @@ use Rattle.table.specs.ProgramTable.{Filled, LineCount, EditionIs}
 use Rattle.table.proofs.ProgramTable.{program_words_by_lines}
 use Rattle.table.proofs.ProgramLines.{blocks_of_lines}
 use Rattle.sheet.specs.Ticks.{making, naming}
-use Rattle.sheet.specs.SheetText.{title_one, title_two, tick, line_count, read_text, cap_text, cap_counts, names_or_none, naming_of, two_text}
+use Rattle.sheet.specs.SheetText.{title_one, title_two, tick, read_text, cap_text, cap_counts, names_or_none, naming_of, two_text}
 use Rattle.sheet.specs.CapLines.{CountsMaking, WritesNaming}
 use Rattle.sheet.specs.SheetParts.{WritesProgram, FirstNumber}
 

@@ -1,6 +1,5 @@
 -- What the sheets come to.
-use Rattle.std.specs.Prelude.{ℕ, ◌≤◌, ◌≡◌, Bool, List, ◌++◌, length, drop}
-use Rattle.rules.specs.Mosts.{mosts}
+use Rattle.std.specs.Prelude.{ℕ, ◌≡◌, Bool, List, ◌++◌, length, drop}
 use Rattle.rules.specs.Script.{Program}
 use Rattle.rules.specs.Reading.{accepted}
 use Rattle.buffer.specs.Writing.{Wrote}

@@ -1,8 +1,7 @@
 -- Before turn n the lines before n are counted.
-use Prim.Native.Nat.{◌-◌, ◌≤◌}
 use native.Mathlib.Omega.{arith}
 use mathlib.Core.Logic.{inl, inr}
-use Rattle.sheet.proofs.CapLaws.{CountedTo, counted_none, counted_on, counted_all}
+use Rattle.sheet.proofs.CapLaws.{counted_none, counted_on, counted_all}
 use Rattle.sheet.proofs.cap_lines.count_making.Goals as goal
 
 pub loop-n-init : goal.loop-n-init

@@ -1,9 +1,8 @@
 -- Before turn n the lines before n are counted.
 use Prim.Native.Nat.{◌-◌, ◌≤◌}
-use native.Mathlib.Omega.{arith}
-use mathlib.Core.Logic.{inl, inr}
-use Rattle.sheet.proofs.CapLaws.{CountedTo, counted_none, counted_on, counted_all}
+use Rattle.sheet.proofs.CapLaws.{CountedTo}
 use Rattle.sheet.proofs.cap_lines.count_making.Given as goal
+
 abbrev pub invariant-loop-n : goal.invariant-loop-n
 invariant-loop-n l = (l.n ≤ l.lines) × (l.n ≤ 672) × CountedTo l.p l.k l.n l.count
 

@@ -1,8 +1,7 @@
 -- Before turn n the numbers of the lines before n are written.
-use Prim.Native.Nat.{◌-◌, ◌≤◌}
 use native.Mathlib.Omega.{arith}
 use mathlib.Core.Logic.{inl, inr}
-use Rattle.sheet.proofs.CapLaws.{NamedTo, named_start, named_on, named_all}
+use Rattle.sheet.proofs.CapLaws.{named_start, named_on, named_all}
 use Rattle.sheet.proofs.cap_lines.put_naming.Goals as goal
 
 pub loop-n-init : goal.loop-n-init

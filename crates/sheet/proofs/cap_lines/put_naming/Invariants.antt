@@ -1,9 +1,8 @@
 -- Before turn n the numbers of the lines before n are written.
 use Prim.Native.Nat.{◌-◌, ◌≤◌}
-use native.Mathlib.Omega.{arith}
-use mathlib.Core.Logic.{inl, inr}
-use Rattle.sheet.proofs.CapLaws.{NamedTo, named_start, named_on, named_all}
+use Rattle.sheet.proofs.CapLaws.{NamedTo}
 use Rattle.sheet.proofs.cap_lines.put_naming.Given as goal
+
 abbrev pub invariant-loop-n : goal.invariant-loop-n
 invariant-loop-n l = (l.n ≤ l.lines) × (l.n ≤ 672) × NamedTo l.p l.first l.n l.initial.buf l.buf l.at l.end
 

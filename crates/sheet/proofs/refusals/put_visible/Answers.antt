@@ -1,11 +1,10 @@
 -- Before turn i the first i bytes of the line stand there, each as it is shown.
-use Prim.Native.Nat.{ℕ, ◌+◌, ◌-◌, ◌≤◌}
+use Prim.Native.Nat.{ℕ}
 use native.Mathlib.Nat.{add-zero}
 use native.Mathlib.Omega.{arith}
 use mathlib.Core.List.{map}
 use mathlib.Core.Path.{◌≡◌, ap}
-use lib.ListN.{length, take}
-use Rattle.buffer.specs.Writing.{Wrote}
+use lib.ListN.{take}
 use Rattle.buffer.proofs.Appends.{same_text, nothing}
 use Rattle.sheet.specs.SheetText.{visible as visibleByte}
 use Rattle.sheet.proofs.RefusalLaws.{one_more_as}

@@ -1,15 +1,12 @@
 -- Before turn i the first i bytes of the line stand there, each as it is shown.
-use Prim.Native.Nat.{ℕ, ◌+◌, ◌-◌, ◌≤◌}
-use native.Mathlib.Nat.{add-zero}
-use native.Mathlib.Omega.{arith}
+use Prim.Native.Nat.{◌+◌, ◌-◌, ◌≤◌}
 use mathlib.Core.List.{map}
-use mathlib.Core.Path.{◌≡◌, ap}
+use mathlib.Core.Path.{◌≡◌}
 use lib.ListN.{length, take}
 use Rattle.buffer.specs.Writing.{Wrote}
-use Rattle.buffer.proofs.Appends.{same_text, nothing}
 use Rattle.sheet.specs.SheetText.{visible as visibleByte}
-use Rattle.sheet.proofs.RefusalLaws.{one_more_as}
 use Rattle.sheet.proofs.refusals.put_visible.Given as goal
+
 abbrev pub invariant-loop-i : goal.invariant-loop-i
 invariant-loop-i l = (l.i ≤ l.n) × (length l.buf ≡ length l.initial.buf) × Wrote l.i l.initial.buf l.buf l.at (l.at + l.i) (map visibleByte (take l.i l.line))
 

@@ -1,10 +1,8 @@
 -- Before turn t the rows before t are written.
-use Prim.Native.Nat.{◌+◌, ◌*◌, ◌-◌, ◌≤◌}
+use Prim.Native.Nat.{◌+◌, ◌*◌}
 use native.Mathlib.Omega.{arith}
 use native.Mathlib.Numerals.{add-one}
-use mathlib.Core.Path.{◌≡◌, refl, sym, ap, ◌∙◌}
-use lib.ListN.{length}
-use Rattle.buffer.specs.Writing.{Wrote}
+use mathlib.Core.Path.{refl, sym, ap, ◌∙◌}
 use Rattle.buffer.proofs.Appends.{nothing, ◌▹◌, same_text}
 use Rattle.sheet.specs.SheetText.{rows_text}
 use Rattle.sheet.proofs.rows.put_rows.Goals as goal
