@@ -1,8 +1,8 @@
 -- The status that is told by what was printed of a run, or of an input that is saved, is that of what the input comes to: a refusal begins with
 -- its word, a run with another, and an input that is accepted with a form.
-use Prim.Native.Nat.{ℕ, ◌+◌, ◌≤◌, ◌<◌}
+use Prim.Native.Nat.{ℕ, ◌<◌}
 use native.Mathlib.Omega.{arith}
-use mathlib.Core.Path.{◌≡◌, refl, sym, ap, ◌∙◌, subst}
+use mathlib.Core.Path.{◌≡◌, refl, sym, ap, ◌∙◌}
 use mathlib.Core.Bool.{Bool, true, false, ◌||◌, cond}
 use mathlib.Core.List.{List, [], ◌∷◌, ◌++◌, append_assoc, append-nil, map}
 use lib.Dec.{ltb}
@@ -10,7 +10,7 @@ use lib.ListN.{length}
 use Rattle.rules.specs.Mosts as Most
 use Rattle.rules.specs.Mosts.{mosts}
 use Rattle.rules.specs.Numbers as No
-use Rattle.rules.specs.Text.{bytes, lines, join}
+use Rattle.rules.specs.Text.{lines, join}
 use Rattle.rules.specs.Script.{value, field, swap, call, new, cast, spawn, send, recv, copy, bind, give, thread, method, Form, kind, opens, line}
 use Rattle.rules.specs.Script.{Edition, edition1, edition2, Kind, Block, Program, block_lines, kind_lines, lines_of}
 use Rattle.rules.specs.Templates.{print, show, head_of}
@@ -18,7 +18,7 @@ use Rattle.rules.specs.Reading.{Reading, turned_away, accepted, reading, script}
 use Rattle.rules.specs.Run.{Run, Stop, none, stopped, refused, run, answer, answer_of}
 use Rattle.rules.specs.Calls.{long_text, long_turns}
 use Rattle.rules.specs.Listing.{bracket, a_line, answer_line, listing}
-use Rattle.rules.specs.Input.{Turns, fault, turns, turns_of, last_line, lines_before, Outcome, turns_away, ran, ran_on, outcome_by, outcome, printed, boxrun}
+use Rattle.rules.specs.Input.{Turns, fault, turns, turns_of, last_line, lines_before, Outcome, turns_away, ran_on, outcome_by, outcome, printed, boxrun}
 use Rattle.rules.proofs.Printing.{join_lines}
 use Rattle.rules.proofs.Accepted.{accepted_valid, accepted_prints, reading_accepted}
 use Rattle.grammar.specs.Words.{begins}

@@ -200,15 +200,13 @@ fn perform(rt: &HostRuntime, i: usize) -> u8
 }
 
 // How many arguments there are after argument i.
-fn words_after(rt: &HostRuntime, i: usize) -> usize
-    requires { i ≤ 2 }
-{
-    for count in 0..usize::MAX - 3 {
-        if !has_argument(rt, i + 1 + count) {
+fn words_after(rt: &HostRuntime, i: usize) -> usize {
+    for count in 0..usize::MAX {
+        if !has_argument(rt, i.saturating_add(1).saturating_add(count)) {
             return count;
         }
     }
-    usize::MAX - 3
+    usize::MAX
 }
 
 // Whether there is an argument i.

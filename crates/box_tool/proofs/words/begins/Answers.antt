@@ -1,9 +1,6 @@
 -- The bytes from here on are compared as all of them are; the word is left where it ends, the text ends or a byte differs.
-use Prim.Native.Nat.{◌-◌, ◌≤◌}
 use native.Mathlib.Omega.{arith}
-use mathlib.Core.Path.{◌≡◌, refl, sym, ◌∙◌}
-use lib.ListN.{length, drop}
-use Rattle.grammar.specs.Words as Words
+use mathlib.Core.Path.{refl, sym, ◌∙◌}
 use Rattle.box_tool.proofs.Begins.{whole_word, text_ends, byte_differs, byte_agrees}
 use Rattle.std.proofs.Common.{rules}
 use Rattle.box_tool.proofs.words.begins.Goals as goal

@@ -1,10 +1,8 @@
 -- The bytes from here on are compared as all of them are; the word is left where it ends, the text ends or a byte differs.
 use Prim.Native.Nat.{◌-◌, ◌≤◌}
-use native.Mathlib.Omega.{arith}
-use mathlib.Core.Path.{◌≡◌, refl, sym, ◌∙◌}
+use mathlib.Core.Path.{◌≡◌}
 use lib.ListN.{length, drop}
 use Rattle.grammar.specs.Words as Words
-use Rattle.box_tool.proofs.Begins.{whole_word, text_ends, byte_differs, byte_agrees}
 use Rattle.box_tool.proofs.words.begins.Given as goal
 
 abbrev pub invariant-loop-i : goal.invariant-loop-i
