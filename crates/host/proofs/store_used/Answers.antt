@@ -28,7 +28,7 @@ loop-i-init c =
 
 pub bounds-t-i-in-loop-i : goal.bounds-t-i-in-loop-i
 bounds-t-i-in-loop-i c =
-    simp length-set (omega (arith, c.loop-i.invariant.2, c.store.auto.0, c.requires.2, c.loop-i-test.true))
+    simp length-set (omega (arith, c.loop-i.invariant.2, c.store.auto.t, c.requires.2, c.loop-i-test.true))
 
 pub loop-i-preserved : goal.loop-i-preserved
 loop-i-preserved c =
