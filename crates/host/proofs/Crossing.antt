@@ -15,7 +15,6 @@ use Rattle.rules.specs.Lists.{pad}
 use Rattle.rules.specs.Script.{Program, lines_of}
 use Rattle.rules.specs.Valid.{Valid}
 use Rattle.rules.specs.Reading.{Reading, turned_away, accepted}
-use Rattle.rules.specs.State.{State}
 use Rattle.rules.specs.Run as R
 use Rattle.rules.specs.Run.{run, answer}
 use Rattle.rules.specs.Tables.{edition_word, program_words, state_words}
@@ -38,13 +37,13 @@ use Rattle.writer.specs.WriteAnswers as Writer
 use Rattle.run.specs.declared.Answer.{Answer}
 use Rattle.run.specs.declared.Answer.TheVariants as A
 use Rattle.run.specs.RunAnswers.{answer_of, is_refusal, Tells}
-use Rattle.run.specs.Made.{Holds, Made, Makes}
+use Rattle.run.specs.Made.{Made, Makes}
 use Rattle.run.proofs.AnswerTells.{IsMade, made_is, refused_is, refusal_is, answers_are}
 use Rattle.reach.specs.declared.Report as Reached
 use Rattle.reach.specs.declared.Report.TheVariants as T
 use Rattle.reach.specs.Reported.{report_of, ReportsState}
 use Rattle.host.specs.Bytes.{bytes_of, bytes_after, words_of}
-use Rattle.host.specs.ByteCalls.{short_bytes, table_after, read_bytes, HasRead, lent_bytes, ran_words, Stores, TellsAnswer, Guarded, Demand3, run_bytes, HasRun, report_number, report_line, report_count, list_bytes, Reports, reach_bytes, HasReported, write_number, write_length, WritesBytes}
+use Rattle.host.specs.ByteCalls.{short_bytes, table_after, read_bytes, HasRead, lent_bytes, ran_words, Stores, TellsAnswer, Demand3, run_bytes, HasRun, report_line, Reports, reach_bytes, HasReported, write_number, write_length, WritesBytes}
 use Rattle.host.proofs.Stored.{bytes_length, stored}
 use Rattle.host.proofs.Loaded.{short_words, long_words}
 

@@ -1,5 +1,5 @@
 -- `host::store` meets its contract: after i words the first 2 i bytes are theirs, and the others are as they were.
-use Prim.Native.Nat.{◌≤◌, ◌<◌, ◌+◌, ◌-◌, ◌*◌}
+use Prim.Native.Nat.{◌<◌, ◌+◌, ◌*◌}
 use native.Mathlib.Nat.{le_refl}
 use native.Mathlib.Omega.{arith}
 use mathlib.Core.Path.{◌≡◌, refl}
@@ -13,12 +13,6 @@ use Rattle.host.proofs.store.Goals as goal
 pub loop-i-init : goal.loop-i-init
 unfolding bytes_of
 loop-i-init c = (search rules, refl, refl)
-
-pub overflow_cast-t : goal.overflow_cast-t
-overflow_cast-t c = omega (arith, c.shared_slice_known-1.given c.loop-i.i)
-
-pub overflow_cast-t-in-loop-i : goal.overflow_cast-t-in-loop-i
-overflow_cast-t-in-loop-i c = omega (arith, c.shared_slice_known-1.given c.loop-i.i)
 
 pub bounds-t-i-in-loop-i : goal.bounds-t-i-in-loop-i
 bounds-t-i-in-loop-i c =

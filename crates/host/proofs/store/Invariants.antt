@@ -1,13 +1,10 @@
 -- `host::store` meets its contract: after i words the first 2 i bytes are theirs, and the others are as they were.
-use Prim.Native.Nat.{◌≤◌, ◌<◌, ◌+◌, ◌-◌, ◌*◌}
-use native.Mathlib.Nat.{le_refl}
-use native.Mathlib.Omega.{arith}
-use mathlib.Core.Path.{◌≡◌, refl}
-use lib.ListN.{length, take, length-set}
-use lib.Seq.{take_all}
-use Rattle.host.specs.Bytes.{bytes_of, bytes_after}
-use Rattle.host.proofs.Stored.{store_next}
+use Prim.Native.Nat.{◌≤◌, ◌-◌}
+use mathlib.Core.Path.{◌≡◌}
+use lib.ListN.{length, take}
+use Rattle.host.specs.Bytes.{bytes_after}
 use Rattle.host.proofs.store.Given as goal
+
 abbrev pub invariant-loop-i : goal.invariant-loop-i
 invariant-loop-i l = (l.i ≤ length l.words) × (length l.t ≡ length l.initial.t) × (l.t ≡ bytes_after l.i (take l.i l.words) l.initial.t)
 

@@ -1,13 +1,9 @@
 -- `host::store_used` meets its contract: the words are stored, then before turn i the words behind them up to i are zeros.
-use Prim.Native.Nat.{ℕ, ◌≤◌, ◌-◌}
 use native.Mathlib.Nat.{le_refl}
 use native.Mathlib.Omega.{arith}
-use mathlib.Core.Path.{◌≡◌, refl, sym}
-use mathlib.Core.List.{List}
-use lib.ListN.{length, take, length-set}
+use mathlib.Core.Path.{refl, sym}
+use lib.ListN.{length-set}
 use lib.Seq.{length-take-le}
-use Rattle.rules.specs.Lists.{pad}
-use Rattle.host.specs.Bytes.{bytes_after}
 use Rattle.host.proofs.Stored.{used_begun, used_next, used_end}
 use Rattle.host.proofs.store_used.Goals as goal
 
@@ -28,7 +24,7 @@ loop-i-init c =
 
 pub bounds-t-i-in-loop-i : goal.bounds-t-i-in-loop-i
 bounds-t-i-in-loop-i c =
-    simp length-set (omega (arith, c.loop-i.invariant.2, c.store.auto.0, c.requires.2, c.loop-i-test.true))
+    simp length-set (omega (arith, c.loop-i.invariant.2, c.store.auto.t, c.requires.2, c.loop-i-test.true))
 
 pub loop-i-preserved : goal.loop-i-preserved
 loop-i-preserved c =

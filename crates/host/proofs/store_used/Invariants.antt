@@ -1,15 +1,12 @@
 -- `host::store_used` meets its contract: the words are stored, then before turn i the words behind them up to i are zeros.
 use Prim.Native.Nat.{ℕ, ◌≤◌, ◌-◌}
-use native.Mathlib.Nat.{le_refl}
-use native.Mathlib.Omega.{arith}
-use mathlib.Core.Path.{◌≡◌, refl, sym}
+use mathlib.Core.Path.{◌≡◌}
 use mathlib.Core.List.{List}
-use lib.ListN.{length, take, length-set}
-use lib.Seq.{length-take-le}
+use lib.ListN.{length, take}
 use Rattle.rules.specs.Lists.{pad}
 use Rattle.host.specs.Bytes.{bytes_after}
-use Rattle.host.proofs.Stored.{used_begun, used_next, used_end}
 use Rattle.host.proofs.store_used.Given as goal
+
 abbrev pub invariant-loop-i : goal.invariant-loop-i
 invariant-loop-i l =
     (l.n ≤ l.i) × (l.i ≤ 8192) × (length l.t ≡ length l.initial.t)
