@@ -13,7 +13,7 @@ used_words-requires c =
 pub store_used-requires : goal.store_used-requires
 store_used-requires c =
     let a = c.args in
-    (omega (arith, ap length c.requires.0, fresh_length, c.used_words.ensures.value.1), c.used_words.ensures.value.1, (store_room a.text.now a.turns.now a.program.now a.state.now a.short c.requires.0 c.requires.1 c.make-answer.ensures (sym c.is_refusal.ensures ∙ c.if-not-is_refusal.true)).0)
+    (omega (arith, ap length c.requires.0, ap length c.requires.1, fresh_length, c.used_words.ensures.value.1), c.used_words.ensures.value.1, (store_room a.text.now a.turns.now a.program.now a.state.now a.short c.requires.0 c.requires.1 c.make-answer.ensures (sym c.is_refusal.ensures ∙ c.if-not-is_refusal.true)).0)
 
 pub store-requires : goal.store-requires
 store-requires c =
