@@ -1,12 +1,13 @@
 #!/usr/bin/env python3
 """Spells this repository's own definitions and lemmas in snake case, in its sources, proofs, edits and pages.
 
-usage: tools/spell.py [--check] [FOLDER]
+usage: tools/spell.py [--check | --last] [FOLDER]
 
 A name is one's own where a file of crates/*/specs or crates/*/proofs declares it. Types and modules keep their capitals, and so does every name of Rust.
 A name that a file imports from a library stays in that file, and so does a name behind a dot in a function's own proof folder, but for the fields of
 records and the names of specs. Two names that would fall together, or that would meet a word of a file that has them, are printed and end the run;
-RENAMED gives such names another spelling. --check writes nothing.
+RENAMED gives such names another spelling. LAST has constructors, a record, a binder and fields that the rule does not see or does not name well; --last turns
+these alone. --check writes nothing.
 """
 
 import os
@@ -60,6 +61,38 @@ FIRST = [
     ("crates/reader/proofs/Scan.antt", r"(?<=\.)in_place(?![\w-])", "is_in_place"),
     ("crates/theorems/proofs/", r"(?<=\.)in_place(?![\w-])|(?<![\w.-])in_place(?= [=:] )", "is_in_place"),
 ]
+# What is turned at the end: the beginning of a path, a word, and what stands for it. A word in LAST_OF is of one crate or file alone.
+LAST = {
+    "openEnd": "open_end",
+    "oneNumber": "one_number",
+    "oneOperand": "one_operand",
+    "oneCap": "one_cap",
+    "manyNumbers": "many_numbers",
+    "manyOperands": "many_operands",
+    "Done-with": "DoneWith",
+    "isMet": "is_met",
+    "visibleByte": "visible_byte",
+    "program_words_lem": "program_words_are",
+    "state_words_lem": "state_words_are",
+}
+LAST_OF = [
+    ("crates/rules/specs/Turn.antt", "permit : (is_foreign isAlias isOther : Bool)", "permit : (is_foreign is_alias is_other : Bool)"),
+    ("crates/reader/", "line_count_lem", "line_count_is"),
+    ("crates/stripping/specs/StrippedTexts.antt", "no_script_lem", "no_script_again"),
+    ("crates/stripping/proofs/", "too_long, no_script_lem, Prints", "too_long, no_script_again, Prints"),
+    ("crates/stripping/proofs/", "(no_script_lem none.1)", "(no_script_again none.1)"),
+    ("crates/", "no_script_lem", "no_script_answers"),
+    ("crates/theorems/", "put_by_lem", "put_by_waits"),
+]
+
+
+def at_last(text, path):
+    for old, new in LAST.items():
+        text = re.sub(r"(?<![\w'-])" + old + r"(?![\w'-])", new, text)
+    for where, old, new in LAST_OF:
+        if where in path:
+            text = re.sub(r"(?<![\w'-])" + re.escape(old) + r"(?![\w'-])", new, text)
+    return text
 
 
 def in_snake_case(name):
@@ -143,10 +176,28 @@ def turned(text, path, names, behind, met):
     return WORD.sub(word, text)
 
 
+def pages_too(root):
+    crates = texts(os.path.join(root, "crates"), (".antt", ".rt", ".edit", ".md"))
+    return [*crates, *texts(os.path.join(root, "docs"), (".md",)), os.path.join(root, "README.md")]
+
+
+def last(root):
+    for path in pages_too(root):
+        text = read(path)
+        out = at_last(text, path)
+        if out != text:
+            print(os.path.relpath(path, root))
+            with open(path, "w", encoding="utf-8") as f:
+                f.write(out)
+    return 0
+
+
 def main(argv):
     check = "--check" in argv
-    roots = [a for a in argv if a != "--check"]
+    roots = [a for a in argv if a[:2] != "--"]
     root = roots[0] if roots else os.path.dirname(os.path.dirname(os.path.realpath(__file__)))
+    if "--last" in argv:
+        return last(root)
     found, behind = own(root)
     names = {n: RENAMED.get(n, in_snake_case(n)) for n in found}
     bad = 0
@@ -161,10 +212,10 @@ def main(argv):
             bad += 1
         new[names[old]] = old
     changed = []
-    for path in [*texts(os.path.join(root, "crates"), (".antt", ".rt", ".edit", ".md")), *texts(os.path.join(root, "docs"), (".md",)), os.path.join(root, "README.md")]:
+    for path in pages_too(root):
         text = read(path)
         met = set()
-        out = turned(text, path, names, behind, met)
+        out = at_last(turned(text, path, names, behind, met), path)
         if out == text:
             continue
         if path.endswith(".antt"):

@@ -17,7 +17,7 @@ use Rattle.rules.specs.Numbers as No
 use Rattle.rules.specs.Lists.{any, all, Every}
 use Rattle.rules.specs.Text.{bytes, lf, allowed, stray, lines, join}
 use Rattle.rules.specs.Script.{Operand, reads, takes, Form, opens, thread}
-use Rattle.rules.specs.Templates.{Taken, took, unfit, ◌>>=◌, or_else, digits, digit, digit_at, decimal, print_operand, cap_word, print_many, Part, character, oneNumber, oneOperand, oneCap, manyNumbers, manyOperands, Holds, fit, print, Rule, forms, rule_at, decode, show, script_t}
+use Rattle.rules.specs.Templates.{Taken, took, unfit, ◌>>=◌, or_else, digits, digit, digit_at, decimal, print_operand, cap_word, print_many, Part, character, one_number, one_operand, one_cap, many_numbers, many_operands, Holds, fit, print, Rule, forms, rule_at, decode, show, script_t}
 use Rattle.rules.specs.Reading.{Sofar, fault, form_step, line_step}
 use Rattle.rules.proofs.ListLaws.{impossible, by_bool, and_true, all_true, every_at, every_append}
 use Rattle.rules.proofs.Printing.{says_of, Short, fit_front, fit_prints, decode_prints, join_lines}
@@ -169,22 +169,22 @@ line_template : List Part → Bool
 line_template [] = false
 line_template (character c ∷ []) = eqb c lf
 line_template (character c ∷ (q ∷ t)) = inner c && line_template (q ∷ t)
-line_template (oneNumber ∷ t) = line_template t
-line_template (oneOperand ∷ t) = line_template t
-line_template (oneCap ∷ t) = line_template t
-line_template (manyNumbers ∷ t) = line_template t
-line_template (manyOperands ∷ t) = line_template t
+line_template (one_number ∷ t) = line_template t
+line_template (one_operand ∷ t) = line_template t
+line_template (one_cap ∷ t) = line_template t
+line_template (many_numbers ∷ t) = line_template t
+line_template (many_operands ∷ t) = line_template t
 
 print_one_line : (t : List Part) (p : Holds t) → line_template t ≡ true → OneLine (print t p)
 unfolding line_template print
 print_one_line [] p h = absurd (false≢true h)
 print_one_line (character c ∷ []) p h = rw (eqb-true c lf h) ends
 print_one_line (character c ∷ (q ∷ t)) p h = let k = and_true (inner c) (line_template (q ∷ t)) h in goes k.0 (print_one_line (q ∷ t) p k.1)
-print_one_line (oneNumber ∷ t) p h = inner_before (decimal p.0) (decimal_inner p.0) (print_one_line t p.1 h)
-print_one_line (oneOperand ∷ t) p h = inner_before (print_operand p.0) (operand_inner p.0) (print_one_line t p.1 h)
-print_one_line (oneCap ∷ t) p h = inner_before (cap_word p.0) (cap_inner p.0) (print_one_line t p.1 h)
-print_one_line (manyNumbers ∷ t) p h = inner_before (print_many decimal p.0) (many_inner decimal decimal_inner p.0) (print_one_line t p.1 h)
-print_one_line (manyOperands ∷ t) p h = inner_before (print_many print_operand p.0) (many_inner print_operand operand_inner p.0) (print_one_line t p.1 h)
+print_one_line (one_number ∷ t) p h = inner_before (decimal p.0) (decimal_inner p.0) (print_one_line t p.1 h)
+print_one_line (one_operand ∷ t) p h = inner_before (print_operand p.0) (operand_inner p.0) (print_one_line t p.1 h)
+print_one_line (one_cap ∷ t) p h = inner_before (cap_word p.0) (cap_inner p.0) (print_one_line t p.1 h)
+print_one_line (many_numbers ∷ t) p h = inner_before (print_many decimal p.0) (many_inner decimal decimal_inner p.0) (print_one_line t p.1 h)
+print_one_line (many_operands ∷ t) p h = inner_before (print_many print_operand p.0) (many_inner print_operand operand_inner p.0) (print_one_line t p.1 h)
 
 forms_of_one_line : all (λ r. line_template r.template) forms ≡ true
 unfolding all line_template allowed

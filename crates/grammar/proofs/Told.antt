@@ -6,7 +6,7 @@ use mathlib.Core.List.{List, [], ◌∷◌, ◌++◌, map}
 use lib.Dec.{eqb, ltb}
 use lib.ListN.{length, drop}
 use lib.Seq.{drop-drop}
-use Rattle.rules.specs.Templates.{Taken, took, unfit, ◌>>=◌, literal, number, operand, capability, many, Part, character, oneNumber, oneOperand, oneCap, manyNumbers, manyOperands, template, Holds, fit}
+use Rattle.rules.specs.Templates.{Taken, took, unfit, ◌>>=◌, literal, number, operand, capability, many, Part, character, one_number, one_operand, one_cap, many_numbers, many_operands, template, Holds, fit}
 use Rattle.rules.specs.Mosts as Most
 use Rattle.rules.specs.Script.{Operand}
 use Rattle.rules.specs.Reading.{slot_of, takes_first}
@@ -116,29 +116,29 @@ module _ {s : List ℕ} where
   -- a number, an operand, a capability, numbers, operands
   module _ {t : List Part} {at e : ℕ} {ok : Bool} {p : Holds t} where
     pub a_number : (x : Read) → number (drop at s) ≡ cond x.ok (took x.word (drop x.end s)) unfit → Told t s x.end ok p e
-        → Told (oneNumber ∷ t) s at (x.ok && ok) (x.word, p) e
+        → Told (one_number ∷ t) s at (x.ok && ok) (x.word, p) e
     unfolding fit
     a_number x h T = record { fits = part_fits (fit t) x.ok ok x.word p (drop x.end s) (drop e s) h T.fits }
 
     pub an_operand : (x : Read) → operand (drop at s) ≡ cond x.ok (took (operand_of x.word) (drop x.end s)) unfit → Told t s x.end ok p e
-        → Told (oneOperand ∷ t) s at (x.ok && ok) (operand_of x.word, p) e
+        → Told (one_operand ∷ t) s at (x.ok && ok) (operand_of x.word, p) e
     unfolding fit
     an_operand x h T = record { fits = part_fits (fit t) x.ok ok (operand_of x.word) p (drop x.end s) (drop e s) h T.fits }
 
     pub a_cap : (x : Read) → capability (drop at s) ≡ cond x.ok (took (cap_of x.word) (drop x.end s)) unfit → Told t s x.end ok p e
-        → Told (oneCap ∷ t) s at (x.ok && ok) (cap_of x.word, p) e
+        → Told (one_cap ∷ t) s at (x.ok && ok) (cap_of x.word, p) e
     unfolding fit
     a_cap x h T = record { fits = part_fits (fit t) x.ok ok (cap_of x.word) p (drop x.end s) (drop e s) h T.fits }
 
     pub numbers_fit : (fits : Bool) (ns : List ℕ) (end : ℕ) → many number (length (drop at s)) (drop at s) ≡ cond fits (took ns (drop end s)) unfit → Told t s end ok p e
-        → Told (manyNumbers ∷ t) s at (fits && ok) (ns, p) e
+        → Told (many_numbers ∷ t) s at (fits && ok) (ns, p) e
     unfolding fit
     numbers_fit fits ns end h T = record { fits = part_fits (fit t) fits ok ns p (drop end s) (drop e s) h T.fits }
 
-    pub some_numbers : {x : Items} (N : NumbersAt s at x) → Told t s x.end ok p e → Told (manyNumbers ∷ t) s at (x.ok && ok) (N.items, p) e
+    pub some_numbers : {x : Items} (N : NumbersAt s at x) → Told t s x.end ok p e → Told (many_numbers ∷ t) s at (x.ok && ok) (N.items, p) e
     some_numbers {x} N T = numbers_fit x.ok N.items x.end N.fits T
 
-    pub some_operands : {x : Items} (O : OperandsAt s at x) → Told t s x.end ok p e → Told (manyOperands ∷ t) s at (x.ok && ok) (O.items, p) e
+    pub some_operands : {x : Items} (O : OperandsAt s at x) → Told t s x.end ok p e → Told (many_operands ∷ t) s at (x.ok && ok) (O.items, p) e
     unfolding fit
     some_operands {x} O T = record { fits = part_fits (fit t) x.ok ok O.items p (drop x.end s) (drop e s) O.fits T.fits }
 

@@ -62,7 +62,7 @@ module _ (text turns program state : List ℕ) (object : ℕ) {r : Answer} {p s 
     is_told =
         let S = (run mosts one.program turns).state in
         let holds = one.holds in
-        counts.counts (omega (arith, ap length holds.state_words_lem, state_words_length S)) S [] holds.held holds.fits.few_objects
+        counts.counts (omega (arith, ap length holds.state_words_are, state_words_length S)) S [] holds.held holds.fits.few_objects
 
     by_asked : {number count line : ℕ} → TellsCount asked number count line
         → HasCounted (run_bytes text turns program state) turns object program state number count line program₁ state₁

@@ -114,7 +114,7 @@ module _ (text turns program state : List ℕ) (short : Bool) {r : Answer} {p₀
         let state-full : 2 * Most.words ≤ length state = ltb-false _ _ (or_false _ _ others.1).0 in
         let P = one.program in (
           ltb-false _ _ others.0,
-          omega (arith, state-full, ap length one.holds.state_words_lem, state_words_length (run mosts P turns).state),
+          omega (arith, state-full, ap length one.holds.state_words_are, state_words_length (run mosts P turns).state),
         )
 
     pub stores_both : {program₁ state₁ : List ℕ} (n : ℕ) → UsedWords p n → program₁ ≡ bytes_after Most.words (pad Most.words 0 (take n p)) program → state₁ ≡ bytes_after (length s) s state
@@ -124,8 +124,8 @@ module _ (text turns program state : List ℕ) (short : Bool) {r : Answer} {p₀
         let P = one.program in
         rw one.is (record {
           made = one.holds;
-          program_is = program_stored P one.holds.valid n program one.holds.program_words_lem used program-kept;
-          state_is = stored Most.words state (state_words_length (run mosts P turns).state) one.holds.state_words_lem state-kept;
+          program_is = program_stored P one.holds.valid n program one.holds.program_words_are used program-kept;
+          state_is = stored Most.words state (state_words_length (run mosts P turns).state) one.holds.state_words_are state-kept;
         })
 
 -- demand 3 of what was answered and left
@@ -171,7 +171,7 @@ tells : (a : R.Answer) → TellsBy a (answer_of a)
 tells (R.refused k n) = record { end_is = refl; number_is = refl; thread_is = refl; block_is = refl; line_is = refl; moves_is = refl }
 tells (R.ended R.finished m) = record { end_is = refl; number_is = refl; thread_is = refl; block_is = refl; line_is = refl; moves_is = refl }
 tells (R.ended R.stuck m) = record { end_is = refl; number_is = refl; thread_is = refl; block_is = refl; line_is = refl; moves_is = refl }
-tells (R.ended R.openEnd m) = record { end_is = refl; number_is = refl; thread_is = refl; block_is = refl; line_is = refl; moves_is = refl }
+tells (R.ended R.open_end m) = record { end_is = refl; number_is = refl; thread_is = refl; block_is = refl; line_is = refl; moves_is = refl }
 tells (R.halted k t b l m) = record { end_is = refl; number_is = refl; thread_is = refl; block_is = refl; line_is = refl; moves_is = refl }
 
 pub tells_answer : (a : R.Answer) {r x : Answer} → r ≡ x → r ≡ answer_of a → TellsBy a x
@@ -235,8 +235,8 @@ module _ (text turns program state list : List ℕ) (t : ℕ) {r : Answer} {p s 
           let holds = reach_one.holds in
           let zero_word : ℕ = 0 in
           let told = reports.reports
-          (omega (arith, ap length holds.program_words_lem, program_words_length P))
-          (omega (arith, ap length holds.state_words_lem, state_words_length S))
+          (omega (arith, ap length holds.program_words_are, program_words_length P))
+          (omega (arith, ap length holds.state_words_are, state_words_length S))
           (rw (length-replicate 256 zero_word) (omega arith))
           P Most.turns S [] holds.loaded holds.held holds.valid holds.fits in
           (told.answers, told.leaves)

@@ -61,7 +61,7 @@ module _ (text turns program state buffer : List ℕ) {r : Answer} {p s program�
         let P = one.program in
         let S = (run mosts P turns).state in
         let holds = one.holds in
-        draws.draws (omega (arith, ap length holds.state_words_lem, state_words_length S)) graph_room P Most.turns S [] holds.held holds.fits
+        draws.draws (omega (arith, ap length holds.state_words_are, state_words_length S)) graph_room P Most.turns S [] holds.held holds.fits
 
     -- the buffer is long enough, so that it is drawn
     pub drawing_not_refused : {k n : ℕ} → x ≡ T.Refused k n

@@ -71,7 +71,7 @@ module _ (text turns program state : List ℕ) where
         let one = made_is turns p s (race_bytes text turns program state) by_race.made e in
         let P = one.program in
         let holds = one.holds in
-        found_by _ one.is (judges.judges few (omega (arith, ap length holds.program_words_lem, program_words_length P)) P holds.loaded holds.valid)
+        found_by _ one.is (judges.judges few (omega (arith, ap length holds.program_words_are, program_words_length P)) P holds.loaded holds.valid)
 
 -- ---- The answer by its numbers
 

@@ -18,7 +18,7 @@ use Rattle.rules.specs.Templates.{decimal, cap_word, print_many}
 use Rattle.rules.specs.State.{Object, Frame, Sender, ready, waiting, Thread, Channel, empty_channel, slot_at}
 use Rattle.rules.specs.Tables.{sender_word}
 use Rattle.rules.specs.Fits.{IsObject}
-use Rattle.rules.specs.Run.{finished, stuck, openEnd, refused, ended, halted}
+use Rattle.rules.specs.Run.{finished, stuck, open_end, refused, ended, halted}
 use Rattle.rules.specs.Listing.{bracket, a_line, end_word, answer_line, value_text, object_line, message_text, channel_line, sender_text, thread_parts, thread_line, numbered}
 use Rattle.rules.proofs.ListLaws.{by_bool, below, every_at}
 use Rattle.buffer.specs.Writing.{number_part}
@@ -112,7 +112,7 @@ module _ (m : ℕ) where
   unfolding answer_line end_word parts
   stuck_end = line_is "end" (bytes "stuck" ∷ decimal m ∷ [])
 
-  pub open_end : bytes "(end" ++ (bytes " open" ++ (number_part m ++ bytes ")\n")) ≡ answer_line (ended openEnd m)
+  pub open_end : bytes "(end" ++ (bytes " open" ++ (number_part m ++ bytes ")\n")) ≡ answer_line (ended open_end m)
   unfolding answer_line end_word parts
   open_end = line_is "end" (bytes "open" ∷ decimal m ∷ [])
 

@@ -12,7 +12,7 @@ use Rattle.rules.specs.Mosts.{mosts}
 use Rattle.rules.specs.Numbers as No
 use Rattle.rules.specs.Reading.{Reading, reading}
 use Rattle.rules.specs.Run as R
-use Rattle.rules.specs.Run.{finished, stuck, openEnd, refused, ended, halted, run, answer}
+use Rattle.rules.specs.Run.{finished, stuck, open_end, refused, ended, halted, run, answer}
 use Rattle.rules.specs.Calls.{long_text, long_turns, inputs}
 use Rattle.rules.specs.Listing.{answer_line, state_lines, listing}
 use Rattle.rules.specs.Input.{ran_on, printed}
@@ -36,7 +36,7 @@ answer_line_lem : (x : R.Answer) → answer_text (answer_of x) ≡ answer_line x
 answer_line_lem (refused k n) = refl
 answer_line_lem (ended finished m) = refl
 answer_line_lem (ended stuck m) = refl
-answer_line_lem (ended openEnd m) = refl
+answer_line_lem (ended open_end m) = refl
 answer_line_lem (halted k t b l m) = refl
 
 -- ---- The run's text, of what the inputs come to

@@ -3,7 +3,7 @@ use Rattle.std.specs.Prelude.{ℕ, false, ◌||◌, cond, List, ◌++◌, ltb, l
 use Rattle.rules.specs.Mosts.{mosts}
 use Rattle.rules.specs.Numbers as No
 use Rattle.rules.specs.Reading.{reading}
-use Rattle.rules.specs.Run.{finished, stuck, openEnd, refused, ended, halted}
+use Rattle.rules.specs.Run.{finished, stuck, open_end, refused, ended, halted}
 use Rattle.rules.specs.Calls.{long_text, long_turns}
 use Rattle.rules.specs.Listing.{answer_line}
 use Rattle.rules.specs.Input.{ran_on, printed}
@@ -39,5 +39,5 @@ abbrev pub answer_text : Run.Answer → List ℕ
 answer_text (R.Refused k n) = answer_line (refused k n)
 answer_text (R.Finished m) = answer_line (ended finished m)
 answer_text (R.Stuck m) = answer_line (ended stuck m)
-answer_text (R.Open m) = answer_line (ended openEnd m)
+answer_text (R.Open m) = answer_line (ended open_end m)
 answer_text (R.Stopped k t b l m) = answer_line (halted k t b l m)

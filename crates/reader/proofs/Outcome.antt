@@ -32,7 +32,7 @@ use Rattle.reader.specs.declared.Answer.{Answer}
 use Rattle.reader.specs.declared.Answer.TheVariants.{Read, Refused}
 use Rattle.reader.specs.ReadAnswers.{answer_of, Made, Makes}
 use Rattle.reader.specs.Sofar.{edition_of}
-use Rattle.reader.specs.Scanning.{Done-with, ScansTo, Scans}
+use Rattle.reader.specs.Scanning.{DoneWith, ScansTo, Scans}
 use Rattle.reader.specs.declared.scanning.Scan.{Scan}
 use Rattle.reader.specs.declared.scanning.Scan.TheVariants.{Fault, Done}
 use Rattle.reader.specs.Linking.{Table, FirstDangling}
@@ -91,7 +91,7 @@ pub fault_of_lem : {d : Edition} {text t t₁ : List ℕ} {x : Scan} {k n : ℕ}
 fault_of_lem {d} {text} {t} {t₁} s e = subst (λ y. ScansTo mosts d text y t t₁) e s.is
 
 pub done_with : {d : Edition} {text t t₁ : List ℕ} {x : Scan} {kinds blocks count : ℕ} → Scans mosts d text t x t₁ → x ≡ Done kinds blocks count
-    → Done-with mosts d text kinds blocks count t t₁
+    → DoneWith mosts d text kinds blocks count t t₁
 done_with {d} {text} {t} {t₁} s e = subst (λ y. ScansTo mosts d text y t t₁) e s.is
 
 -- ---- The lines of a scan exceed no most by themselves
@@ -165,7 +165,7 @@ module _ (text : List ℕ) (fits : length text ≤ Most.text) (d : Edition) (bod
   scan_faulty k n e = by_script ∙ rw e
 
   -- the program of a scan without fault in a fresh table, and where refusal 8 was looked for
-  module _ {kinds blocks count : ℕ} {t t₁ : List ℕ} (done : Done-with mosts d body kinds blocks count t t₁) (fresh : t ≡ fresh_table) where
+  module _ {kinds blocks count : ℕ} {t t₁ : List ℕ} (done : DoneWith mosts d body kinds blocks count t t₁) (fresh : t ≡ fresh_table) where
     lines_there : Filled t₁ [] done.forms []
     lines_there = done.filled [] (subst (λ (l : List ℕ). Filled l [] [] []) (sym fresh) no_lines)
 
@@ -177,7 +177,7 @@ module _ (text : List ℕ) (fits : length text ≤ Most.text) (d : Edition) (bod
           let passed-all = scan_passed mosts (lines body) (nothing d) 0 Fs done.scans in
           let same = lines_scanned mosts d Fs passed-all in
           let holds : Table t₁ (program_of d Fs) = record { counts = []; rest = []; filled = rw same lines_there; small = rw same (all_small passed-all) } in
-          rw same at (l.is (program_of d Fs) holds done.kinds_count done.blocks_count (done.line_count_lem ∙ ap length (sym same)))
+          rw same at (l.is (program_of d Fs) holds done.kinds_count done.blocks_count (done.line_count_is ∙ ap length (sym same)))
 
       by_links : reading_of text false ≡ later_reading (lines_before d) (cond (ltb place count) (turned_away No.dangling place) (accepted (program_of d done.forms)))
       by_links =
@@ -200,7 +200,7 @@ module _ (text : List ℕ) (fits : length text ≤ Most.text) (d : Edition) (bod
           let f = counted.counted [] Fs lines_there in
           let same = lines_scanned mosts d Fs (scan_passed mosts (lines body) (nothing d) 0 Fs done.scans) in
           let full : t₂ ≡ line_table (kinds ∷ blocks ∷ count ∷ edition_word d ∷ []) Fs = f.words ∙ append-nil _ in
-          let counts : line_table (kinds ∷ blocks ∷ count ∷ edition_word d ∷ []) Fs ≡ line_table (length (kinds_of Fs) ∷ length (blocks_of Fs) ∷ length Fs ∷ edition_word d ∷ []) Fs = rw (done.kinds_count, done.blocks_count, done.line_count_lem) in
+          let counts : line_table (kinds ∷ blocks ∷ count ∷ edition_word d ∷ []) Fs ≡ line_table (length (kinds_of Fs) ∷ length (blocks_of Fs) ∷ length Fs ∷ edition_word d ∷ []) Fs = rw (done.kinds_count, done.blocks_count, done.line_count_is) in
           rw (all_there h) (refl, full ∙ counts ∙ sym (rw same at (program_words_by_lines (program_of d Fs))))
 
 -- ---- What `make` promises, by what the text comes to where no slice is short

@@ -264,7 +264,7 @@ module _ {m : Mosts} {d : Edition} {text t₀ t : List ℕ} {r : Sofar} {n at : 
         scans = s.scans ∙ ap (onto s.forms) (ended ∙ e) ∙ onto_scanned s.forms [] ∙ ap scanned (append-nil s.forms);
         kinds_count = k ∙ s.tally.kinds;
         blocks_count = b ∙ s.tally.blocks;
-        line_count_lem = c ∙ s.number;
+        line_count_is = c ∙ s.number;
         few_kinds = omega (arith, k, s.tally.few_kinds);
         few_blocks = omega (arith, b, s.tally.few_blocks);
         few_lines = omega (arith, c, few_lines);

@@ -28,12 +28,12 @@ pub record Finishes (r : Sofar) (n : ℕ) (s : Scan) : Type 0 where
   pub is : Finished (so_far r) n s
 
 -- the scan that the definition gives of a text of this edition, its lines counted from 0; where it has no fault, a table that held none holds its lines
-pub record Done-with (m : Mosts) (e : Edition) (text : List ℕ) (kinds blocks line_count : ℕ) (t t' : List ℕ) : Type 0 where
+pub record DoneWith (m : Mosts) (e : Edition) (text : List ℕ) (kinds blocks line_count : ℕ) (t t' : List ℕ) : Type 0 where
   pub forms : List Form
   pub scans : R.scan m (R.nothing e) 0 (lines text) ≡ scanned forms
   pub kinds_count : kinds ≡ length (kinds_of forms)
   pub blocks_count : blocks ≡ length (blocks_of forms)
-  pub line_count_lem : line_count ≡ length forms
+  pub line_count_is : line_count ≡ length forms
   pub few_kinds : kinds ≤ m.kinds
   pub few_blocks : blocks ≤ m.blocks
   pub few_lines : line_count ≤ 672
@@ -41,7 +41,7 @@ pub record Done-with (m : Mosts) (e : Edition) (text : List ℕ) (kinds blocks l
 
 abbrev pub ScansTo : Mosts → Edition → List ℕ → Scan → (t t' : List ℕ) → Type 0
 ScansTo m e text (Fault k n) t t' = R.scan m (R.nothing e) 0 (lines text) ≡ faulty k n
-ScansTo m e text (Done kinds blocks n) t t' = Done-with m e text kinds blocks n t t'
+ScansTo m e text (Done kinds blocks n) t t' = DoneWith m e text kinds blocks n t t'
 
 -- the line of a fault, and the number of lines where there is none
 abbrev pub scan_line : Scan → ℕ

@@ -11,7 +11,7 @@ use Rattle.rules.specs.Numbers as No
 use Rattle.rules.specs.Script.{Program}
 use Rattle.rules.specs.State.{State, thread_at, start}
 use Rattle.rules.specs.Turn.{Res, ok, wait, stop, turn}
-use Rattle.rules.specs.Run.{Stop, none, stopped, Run, fresh, after, advance, run_from, run, finished, stuck, openEnd, all_finished, waits, up_to, all_wait, end_of}
+use Rattle.rules.specs.Run.{Stop, none, stopped, Run, fresh, after, advance, run_from, run, finished, stuck, open_end, all_finished, waits, up_to, all_wait, end_of}
 use Rattle.rules.specs.Tables.{state_words}
 use Rattle.rules.specs.Stripped.{strip, erase, guarded, stripped, StopsAt, GuardStopsBy, Matches}
 use Rattle.rules.proofs.ListLaws.{by_bool, all_weaker}
@@ -119,7 +119,7 @@ all_wait_too m P S e =
     all_weaker _ _ (λ t. waits_too (turn m P S t) (turn m (strip P) (erase S) t) (sim_turn m P S t).follows) (up_to (length S.threads)) e
 
 stuck_by : (done waits waits' : Bool) → (waits ≡ true → waits' ≡ true)
-    → cond done finished (cond waits stuck openEnd) ≡ stuck → cond done finished (cond waits' stuck openEnd) ≡ stuck
+    → cond done finished (cond waits stuck open_end) ≡ stuck → cond done finished (cond waits' stuck open_end) ≡ stuck
 stuck_by true w w' h e = e
 stuck_by false true w' h e = rw (h refl) refl
 stuck_by false false w' h e = cc

@@ -12,7 +12,7 @@ use borrow.Author.Tests.{eqb-false}
 use Rattle.rules.specs.Lists.{place_of, all}
 use Rattle.rules.specs.Text.{bytes}
 use Rattle.rules.specs.Script.{Operand, reads, takes, Form}
-use Rattle.rules.specs.Templates.{Taken, took, unfit, ◌>>=◌, or_else, decimal, print_operand, Part, character, oneNumber, oneOperand, oneCap, manyNumbers, manyOperands, Holds, fit, whole, print, Rule, forms, rule_at, first_fit, decode}
+use Rattle.rules.specs.Templates.{Taken, took, unfit, ◌>>=◌, or_else, decimal, print_operand, Part, character, one_number, one_operand, one_cap, many_numbers, many_operands, Holds, fit, whole, print, Rule, forms, rule_at, first_fit, decode}
 use Rattle.rules.proofs.ListLaws.{by_bool, and_true, all_true, every_at}
 use Rattle.rules.proofs.Printing.{Short, fit_prints, starts, parted, fit_back}
 
@@ -33,11 +33,11 @@ opening taking = bytes "(take "
 unfoldable pub head : Way → List Part → List ℕ
 head v [] = []
 head v (character c ∷ t) = c ∷ head v t
-head v (oneNumber ∷ t) = []
-head v (oneOperand ∷ t) = opening v
-head v (oneCap ∷ t) = []
-head v (manyNumbers ∷ t) = []
-head v (manyOperands ∷ t) = []
+head v (one_number ∷ t) = []
+head v (one_operand ∷ t) = opening v
+head v (one_cap ∷ t) = []
+head v (many_numbers ∷ t) = []
+head v (many_operands ∷ t) = []
 
 -- a text begins as the template does
 pub record Begins (t : List Part) (l : List ℕ) : Type 0 where
@@ -49,7 +49,7 @@ pub record Begins (t : List Part) (l : List ℕ) : Type 0 where
 anything_begins : (t : List Part) (l : List ℕ) → head reading t ≡ [] → Begins t l
 anything_begins t l h = record { way = reading; rest = l; text = rw h }
 
-operand_begins : (t : List Part) (w : Operand) (l : List ℕ) → Begins (oneOperand ∷ t) (print_operand w ++ l)
+operand_begins : (t : List Part) (w : Operand) (l : List ℕ) → Begins (one_operand ∷ t) (print_operand w ++ l)
 unfolding head opening print_operand
 operand_begins t (reads s) l = record { way = reading; rest = (decimal s ++ bytes ")") ++ l; text = refl }
 operand_begins t (takes s) l = record { way = taking; rest = (decimal s ++ bytes ")") ++ l; text = refl }
@@ -58,11 +58,11 @@ pub print_begins : (t : List Part) (p : Holds t) (l : List ℕ) → Begins t (pr
 unfolding print head
 print_begins [] p l = anything_begins [] l refl
 print_begins (character c ∷ t) p l = let b = print_begins t p l in record { way = b.way; rest = b.rest; text = ap (λ (k : List ℕ). c ∷ k) b.text }
-print_begins (oneNumber ∷ t) p l = anything_begins _ _ refl
-print_begins (oneOperand ∷ t) p l = rw append_assoc (operand_begins t p.0 (print t p.1 ++ l))
-print_begins (oneCap ∷ t) p l = anything_begins _ _ refl
-print_begins (manyNumbers ∷ t) p l = anything_begins _ _ refl
-print_begins (manyOperands ∷ t) p l = anything_begins _ _ refl
+print_begins (one_number ∷ t) p l = anything_begins _ _ refl
+print_begins (one_operand ∷ t) p l = rw append_assoc (operand_begins t p.0 (print t p.1 ++ l))
+print_begins (one_cap ∷ t) p l = anything_begins _ _ refl
+print_begins (many_numbers ∷ t) p l = anything_begins _ _ refl
+print_begins (many_operands ∷ t) p l = anything_begins _ _ refl
 
 -- ---- Beginnings that differ
 

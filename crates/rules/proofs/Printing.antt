@@ -16,7 +16,7 @@ use Rattle.rules.specs.declared.Mosts.{Mosts}
 use Rattle.rules.specs.Lists.{place_of, Every}
 use Rattle.rules.specs.Text.{bytes, lf, space, stray, on_line, lines, join}
 use Rattle.rules.specs.Script.{Operand, reads, takes, Form}
-use Rattle.rules.specs.Templates.{Taken, took, unfit, ◌>>=◌, or_else, literal, digits, digit_of, digits_at, is_number, decimal_value, number, digit, decimal, operand_by, operand, print_operand, cap_word, cap_by, capability, many, print_many, Part, character, oneNumber, oneOperand, oneCap, manyNumbers, manyOperands, Holds, fit, whole, print, Rule, forms, first_fit, decode, show}
+use Rattle.rules.specs.Templates.{Taken, took, unfit, ◌>>=◌, or_else, literal, digits, digit_of, digits_at, is_number, decimal_value, number, digit, decimal, operand_by, operand, print_operand, cap_word, cap_by, capability, many, print_many, Part, character, one_number, one_operand, one_cap, many_numbers, many_operands, Holds, fit, whole, print, Rule, forms, first_fit, decode, show}
 use Rattle.rules.specs.Reading.{slot_of, is_outside, in_place, over_most, over255, is_unbound, takes_self, Sofar, Step, fault, next, form_step, line_step, Scan, faulty, scanned, finish, with_form, on_step, scan}
 use Rattle.rules.proofs.ListLaws.{by_bool, and_true, all_below, below_true}
 
@@ -188,11 +188,11 @@ many_front h (suc n) (c ∷ l) = by_bool (eqb c space)
 abbrev pub Short : (t : List Part) → Holds t → Type 0
 Short [] p = Unit {0}
 Short (character c ∷ t) p = Short t p
-Short (oneNumber ∷ t) p = Small p.0 × Short t p.1
-Short (oneOperand ∷ t) p = SmallSlot p.0 × Short t p.1
-Short (oneCap ∷ t) p = Short t p.1
-Short (manyNumbers ∷ t) p = Every Small p.0 × Short t p.1
-Short (manyOperands ∷ t) p = Every SmallSlot p.0 × Short t p.1
+Short (one_number ∷ t) p = Small p.0 × Short t p.1
+Short (one_operand ∷ t) p = SmallSlot p.0 × Short t p.1
+Short (one_cap ∷ t) p = Short t p.1
+Short (many_numbers ∷ t) p = Every Small p.0 × Short t p.1
+Short (many_operands ∷ t) p = Every SmallSlot p.0 × Short t p.1
 
 pub fit_front : (t : List Part) (l : List ℕ) → Says (Front (print t) (Short t) l) (fit t l)
 unfolding fit print
@@ -200,11 +200,11 @@ fit_front [] l = taken (record { text = refl; such = tt })
 fit_front (character c ∷ t) l =
     says_then (literal_front (c ∷ []) l)
     (λ _ l₁ p. says_more (fit_front t l₁) (λ parts l₂ q. record { text = p.text ∙ ap (λ (k : List ℕ). c ∷ k) q.text; such = q.such }))
-fit_front (oneNumber ∷ t) l = then_says _ pair l number_front (fit_front t) (λ n p l₂ e q r. record { text = e; such = (q, r) })
-fit_front (oneOperand ∷ t) l = then_says _ pair l operand_front (fit_front t) (λ w p l₂ e q r. record { text = e; such = (q, r) })
-fit_front (oneCap ∷ t) l = then_says _ pair l capability_front (fit_front t) (λ k p l₂ e q r. record { text = e; such = r })
-fit_front (manyNumbers ∷ t) l = then_says _ pair l (λ k. many_front number_front (length k) k) (fit_front t) (λ ns p l₂ e q r. record { text = e; such = (q, r) })
-fit_front (manyOperands ∷ t) l = then_says _ pair l (λ k. many_front operand_front (length k) k) (fit_front t) (λ ws p l₂ e q r. record { text = e; such = (q, r) })
+fit_front (one_number ∷ t) l = then_says _ pair l number_front (fit_front t) (λ n p l₂ e q r. record { text = e; such = (q, r) })
+fit_front (one_operand ∷ t) l = then_says _ pair l operand_front (fit_front t) (λ w p l₂ e q r. record { text = e; such = (q, r) })
+fit_front (one_cap ∷ t) l = then_says _ pair l capability_front (fit_front t) (λ k p l₂ e q r. record { text = e; such = r })
+fit_front (many_numbers ∷ t) l = then_says _ pair l (λ k. many_front number_front (length k) k) (fit_front t) (λ ns p l₂ e q r. record { text = e; such = (q, r) })
+fit_front (many_operands ∷ t) l = then_says _ pair l (λ k. many_front operand_front (length k) k) (fit_front t) (λ ws p l₂ e q r. record { text = e; such = (q, r) })
 
 pub fit_prints : (t : List Part) (l : List ℕ) (p : Holds t) (l₁ : List ℕ) → fit t l ≡ took p l₁ → l ≡ print t p ++ l₁
 fit_prints t l p l₁ h = (says_of (fit_front t l) h).text
@@ -398,33 +398,33 @@ many_back r f b (suc n) (x ∷ xs) l k q h =
 unfoldable pub starts : (ℕ → Bool) → List Part → Bool
 starts test [] = false
 starts test (character c ∷ t) = test c
-starts test (oneNumber ∷ t) = false
-starts test (oneOperand ∷ t) = false
-starts test (oneCap ∷ t) = false
-starts test (manyNumbers ∷ t) = test space && starts test t
-starts test (manyOperands ∷ t) = test space && starts test t
+starts test (one_number ∷ t) = false
+starts test (one_operand ∷ t) = false
+starts test (one_cap ∷ t) = false
+starts test (many_numbers ∷ t) = test space && starts test t
+starts test (many_operands ∷ t) = test space && starts test t
 
 starts_print : (test : ℕ → Bool) (t : List Part) (p : Holds t) (l : List ℕ) → starts test t ≡ true → Starts test (print t p ++ l)
 unfolding starts print
 starts_print test [] p l h = absurd (false≢true h)
 starts_print test (character c ∷ t) p l h = h
-starts_print test (oneNumber ∷ t) p l h = absurd (false≢true h)
-starts_print test (oneOperand ∷ t) p l h = absurd (false≢true h)
-starts_print test (oneCap ∷ t) p l h = absurd (false≢true h)
-starts_print test (manyNumbers ∷ t) p l h = let k = and_true (test space) (starts test t) h in
+starts_print test (one_number ∷ t) p l h = absurd (false≢true h)
+starts_print test (one_operand ∷ t) p l h = absurd (false≢true h)
+starts_print test (one_cap ∷ t) p l h = absurd (false≢true h)
+starts_print test (many_numbers ∷ t) p l h = let k = and_true (test space) (starts test t) h in
     rw (append_assoc (print_many decimal p.0) (print t p.1) l) (many_starts test decimal p.0 _ k.0 (starts_print test t p.1 l k.1))
-starts_print test (manyOperands ∷ t) p l h = let k = and_true (test space) (starts test t) h in
+starts_print test (many_operands ∷ t) p l h = let k = and_true (test space) (starts test t) h in
     rw (append_assoc (print_many print_operand p.0) (print t p.1) l) (many_starts test print_operand p.0 _ k.0 (starts_print test t p.1 l k.1))
 
 -- in a template each part ends before a character that cannot go on with it
 unfoldable pub parted : List Part → Bool
 parted [] = true
 parted (character c ∷ t) = parted t
-parted (oneNumber ∷ t) = starts after_one t && parted t
-parted (oneOperand ∷ t) = starts after_one t && parted t
-parted (oneCap ∷ t) = starts after_one t && parted t
-parted (manyNumbers ∷ t) = starts after_many t && parted t
-parted (manyOperands ∷ t) = starts after_many t && parted t
+parted (one_number ∷ t) = starts after_one t && parted t
+parted (one_operand ∷ t) = starts after_one t && parted t
+parted (one_cap ∷ t) = starts after_one t && parted t
+parted (many_numbers ∷ t) = starts after_many t && parted t
+parted (many_operands ∷ t) = starts after_many t && parted t
 
 -- one part of a template, and then the others
 part_back : {A : Type 0} (r : List ℕ → Taken A) (x : List ℕ) (test : ℕ → Bool) (t : List Part) (a : A) (p : Holds t) (l : List ℕ) → (starts test t && parted t) ≡ true
@@ -438,15 +438,15 @@ pub fit_back : (t : List Part) (p : Holds t) (l : List ℕ) → parted t ≡ tru
 unfolding parted fit print literal ◌>>=◌
 fit_back [] p l h q = refl
 fit_back (character c ∷ t) p l h q = rw (eq-eqb c c refl) (fit_back t p l h q)
-fit_back (oneNumber ∷ t) p l h q =
+fit_back (one_number ∷ t) p l h q =
     part_back number (decimal p.0) after_one t p.0 p.1 l h (λ k s. number_back p.0 k q.0 s) (λ g. fit_back t p.1 l g q.1)
-fit_back (oneOperand ∷ t) p l h q =
+fit_back (one_operand ∷ t) p l h q =
     part_back operand (print_operand p.0) after_one t p.0 p.1 l h (λ k s. operand_back p.0 k q.0 s) (λ g. fit_back t p.1 l g q.1)
-fit_back (oneCap ∷ t) p l h q =
+fit_back (one_cap ∷ t) p l h q =
     part_back capability (cap_word p.0) after_one t p.0 p.1 l h (λ k s. capability_back p.0 k) (λ g. fit_back t p.1 l g q)
-fit_back (manyNumbers ∷ t) p l h q =
+fit_back (many_numbers ∷ t) p l h q =
     part_back (λ k. many number (length k) k) (print_many decimal p.0) after_many t p.0 p.1 l h
     (λ k s. many_back number decimal number_back _ p.0 k (many_length decimal p.0 k) q.0 s) (λ g. fit_back t p.1 l g q.1)
-fit_back (manyOperands ∷ t) p l h q =
+fit_back (many_operands ∷ t) p l h q =
     part_back (λ k. many operand (length k) k) (print_many print_operand p.0) after_many t p.0 p.1 l h
     (λ k s. many_back operand print_operand operand_back _ p.0 k (many_length print_operand p.0 k) q.0 s) (λ g. fit_back t p.1 l g q.1)

@@ -91,7 +91,7 @@ module _ (m : Mosts) (table : List ℕ) (long : Most.words ≤ length table) whe
     writes_by_front writes =
         record {
           comes_back = λ text reads. writes.comes_back text (to_front text reads);
-          no_script_lem = λ none. writes.no_script_lem (λ text reads. none text (from_front text reads));
+          no_script_answers = λ none. writes.no_script_answers (λ text reads. none text (from_front text reads));
           decided = decided_from_front writes.decided;
         }
 

@@ -6,7 +6,7 @@ use Rattle.rules.specs.declared.Value.TheVariants.{Absent, Obj, Chan}
 use Rattle.rules.specs.Text.{bytes}
 use Rattle.rules.specs.Templates.{decimal, cap_word, print_many}
 use Rattle.rules.specs.State.{Object, Frame, Sender, ready, waiting, Thread, Channel, State}
-use Rattle.rules.specs.Run.{End, finished, stuck, openEnd, Answer, refused, ended, halted}
+use Rattle.rules.specs.Run.{End, finished, stuck, open_end, Answer, refused, ended, halted}
 
 -- a list in brackets: a word and its parts, each after a space
 unfoldable pub bracket : S.String → List (List ℕ) → List ℕ
@@ -18,7 +18,7 @@ a_line w parts = bracket w parts ++ bytes "\n"
 unfoldable pub end_word : End → List ℕ
 end_word finished = bytes "finished"
 end_word stuck = bytes "stuck"
-end_word openEnd = bytes "open"
+end_word open_end = bytes "open"
 
 -- "It prints (refused R L) .. Otherwise it prints (end WORD MOVES), or (stopped R THREAD BLOCK LINE MOVES)."
 unfoldable pub answer_line : Answer → List ℕ

@@ -52,7 +52,7 @@ run m P ts = run_from m P fresh ts
 -- ---- "The end is finished (all threads finished), stuck (some unfinished, and each of these would wait), else open."
 
 pub data End : Type 0 where
-  finished stuck openEnd : End
+  finished stuck open_end : End
 
 unfoldable pub is_finished : Thread → Bool
 is_finished th = elim th.frames [ [] ↦ true | f ∷ fs ↦ false ]
@@ -75,7 +75,7 @@ unfoldable pub all_wait : Mosts → Program → State → Bool
 all_wait m P S = all (λ t. waits (turn m P S t)) (up_to (length S.threads))
 
 unfoldable pub end_of : Mosts → Program → State → End
-end_of m P S = cond (all_finished S) finished (cond (all_wait m P S) stuck openEnd)
+end_of m P S = cond (all_finished S) finished (cond (all_wait m P S) stuck open_end)
 
 -- "The run answers its end, its moves and, for a stop, the number, thread, block and line."
 pub data Answer : Type 0 where

@@ -107,15 +107,15 @@ print_many f (a ∷ rest) = space ∷ (f a ++ print_many f rest)
 -- " B .." and " T ..", V for its " W ..", and every other character for itself.
 pub data Part : Type 0 where
   character : ℕ → Part
-  oneNumber oneOperand oneCap manyNumbers manyOperands : Part
+  one_number one_operand one_cap many_numbers many_operands : Part
 
 abbrev pub part : ℕ → Part
 part c =
-    cond (among c (bytes "SFMNB")) oneNumber
-    (cond (among c (bytes "W")) oneOperand
-    (cond (among c (bytes "K")) oneCap
-    (cond (among c (bytes "D")) manyNumbers
-    (cond (among c (bytes "V")) manyOperands (character c)))))
+    cond (among c (bytes "SFMNB")) one_number
+    (cond (among c (bytes "W")) one_operand
+    (cond (among c (bytes "K")) one_cap
+    (cond (among c (bytes "D")) many_numbers
+    (cond (among c (bytes "V")) many_operands (character c)))))
 
 abbrev pub template : S.String → List Part
 template s = map part (bytes s)
@@ -124,21 +124,21 @@ template s = map part (bytes s)
 abbrev pub Holds : List Part → Type 0
 Holds [] = Unit {0}
 Holds (character c ∷ t) = Holds t
-Holds (oneNumber ∷ t) = ℕ × Holds t
-Holds (oneOperand ∷ t) = Operand × Holds t
-Holds (oneCap ∷ t) = Cap × Holds t
-Holds (manyNumbers ∷ t) = List ℕ × Holds t
-Holds (manyOperands ∷ t) = List Operand × Holds t
+Holds (one_number ∷ t) = ℕ × Holds t
+Holds (one_operand ∷ t) = Operand × Holds t
+Holds (one_cap ∷ t) = Cap × Holds t
+Holds (many_numbers ∷ t) = List ℕ × Holds t
+Holds (many_operands ∷ t) = List Operand × Holds t
 
 -- the matcher
 unfoldable pub fit : (t : List Part) → List ℕ → Taken (Holds t)
 fit [] l = took tt l
 fit (character c ∷ t) l = literal (c ∷ []) l >>= λ _ l₁. fit t l₁
-fit (oneNumber ∷ t) l = number l >>= λ n l₁. fit t l₁ >>= λ p l₂. took (n, p) l₂
-fit (oneOperand ∷ t) l = operand l >>= λ w l₁. fit t l₁ >>= λ p l₂. took (w, p) l₂
-fit (oneCap ∷ t) l = capability l >>= λ k l₁. fit t l₁ >>= λ p l₂. took (k, p) l₂
-fit (manyNumbers ∷ t) l = many number (length l) l >>= λ ns l₁. fit t l₁ >>= λ p l₂. took (ns, p) l₂
-fit (manyOperands ∷ t) l = many operand (length l) l >>= λ ws l₁. fit t l₁ >>= λ p l₂. took (ws, p) l₂
+fit (one_number ∷ t) l = number l >>= λ n l₁. fit t l₁ >>= λ p l₂. took (n, p) l₂
+fit (one_operand ∷ t) l = operand l >>= λ w l₁. fit t l₁ >>= λ p l₂. took (w, p) l₂
+fit (one_cap ∷ t) l = capability l >>= λ k l₁. fit t l₁ >>= λ p l₂. took (k, p) l₂
+fit (many_numbers ∷ t) l = many number (length l) l >>= λ ns l₁. fit t l₁ >>= λ p l₂. took (ns, p) l₂
+fit (many_operands ∷ t) l = many operand (length l) l >>= λ ws l₁. fit t l₁ >>= λ p l₂. took (ws, p) l₂
 
 -- a whole line: nothing is left
 abbrev pub whole : {A : Type 0} → Taken A → Taken A
@@ -150,11 +150,11 @@ whole unfit = unfit
 unfoldable pub print : (t : List Part) → Holds t → List ℕ
 print [] p = []
 print (character c ∷ t) p = c ∷ print t p
-print (oneNumber ∷ t) p = decimal p.0 ++ print t p.1
-print (oneOperand ∷ t) p = print_operand p.0 ++ print t p.1
-print (oneCap ∷ t) p = cap_word p.0 ++ print t p.1
-print (manyNumbers ∷ t) p = print_many decimal p.0 ++ print t p.1
-print (manyOperands ∷ t) p = print_many print_operand p.0 ++ print t p.1
+print (one_number ∷ t) p = decimal p.0 ++ print t p.1
+print (one_operand ∷ t) p = print_operand p.0 ++ print t p.1
+print (one_cap ∷ t) p = cap_word p.0 ++ print t p.1
+print (many_numbers ∷ t) p = print_many decimal p.0 ++ print t p.1
+print (many_operands ∷ t) p = print_many print_operand p.0 ++ print t p.1
 
 -- ---- The forms of a line. "Every line ends in LF and holds one form."
 

@@ -41,7 +41,7 @@ wait_unless true = ok tt
 wait_unless false = wait
 
 -- a permission check: which of its grounds hold. Document 02, L5: "Where several hold, 20 goes before 19 and 19 before 14".
-unfoldable pub permit : (is_foreign isAlias isOther : Bool) → Res (Unit {0})
+unfoldable pub permit : (is_foreign is_alias is_other : Bool) → Res (Unit {0})
 permit f a o = do
   check (not f) (No.permission Foreign)
   check (not a) (No.permission Alias)

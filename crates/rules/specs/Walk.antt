@@ -14,7 +14,7 @@ unfoldable mutual
   walk (suc k) os met (Chan c ∷ vs) = walk k os met vs
   walk (suc k) os met (Obj n ∷ vs) = visit k (among n met) os met n vs
 
-  pub visit : (k : ℕ) → (isMet : Bool) → List Object → (met : List ℕ) → ℕ → List Value → List ℕ
+  pub visit : (k : ℕ) → (is_met : Bool) → List Object → (met : List ℕ) → ℕ → List Value → List ℕ
   visit zero b os met n vs = met
   visit (suc k) true os met n vs = walk k os met vs
   visit (suc k) false os met n vs = walk k os (met ++ (n ∷ [])) ((object_at os n).fields ++ vs)

@@ -38,7 +38,7 @@ pub record Writes (m : Mosts) (table buffer : List ℕ) (answer : Answer) (after
   -- "Every text that the reader accepts comes back byte for byte from its table."
   pub comes_back : (text : List ℕ) → ReadsTo m table text → Written text buffer answer after
   -- "18 no script, when no accepted text reads to this table"
-  pub no_script_lem : NoneReadsTo m table → TurnedAway No.no_script buffer answer after
+  pub no_script_answers : NoneReadsTo m table → TurnedAway No.no_script buffer answer after
   -- one of the two it is, whatever words the table has
   pub decided : ((text : List ℕ) × ReadsTo m table text) ⊎ NoneReadsTo m table
 

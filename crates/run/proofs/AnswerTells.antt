@@ -8,7 +8,7 @@ use Rattle.rules.specs.Script.{Program}
 use Rattle.rules.specs.Reading.{Reading, turned_away, accepted}
 use Rattle.rules.specs.State.{State}
 use Rattle.rules.specs.Run as R
-use Rattle.rules.specs.Run.{Stop, none, stopped, finished, stuck, openEnd, ended, run, answer}
+use Rattle.rules.specs.Run.{Stop, none, stopped, finished, stuck, open_end, ended, run, answer}
 use Rattle.rules.specs.Calls.{run_answer}
 use Rattle.rules.proofs.ListLaws.{impossible}
 use Rattle.run.specs.declared.Answer.{Answer}
@@ -24,7 +24,7 @@ run_no_refusal P turns = let r = run mosts P turns in by_stop r.state r.moves r.
     by_end : (e : R.End) (m : ℕ) → is_refusal (answer_of (ended e m)) ≡ false
     by_end finished m = refl
     by_end stuck m = refl
-    by_end openEnd m = refl
+    by_end open_end m = refl
 
     by_stop : (S : State) (m : ℕ) (x : Stop) → is_refusal (answer_of (R.answer_of mosts P S m x)) ≡ false
     by_stop S m none = by_end (R.end_of mosts P S) m

@@ -113,8 +113,8 @@ module _ (text turns : List ℕ) (short : Bool) {p s p₁ s₁ : List ℕ} where
           rw (as_read text turns short few, of.is)
           (record {
             answers = runs.answers P loaded valid s-fresh;
-            program_words_lem = of.words;
-            state_words_lem = held.words ∙ append-nil (state_words (run mosts P turns).state);
+            program_words_are = of.words;
+            state_words_are = held.words ∙ append-nil (state_words (run mosts P turns).state);
             valid = valid;
             loaded = loaded;
             held = held;
@@ -157,19 +157,19 @@ module _ (text turns program state : List ℕ) (short : Bool) {r : Answer} {p s 
         let P = one.program in (
           ltb-false _ _ others.0,
           ltb-false _ _ (or_false _ _ others.1).0,
-          ap length one.holds.program_words_lem ∙ program_words_length P,
-          ap length one.holds.state_words_lem ∙ state_words_length (run mosts P turns).state,
+          ap length one.holds.program_words_are ∙ program_words_length P,
+          ap length one.holds.state_words_are ∙ state_words_length (run mosts P turns).state,
         )
 
     pub ran_on : {program₁ state₁ : List ℕ} → program₁ ≡ p ++ drop Most.words program → state₁ ≡ s ++ drop Most.words state
         → Ran (lent_inputs mosts text turns program state short) turns program state r program₁ state₁
     ran_on program-copied state-copied =
         let holds = one.holds in
-        let state-there = state-copied ∙ ap (λ (ws : List ℕ). ws ++ drop Most.words state) holds.state_words_lem in
+        let state-there = state-copied ∙ ap (λ (ws : List ℕ). ws ++ drop Most.words state) holds.state_words_are in
         rw one.is
         (record {
           answers = holds.answers;
-          program_is = program-copied ∙ ap (λ (ws : List ℕ). ws ++ drop Most.words program) holds.program_words_lem;
+          program_is = program-copied ∙ ap (λ (ws : List ℕ). ws ++ drop Most.words program) holds.program_words_are;
           state_is = state-there;
           demand_3 = guarded one.program turns (drop Most.words state) holds.answers state-there;
         })

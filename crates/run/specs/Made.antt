@@ -19,8 +19,8 @@ use Rattle.run.specs.RunAnswers.{answer_of}
 -- the run of an accepted script: its answer, its words, and the abstract program and state that they hold
 pub record Holds (P : Program) (turns : List ℕ) (r : Answer) (p s : List ℕ) : Type 0 where
   pub answers : r ≡ answer_of (answer mosts P (run mosts P turns))
-  pub program_words_lem : p ≡ program_words P
-  pub state_words_lem : s ≡ state_words (run mosts P turns).state
+  pub program_words_are : p ≡ program_words P
+  pub state_words_are : s ≡ state_words (run mosts P turns).state
   pub valid : Valid mosts P
   pub loaded : Loaded p P
   pub held : Held s (run mosts P turns).state []

@@ -5,7 +5,7 @@ use Rattle.rules.specs.Mosts.{mosts}
 use Rattle.rules.specs.Script.{Program}
 use Rattle.rules.specs.Reading.{Reading, turned_away, accepted}
 use Rattle.rules.specs.Run as R
-use Rattle.rules.specs.Run.{finished, stuck, openEnd, refused, ended, halted, run, answer}
+use Rattle.rules.specs.Run.{finished, stuck, open_end, refused, ended, halted, run, answer}
 use Rattle.rules.specs.Stripped.{Matches}
 use Rattle.rules.specs.Tables.{state_words}
 use Rattle.rules.specs.Calls.{lent_inputs, run_call, run_answer, program_after, state_after}
@@ -16,14 +16,14 @@ abbrev pub answer_of : R.Answer → Answer
 answer_of (refused k n) = Refused k n
 answer_of (ended finished m) = Finished m
 answer_of (ended stuck m) = Stuck m
-answer_of (ended openEnd m) = Open m
+answer_of (ended open_end m) = Open m
 answer_of (halted k t b l m) = Stopped k t b l m
 
 -- which end it is
 abbrev pub end_number : R.Answer → ℕ
 end_number (ended finished m) = 0
 end_number (ended stuck m) = 1
-end_number (ended openEnd m) = 2
+end_number (ended open_end m) = 2
 end_number (halted k t b l m) = 3
 end_number (refused k n) = 4
 

@@ -79,7 +79,7 @@ ran_written guarded examines one two three last =
       writes = λ P reads holds. (
           same_text 6256
           (rw (← examines.counts P guarded reads holds, ← examines.before P guarded reads holds, ← examines.stripped P guarded reads holds, ← examines.same P guarded reads holds, ← holds.answers) refl)
-          (omega arith) (one.writes P holds.valid holds.program_words_lem ▹ two.writes P holds.valid holds.program_words_lem ▹ three ▹ last)
+          (omega arith) (one.writes P holds.valid holds.program_words_are ▹ two.writes P holds.valid holds.program_words_are ▹ three ▹ last)
           );
       verdict = λ P reads holds. examines.same P guarded reads holds;
     }

@@ -3,12 +3,12 @@ ghost use Rattle.std.specs.Prelude.{◌≡◌, ◌++◌, map, ◌+◌, ◌≤◌
 ghost use Rattle.rules.specs.Text.{bytes};
 ghost use Rattle.buffer.specs.Writing.{Wrote, number_part};
 ghost use Rattle.sheet.specs.SheetText.{ends_in_cr, unended, hint, malformed_hint, mark_under, refusal, script_refusal, shown, stray_hint, turns_hint, turns_refusal, word_text};
-ghost use Rattle.sheet.specs.SheetText.{visible as visibleByte, editor_line};
+ghost use Rattle.sheet.specs.SheetText.{visible as visible_byte, editor_line};
 
 use buffer::{put_number, put_text};
 
 fn visible(b: u8) -> u8
-    ensures { result ≡ visibleByte b }
+    ensures { result ≡ visible_byte b }
 {
     if b < 32 {
         return b'?';
@@ -33,7 +33,7 @@ fn mark(number: u16, b: u8) -> u8
 
 fn put_visible(buf: &mut [u8], at: usize, line: &[u8], n: usize) -> usize
     requires { (at + n ≤ length buf.old) × (n ≤ length line.now) }
-    ensures { Wrote n buf.old buf.new at result (map visibleByte (take n line.now)) }
+    ensures { Wrote n buf.old buf.new at result (map visible_byte (take n line.now)) }
 {
     let mut i: usize = 0;
     while i < n {

@@ -106,4 +106,4 @@ condition_told {P} {turns} {erased = erased} first second becomes same =
     let held : Held erased (erase S) [] = recounted (becomes.becomes S [] first.held first.fits.few_objects) (holders (erase S)) λ n. sym (erased_holders S n) in
     let words : erased ≡ state_words (erase S) = held.words ∙ append-nil (state_words (erase S)) in
     let long : length erased ≤ Most.words = omega (arith, ap length words, state_words_length (erase S)) in
-    same_is same ∙ ap₂ same_words (take_all Most.words erased long ∙ words) second.state_words_lem
+    same_is same ∙ ap₂ same_words (take_all Most.words erased long ∙ words) second.state_words_are

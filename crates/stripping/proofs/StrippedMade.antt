@@ -44,8 +44,8 @@ module _ (text turns : List ℕ) {p s : List ℕ} where
         rw of.is
         (record {
           answers = runs.answers Q loaded of.valid s-fresh;
-          program_words_lem = of.words;
-          state_words_lem = held.words ∙ append-nil (state_words (run mosts Q turns).state);
+          program_words_are = of.words;
+          state_words_are = held.words ∙ append-nil (state_words (run mosts Q turns).state);
           valid = of.valid;
           loaded = loaded;
           held = held;

@@ -24,7 +24,7 @@ use Rattle.listing.specs.Outputs.{printed_of, output_after}
 use Rattle.writer.specs.declared.Answer.{Answer}
 use Rattle.writer.specs.declared.Answer.TheVariants as W
 use Rattle.writer.specs.WriteAnswers.{answer_of}
-use Rattle.stripping.specs.StrippedTexts.{SaysAgain, again, too_long, no_script_lem, Prints}
+use Rattle.stripping.specs.StrippedTexts.{SaysAgain, again, too_long, no_script_again, Prints}
 
 -- ---- Into an output that is long enough
 
@@ -69,14 +69,14 @@ module _ {table after : List ℕ} {answer : Answer} (told : Called table after a
           let both = sym (ap answer_of is) ∙ back.answers in
           let count : n ≡ length some.0 = cc in
           record { script = some.0; reads = some.1; count = count; front = ap (take n) back.leaves ∙ take_at some.0 _ n (sym count) }
-      by_decided (inr none) = let both = sym (ap answer_of is) ∙ (told.writes.no_script_lem none).answers in impossible cc
+      by_decided (inr none) = let both = sym (ap answer_of is) ∙ (told.writes.no_script_answers none).answers in impossible cc
 
   not_written_is : {k : ℕ} → answer ≡ W.Refused k → (k ≡ No.no_script) × NoneReadsTo mosts table
   not_written_is {k} is = by_decided told.writes.decided
     where
       by_decided : ((text : List ℕ) × ReadsTo mosts table text) ⊎ NoneReadsTo mosts table → (k ≡ No.no_script) × NoneReadsTo mosts table
       by_decided (inl some) = let both = sym (ap answer_of is) ∙ (told.writes.comes_back some.0 some.1).answers in impossible cc
-      by_decided (inr none) = let both = sym (ap answer_of is) ∙ (told.writes.no_script_lem none).answers in (cc, none)
+      by_decided (inr none) = let both = sym (ap answer_of is) ∙ (told.writes.no_script_answers none).answers in (cc, none)
 
   -- the script's bytes stand at the front of the buffer, at most 16,384
   pub script_fits : {n : ℕ} → answer ≡ W.Written n → (n ≤ Most.text) × (length (take n after) ≡ n)
@@ -89,7 +89,7 @@ module _ {table after : List ℕ} {answer : Answer} (told : Called table after a
         → (r ≡ printed_of (answer_line (refused k 0)) output) × (output₁ ≡ output_after (answer_line (refused k 0)) output) → Prints (SaysAgain table last) output r output₁
     says_no_script is printed =
         let none = not_written_is is in
-        prints_line (answer_line (refused No.no_script 0)) (no_script_lem none.1) room (rw none.0 at printed)
+        prints_line (answer_line (refused No.no_script 0)) (no_script_again none.1) room (rw none.0 at printed)
 
     pub says_too_long : {n : ℕ} {r : Printed} → answer ≡ W.Written n → Most.input - n < length last
         → (r ≡ printed_of (answer_line (refused No.overlong 0)) output) × (output₁ ≡ output_after (answer_line (refused No.overlong 0)) output)

@@ -23,7 +23,7 @@ pub data SaysAgain (table last : List ℕ) : List ℕ → Type 0 where
   -- "boxrun reads standard input, at most 65,536 bytes"
   too_long : {text : List ℕ} → ReadsTo mosts table text → Most.input < length text + length last → SaysAgain table last (answer_line (refused No.overlong 0))
   -- "18 no script, when no accepted text reads to this table": a text has at most 16,384 bytes
-  no_script_lem : NoneReadsTo mosts table → SaysAgain table last (answer_line (refused No.no_script 0))
+  no_script_again : NoneReadsTo mosts table → SaysAgain table last (answer_line (refused No.no_script 0))
 
 -- of what a script and a list of turns come to
 abbrev pub StrippedText : Reading → (last text : List ℕ) → Type 0

@@ -517,8 +517,8 @@ module _ (m : Mosts) (P : Program) (ts : List ℕ) (valid : Valid m P) (room : 1
   put_there_by k c i none held (put empty number w) = subst (λ n. WaitsOn P (at (suc k)) (get_or ts k 0) c n) (sym number ∙ (still_held (at (suc k)) c i held).number) w
   put_there_by k c i none held (taken r e) = not_both held (empty_not_held (at (suc k)) c i (taken_empty e))
 
-  put_by_lem : (k c i : ℕ) → k < length ts → holds (at k) c i ≡ false → holds (at (suc k)) c i ≡ true → WaitsOn P (at (suc k)) (get_or ts k 0) c i
-  put_by_lem k c i there none held =
+  put_by_waits : (k c i : ℕ) → k < length ts → holds (at k) c i ≡ false → holds (at (suc k)) c i ≡ true → WaitsOn P (at (suc k)) (get_or ts k 0) c i
+  put_by_waits k c i there none held =
       elim (one_turn m P ts k there) [
         | inl stays ↦ not_both held (ap (λ (S : State). holds S c i) stays ∙ none)
         | inr goes ↦ put_there_by k c i none held ((turn_after m P (get_or ts k 0) (kept_at k).fits goes).channel c)
@@ -536,7 +536,7 @@ module _ (m : Mosts) (P : Program) (ts : List ℕ) (valid : Valid m P) (room : 1
       record {
         has_sender = λ k c full. (kept_at k).senders.has c full;
         one_sender = λ k t u c i w v. (kept_at k).senders.one t u c i w v;
-        put_by_lem = put_by_lem;
+        put_by_waits = put_by_waits;
         reported = λ k t c i w held x r. message_reported w held x r;
         until = λ k l t c i order w held-k held-l. still_there k l t c i held-l (carried k l t c i order w held-k);
         received = received;

@@ -14,7 +14,7 @@ use Rattle.rules.specs.Mosts as Most
 use Rattle.rules.specs.Lists.{any, Every}
 use Rattle.rules.specs.Text.{bytes, lf, allowed, stray, lines, join}
 use Rattle.rules.specs.Script.{Operand, reads, takes, value, field, swap, call, new, cast, spawn, send, recv, copy, bind, give, thread, method, Form, kind, opens, line, Edition, edition1, edition2, program_of}
-use Rattle.rules.specs.Templates.{unfit, literal, ◌>>=◌, digit, digit_at, decimal, cap_word, print_operand, print_many, Part, character, oneNumber, oneOperand, oneCap, manyNumbers, manyOperands, Holds, fit, print, kind_t, thread_t, method_t, give_t, value_t, field_t, swap_t, call_t, new_t, cast_t, spawn_t, send_t, recv_t, copy_t, show, script_t, head_of}
+use Rattle.rules.specs.Templates.{unfit, literal, ◌>>=◌, digit, digit_at, decimal, cap_word, print_operand, print_many, Part, character, one_number, one_operand, one_cap, many_numbers, many_operands, Holds, fit, print, kind_t, thread_t, method_t, give_t, value_t, field_t, swap_t, call_t, new_t, cast_t, spawn_t, send_t, recv_t, copy_t, show, script_t, head_of}
 use Rattle.rules.specs.Reading.{slots_in, numbers_in, over255, is_outside, in_place, read_on, next, form_step, line_step, finish, scanned, scan, nothing, Sofar, link, lines_before, linked, script_of, headed, script}
 use Rattle.rules.proofs.ListLaws.{by_bool, all_below, below_true, and_true, or_false, any_false, every_map, every_append}
 use Rattle.rules.proofs.Printing.{Small, parted, fit_back}
@@ -77,22 +77,22 @@ unfoldable one_line : List Part → Bool
 one_line [] = false
 one_line (character c ∷ []) = eqb c lf
 one_line (character c ∷ p ∷ t) = plain c && one_line (p ∷ t)
-one_line (oneNumber ∷ t) = one_line t
-one_line (oneOperand ∷ t) = one_line t
-one_line (oneCap ∷ t) = one_line t
-one_line (manyNumbers ∷ t) = one_line t
-one_line (manyOperands ∷ t) = one_line t
+one_line (one_number ∷ t) = one_line t
+one_line (one_operand ∷ t) = one_line t
+one_line (one_cap ∷ t) = one_line t
+one_line (many_numbers ∷ t) = one_line t
+one_line (many_operands ∷ t) = one_line t
 
 line_printed : (t : List Part) (p : Holds t) → one_line t ≡ true → IsLine (print t p)
 unfolding one_line print
 line_printed [] p h = absurd (false≢true h)
 line_printed (character c ∷ []) p h = rw (eqb-true c lf h) end
 line_printed (character c ∷ q ∷ t) p h = let both = and_true (plain c) (one_line (q ∷ t)) h in more both.0 (line_printed (q ∷ t) p both.1)
-line_printed (oneNumber ∷ t) p h = plain_then (decimal p.0) _ (decimal_plain p.0) (line_printed t p.1 h)
-line_printed (oneOperand ∷ t) p h = plain_then (print_operand p.0) _ (operand_plain p.0) (line_printed t p.1 h)
-line_printed (oneCap ∷ t) p h = plain_then (cap_word p.0) _ (cap_plain p.0) (line_printed t p.1 h)
-line_printed (manyNumbers ∷ t) p h = plain_then (print_many decimal p.0) _ (many_plain decimal decimal_plain p.0) (line_printed t p.1 h)
-line_printed (manyOperands ∷ t) p h = plain_then (print_many print_operand p.0) _ (many_plain print_operand operand_plain p.0) (line_printed t p.1 h)
+line_printed (one_number ∷ t) p h = plain_then (decimal p.0) _ (decimal_plain p.0) (line_printed t p.1 h)
+line_printed (one_operand ∷ t) p h = plain_then (print_operand p.0) _ (operand_plain p.0) (line_printed t p.1 h)
+line_printed (one_cap ∷ t) p h = plain_then (cap_word p.0) _ (cap_plain p.0) (line_printed t p.1 h)
+line_printed (many_numbers ∷ t) p h = plain_then (print_many decimal p.0) _ (many_plain decimal decimal_plain p.0) (line_printed t p.1 h)
+line_printed (many_operands ∷ t) p h = plain_then (print_many print_operand p.0) _ (many_plain print_operand operand_plain p.0) (line_printed t p.1 h)
 
 show_line : (F : Form) → IsLine (show F)
 unfolding show one_line plain allowed

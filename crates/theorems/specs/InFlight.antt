@@ -52,7 +52,7 @@ module _ (m : Mosts) (P : Program) (ts : List ℕ) where
     pub has_sender : (k c : ℕ) → is_absent (channel_at (after k) c).message ≡ false → HasSender P (after k) c
     pub one_sender : (k t u c i : ℕ) → WaitsOn P (after k) t c i → WaitsOn P (after k) u c i → t ≡ u
     -- (it is the thread whose turn put the message)
-    pub put_by_lem : (k c i : ℕ) → k < length ts → holds (after k) c i ≡ false → holds (after (suc k)) c i ≡ true → WaitsOn P (after (suc k)) (get_or ts k 0) c i
+    pub put_by_waits : (k c i : ℕ) → k < length ts → holds (after k) c i ≡ false → holds (after (suc k)) c i ≡ true → WaitsOn P (after (suc k)) (get_or ts k 0) c i
     -- "So the report for a waiting sender also starts from the message that it put": it lists all that the message reaches,
     pub reported : (k t c i : ℕ) → WaitsOn P (after k) t c i → holds (after k) c i ≡ true
         → (x : ℕ) → ReachedFrom (after k).objects ((channel_at (after k) c).message ∷ []) x → ReachedFrom (after k).objects (roots P (after k) t) x

@@ -12,7 +12,7 @@ use Rattle.rules.specs.Text.{bytes}
 use Rattle.rules.specs.Reading.{Reading, turned_away, accepted, script}
 use Rattle.rules.specs.State.{ready, State}
 use Rattle.rules.specs.Turn.{Res, stop, copy_line}
-use Rattle.rules.specs.Run.{run, refused, ended, halted, finished, stuck, openEnd}
+use Rattle.rules.specs.Run.{run, refused, ended, halted, finished, stuck, open_end}
 use Rattle.rules.specs.Races.{event_at, races_on}
 use Rattle.rules.specs.Reach.{roots, reach_list}
 use Rattle.rules.specs.Drawing.{drawing}
@@ -44,7 +44,7 @@ cases =
     ∷ answers "(kind (fields 0) (does))\n(kind (fields 1) (does))\n(thread)\n(let (spawn 1))\n(let (new local 0))\n(let (new unsafe 1 (read 2)))\n(let (send 1 (read 3)))\n(give (read 1))\n(thread)\n(let (recv 0))\n(let (field 1 0))\n(let (swap 2 0 (read 1)))\n(give (read 1))\n" (0 ∷ 0 ∷ 0 ∷ 0 ∷ 1 ∷ 1 ∷ 1 ∷ []) guarded (halted 11 1 1 2 6)
     ∷ answers "(kind (fields 0) (does))\n(kind (fields 1) (does))\n(thread)\n(let (spawn 1))\n(let (new local 0))\n(let (new unsafe 1 (read 2)))\n(let (send 1 (read 3)))\n(give (read 1))\n(thread)\n(let (recv 0))\n(let (field 1 0))\n(let (call 2 0 (read 1)))\n(give (read 1))\n" (0 ∷ 0 ∷ 0 ∷ 0 ∷ 1 ∷ 1 ∷ 1 ∷ []) guarded (halted 12 1 1 2 6)
     -- "a swap stores another thread's local in an unsafe object, a new stops", with 20 since document 02, L5
-    ∷ answers "(kind (fields 0) (does))\n(kind (fields 1) (does))\n(thread)\n(let (spawn 1))\n(let (new local 0))\n(let (new unsafe 1 (read 2)))\n(let (send 1 (read 3)))\n(give (read 1))\n(thread)\n(let (recv 0))\n(let (field 1 0))\n(let (swap 1 0 (read 2)))\n(give (read 1))\n" (0 ∷ 0 ∷ 0 ∷ 0 ∷ 1 ∷ 1 ∷ 1 ∷ []) guarded (ended openEnd 7)
+    ∷ answers "(kind (fields 0) (does))\n(kind (fields 1) (does))\n(thread)\n(let (spawn 1))\n(let (new local 0))\n(let (new unsafe 1 (read 2)))\n(let (send 1 (read 3)))\n(give (read 1))\n(thread)\n(let (recv 0))\n(let (field 1 0))\n(let (swap 1 0 (read 2)))\n(give (read 1))\n" (0 ∷ 0 ∷ 0 ∷ 0 ∷ 1 ∷ 1 ∷ 1 ∷ []) guarded (ended open_end 7)
     ∷ answers "(kind (fields 0) (does))\n(kind (fields 1) (does))\n(thread)\n(let (spawn 1))\n(let (new local 0))\n(let (new unsafe 1 (read 2)))\n(let (send 1 (read 3)))\n(give (read 1))\n(thread)\n(let (recv 0))\n(let (field 1 0))\n(let (new unsafe 1 (read 2)))\n(give (read 1))\n" (0 ∷ 0 ∷ 0 ∷ 0 ∷ 1 ∷ 1 ∷ 1 ∷ []) guarded (halted 20 1 1 2 6)
     -- A swap's target is absent and its value a channel: the target goes first.
     ∷ answers "(thread)\n(let (spawn 0))\n(let (swap 0 0 (read 1)))\n(give (read 1))\n" (0 ∷ 0 ∷ []) guarded (halted 10 0 0 1 1)
@@ -66,7 +66,7 @@ cases =
       output = prints (bytes "(end stuck 4)\n(object 0 imm 0 1)\n(object 1 iso 0 0)\n(channel 1 (obj 0))\n(thread 0 ready 0 2 absent (chan 1) (obj 1))\n(thread 1 waiting 1 1 (chan 1) (obj 0))\n");
     }
     -- "The other end may have answered first; the message number decides": thread 1 takes the message and puts one of its own.
-    ∷ answers "(kind (fields 0) (does))\n(thread)\n(let (spawn 1))\n(let (new imm 0))\n(let (send 1 (read 2)))\n(give (read 1))\n(thread)\n(let (recv 0))\n(let (send 0 (read 1)))\n(give (read 0))\n" (0 ∷ 0 ∷ 0 ∷ 1 ∷ 1 ∷ 0 ∷ []) guarded (ended openEnd 6)
+    ∷ answers "(kind (fields 0) (does))\n(thread)\n(let (spawn 1))\n(let (new imm 0))\n(let (send 1 (read 2)))\n(give (read 1))\n(thread)\n(let (recv 0))\n(let (send 0 (read 1)))\n(give (read 0))\n" (0 ∷ 0 ∷ 0 ∷ 1 ∷ 1 ∷ 0 ∷ []) guarded (ended open_end 6)
     ∷ []
 
 -- Document 02, L5: "Where several hold, 20 goes before 19 and 19 before 14 within one line's permission check; operands still go first."
@@ -124,7 +124,7 @@ copies =
       text = "(script 2)\n(kind (fields 0) (does))\n(kind (fields 2) (does))\n(thread)\n(let (new unsafe 0))\n(let (new unsafe 1 (read 1) (read 1)))\n(let (new unsafe 1 (read 2) (read 1)))\n(let (swap 2 0 (read 3)))\n(let (copy imm 3))\n(give (read 5))\n";
       turns = 0 ∷ 0 ∷ 0 ∷ 0 ∷ 0 ∷ [];
       way = guarded;
-      answer = ended openEnd 5;
+      answer = ended open_end 5;
       output = prints (bytes "(end open 5)\n(object 0 unsafe 0 0)\n(object 1 unsafe 1 0 (obj 2) (obj 0))\n(object 2 unsafe 1 0 (obj 1) (obj 0))\n(object 3 imm 1 0 (obj 4) (obj 5))\n(object 4 imm 1 0 (obj 3) (obj 5))\n(object 5 imm 0 0)\n(thread 0 ready 0 5 absent (obj 0) (obj 1) (obj 2) (obj 0) (obj 3))\n");
     }
     -- "The slot keeps its value, even an iso."
@@ -133,7 +133,7 @@ copies =
     ∷ answers "(script 2)\n(thread)\n(let (copy imm 0))\n(give (read 1))\n" (0 ∷ []) guarded (halted 10 0 0 0 0)
     ∷ answers "(script 2)\n(thread)\n(let (spawn 0))\n(let (copy imm 1))\n(give (read 1))\n" (0 ∷ 0 ∷ []) guarded (halted 13 0 0 1 1)
     ∷ answers foreign_within (0 ∷ 0 ∷ 0 ∷ 0 ∷ 1 ∷ 1 ∷ 1 ∷ []) guarded (halted 20 1 1 1 5)
-    ∷ answers foreign_within (0 ∷ 0 ∷ 0 ∷ 0 ∷ 1 ∷ 1 ∷ 1 ∷ []) stripped (ended openEnd 7)
+    ∷ answers foreign_within (0 ∷ 0 ∷ 0 ∷ 0 ∷ 1 ∷ 1 ∷ 1 ∷ []) stripped (ended open_end 7)
     ∷ []
 
 -- Thread 1 of a box with room for one object copies an object that is local to thread 0: 20 goes before 16. For an unsafe one it is 16.

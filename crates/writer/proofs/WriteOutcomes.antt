@@ -135,14 +135,14 @@ module _ (table buffer : List ℕ) where
       unfolding short_table short_buffer
       turned_away_lem none =
           rw (le-ltb (length table) Most.words long, le-ltb (length buffer) Most.text room)
-          (record { comes_back = λ text it. absurd (none text it); no_script_lem = λ _. record { answers = refl; leaves = refl }; decided = inr none })
+          (record { comes_back = λ text it. absurd (none text it); no_script_answers = λ _. record { answers = refl; leaves = refl }; decided = inr none })
 
       pub written_out : {k r : ℕ} {printed after : List ℕ} → ReadsTo mosts table printed → ((text : List ℕ) → ReadsTo mosts table text → printed ≡ text)
           → Wrote k buffer after 0 r printed → WriteCall mosts table buffer (wrote r) after
       unfolding short_table short_buffer
       written_out {r} {printed} {after} it only w =
           rw (le-ltb (length table) Most.words long, le-ltb (length buffer) Most.text room)
-          (record { comes_back = back; no_script_lem = λ none. absurd (none printed it); decided = inl (printed, it) })
+          (record { comes_back = back; no_script_answers = λ none. absurd (none printed it); decided = inl (printed, it) })
         where
           back : (text : List ℕ) → ReadsTo mosts table text → Written text buffer (wrote r) after
           back text other =

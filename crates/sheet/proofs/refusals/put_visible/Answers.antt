@@ -6,7 +6,7 @@ use mathlib.Core.List.{map}
 use mathlib.Core.Path.{◌≡◌, ap}
 use lib.ListN.{take}
 use Rattle.buffer.proofs.Appends.{same_text, nothing}
-use Rattle.sheet.specs.SheetText.{visible as visibleByte}
+use Rattle.sheet.specs.SheetText.{visible as visible_byte}
 use Rattle.sheet.proofs.RefusalLaws.{one_more_as}
 use Rattle.std.proofs.Common.{rules}
 use Rattle.sheet.proofs.refusals.put_visible.Goals as goal
@@ -17,7 +17,7 @@ loop-i-init c = (search rules, search rules, rw (add-zero c.args.at) (nothing 0 
 pub loop-i-preserved : goal.loop-i-preserved
 loop-i-preserved c =
     let start = c.args in
-    (search rules, search rules, rw c.visible.ensures (one_more_as visibleByte start.line.now c.loop-i.i (search rules) (search rules) c.loop-i.invariant.2))
+    (search rules, search rules, rw c.visible.ensures (one_more_as visible_byte start.line.now c.loop-i.i (search rules) (search rules) c.loop-i.invariant.2))
 
 pub shape_of-buf : goal.shape_of-buf
 shape_of-buf c = c.loop-i.invariant.1
@@ -26,4 +26,4 @@ pub returns : goal.returns
 returns c =
     let start = c.args in
     let all : c.loop-i.i ≡ start.n = omega arith in
-    same_text start.n (ap (λ (k : ℕ). map visibleByte (take k start.line.now)) all) (omega arith) c.loop-i.invariant.2
+    same_text start.n (ap (λ (k : ℕ). map visible_byte (take k start.line.now)) all) (omega arith) c.loop-i.invariant.2
