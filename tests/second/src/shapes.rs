@@ -1,11 +1,9 @@
 //! Special shapes that plain scripts seldom have: mosts reached and exceeded, frames, threads and
-//! objects used up, answers on one channel, locals met by another thread, objects shared and handed on,
-//! and long inputs.
+//! objects used up, answers on one channel, locals met by another thread, and long inputs.
 
 use crate::copy_shapes;
 use crate::graphs;
 use crate::numbers::*;
-use crate::race_shapes;
 use crate::random::Random;
 use crate::reading::edition;
 use crate::script::Edition;
@@ -15,9 +13,7 @@ use crate::turns::{list, rounds};
 pub type Shape = (String, Vec<u8>);
 
 pub fn shape(random: &mut Random) -> Shape {
-    match random.weighted(&[
-        5, 5, 6, 3, 6, 4, 4, 8, 14, 16, 5, 8, 8, 10, 12, 8, 9, 12, 36,
-    ]) {
+    match random.weighted(&[5, 5, 6, 3, 6, 4, 4, 8, 14, 16, 5, 8, 8, 10, 12, 8, 9, 36]) {
         0 => many_kinds(random),
         1 => many_blocks(random),
         2 => many_slots(random),
@@ -35,7 +31,6 @@ pub fn shape(random: &mut Random) -> Shape {
         14 => graphs::woven(random),
         15 => graphs::deep(random),
         16 => graphs::crowded(random),
-        17 => race_shapes::shape(random),
         _ => copy_shapes::shape(random),
     }
 }

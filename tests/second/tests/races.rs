@@ -770,12 +770,22 @@ fn touched_by_two(deeds: &[Deed]) -> bool {
     })
 }
 
-/// Scripts of every shape: without the word unsafe none has a race.
+/// An input of a shape that shares objects and hands them on.
+fn shared_input(random: &mut Random) -> Vec<u8> {
+    let (script, turns) = race_shapes::shape(random);
+    let turns: String = turns.iter().map(|t| format!(" {}", t)).collect();
+    format!("{}(turns{})\n", script, turns).into_bytes()
+}
+
+/// Scripts of every shape, and of those that share objects and hand them on: without the word unsafe none has a race.
 #[test]
 fn no_random_script_without_the_word_races() {
     let (mut without, mut raced) = (0, 0);
     for n in 0..4_000 {
-        let input = generate::input(7, n);
+        let input = match n % 8 {
+            0 => shared_input(&mut Random::of(7, n)),
+            _ => generate::input(7, n),
+        };
         let (program, turns) = match second::input::accepted(&input) {
             Ok(accepted) => accepted,
             Err(_) => continue,
