@@ -78,6 +78,9 @@ LAST = {
 LAST_OF = [
     ("crates/rules/specs/Turn.antt", "permit : (is_foreign isAlias isOther : Bool)", "permit : (is_foreign is_alias is_other : Bool)"),
     ("crates/reader/", "line_count_lem", "line_count_is"),
+    ("crates/listing/proofs/LineTexts.antt", "pub open_end :", "pub open_end_lem :"),
+    ("crates/listing/proofs/LineTexts.antt", "open_end = line_is", "open_end_lem = line_is"),
+    ("crates/listing/proofs/answers/put_answer/", "open_end", "open_end_lem"),
     ("crates/stripping/specs/StrippedTexts.antt", "no_script_lem", "no_script_again"),
     ("crates/stripping/proofs/", "too_long, no_script_lem, Prints", "too_long, no_script_again, Prints"),
     ("crates/stripping/proofs/", "(no_script_lem none.1)", "(no_script_again none.1)"),
@@ -178,7 +181,8 @@ def turned(text, path, names, behind, met):
 
 def pages_too(root):
     crates = texts(os.path.join(root, "crates"), (".antt", ".rt", ".edit", ".md"))
-    return [*crates, *texts(os.path.join(root, "docs"), (".md",)), os.path.join(root, "README.md")]
+    docs = [path for path in texts(os.path.join(root, "docs"), (".md",)) if not path.endswith("PORT.md")]
+    return [*crates, *docs, os.path.join(root, "README.md")]
 
 
 def last(root):

@@ -112,9 +112,9 @@ module _ (m : ℕ) where
   unfolding answer_line end_word parts
   stuck_end = line_is "end" (bytes "stuck" ∷ decimal m ∷ [])
 
-  pub open_end : bytes "(end" ++ (bytes " open" ++ (number_part m ++ bytes ")\n")) ≡ answer_line (ended open_end m)
+  pub open_end_lem : bytes "(end" ++ (bytes " open" ++ (number_part m ++ bytes ")\n")) ≡ answer_line (ended open_end m)
   unfolding answer_line end_word parts
-  open_end = line_is "end" (bytes "open" ∷ decimal m ∷ [])
+  open_end_lem = line_is "end" (bytes "open" ∷ decimal m ∷ [])
 
 -- ---- Rows of values
 

@@ -2,7 +2,7 @@
 use native.Mathlib.Omega.{arith}
 use mathlib.Core.Path.{refl}
 use Rattle.buffer.proofs.Appends.{same_text}
-use Rattle.listing.proofs.LineTexts.{finished_end, stuck_end, open_end}
+use Rattle.listing.proofs.LineTexts.{finished_end, stuck_end, open_end_lem}
 use Rattle.listing.proofs.answers.put_answer.Goals as goal
 
 pub returns-in-Refused : goal.returns-in-Refused
@@ -21,7 +21,7 @@ returns-in-Stuck c =
 pub returns-in-Open : goal.returns-in-Open
 returns-in-Open c =
     rw c.in-Open.is
-    (same_text 40 (open_end c.in-Open.moves) (omega arith) c.put_ended-in-Open.ensures)
+    (same_text 40 (open_end_lem c.in-Open.moves) (omega arith) c.put_ended-in-Open.ensures)
 
 pub returns-in-Stopped : goal.returns-in-Stopped
 returns-in-Stopped c = rw c.in-Stopped.is c.put_stopped.ensures
