@@ -151,6 +151,9 @@ fn any_above(s: &[u16], k: Cap, a: Value, b: Value, c: Value, d: Value) -> bool
     )
 }
 
+// The most objects of a run.
+const OBJECTS: u16 = 256;
+
 // "any value a channel 13; any value above K, .. 14", or 20 for "new's value that is local with another creator"; "objects used up 16".
 pub fn hold_check(s: &[u16], t: usize, k: Cap, a: Value, b: Value, c: Value, d: Value) -> Step
     requires { (8192 ≤ length s.now) × InTable a × InTable b × InTable c × InTable d }
@@ -165,7 +168,7 @@ pub fn hold_check(s: &[u16], t: usize, k: Cap, a: Value, b: Value, c: Value, d: 
     if !passes(permission) {
         return permission;
     }
-    if table::object_count(s) < 256 {
+    if table::object_count(s) < OBJECTS {
         return Step::Next;
     }
     Step::UsedUp

@@ -14,14 +14,14 @@ returns-then-not-passes c =
     (sym c.any_channel.ensures ∙ c.if-any_channel.false) c.any_foreign-foreign.ensures c.any_above-other.ensures
     {a = c.permission_check-permission.result} c.permission_check-permission.ensures (sym c.passes.ensures ∙ not-true _ c.if-not-passes.true-raw)
 
-pub returns-then-object_count-lt256 : goal.returns-then-object_count-lt256
-returns-then-object_count-lt256 c =
+pub returns-then-object_count-lt-OBJECTS : goal.returns-then-object_count-lt-OBJECTS
+returns-then-object_count-lt-OBJECTS c =
     held_passes _ _ _
     (sym c.any_channel.ensures ∙ c.if-any_channel.false) c.any_foreign-foreign.ensures c.any_above-other.ensures
-    (passed_is_ok _ c.permission_check-permission.ensures (sym c.passes.ensures ∙ not-false _ c.if-not-passes.false-raw)) c.object_count.ensures.sees c.if-object_count-lt256.true
+    (passed_is_ok _ c.permission_check-permission.ensures (sym c.passes.ensures ∙ not-false _ c.if-not-passes.false-raw)) c.object_count.ensures.sees c.if-object_count-lt-OBJECTS.true
 
 pub returns : goal.returns
 returns c =
     held_used_up _ _ _
     (sym c.any_channel.ensures ∙ c.if-any_channel.false) c.any_foreign-foreign.ensures c.any_above-other.ensures
-    (passed_is_ok _ c.permission_check-permission.ensures (sym c.passes.ensures ∙ not-false _ c.if-not-passes.false-raw)) c.object_count.ensures.sees c.if-object_count-lt256.false
+    (passed_is_ok _ c.permission_check-permission.ensures (sym c.passes.ensures ∙ not-false _ c.if-not-passes.false-raw)) c.object_count.ensures.sees c.if-object_count-lt-OBJECTS.false
