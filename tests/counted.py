@@ -9,6 +9,8 @@ import os
 import re
 import sys
 
+from straight import below, read, stands_on, without_clauses
+
 ROOT = os.path.dirname(os.path.dirname(os.path.abspath(__file__)))
 ENTRY = 'holders'
 READING = ['grammar', 'reader']
@@ -73,32 +75,7 @@ PASSED = [
 ]
 
 
-def read(path):
-    with open(os.path.join(ROOT, path), encoding='utf-8') as file:
-        return file.read()
-
-
-BELOW = dict(re.findall(r'^(\w+)(?: staticlib)?:([^#\n]*)', read('crates.txt'), re.M))
-
-
-def stands_on(crate):
-    """A crate and all that it stands on, by crates.txt."""
-    crates = [crate]
-    for one in crates:
-        crates += [dep for dep in BELOW.get(one, '').split() if dep not in crates]
-    return crates
-
-
-def without_clauses(source):
-    """The source without the clauses of its contracts."""
-    left, at = '', 0
-    for clause in re.finditer(r'^[^\S\n]*(?:requires|ensures)\b[^{\n]*\{', source, re.M):
-        if clause.start() >= at:
-            left, at, depth = left + source[at:clause.start()], clause.end(), 1
-            while depth and at < len(source):
-                depth += {'{': 1, '}': -1}.get(source[at], 0)
-                at += 1
-    return left + source[at:]
+BELOW = below()
 
 
 def code(source):

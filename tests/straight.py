@@ -64,12 +64,17 @@ def read(path):
         return file.read()
 
 
+def below():
+    """What each crate names, by crates.txt."""
+    return dict(re.findall(r'^(\w+)(?: staticlib)?:([^#\n]*)', read('crates.txt'), re.M))
+
+
 def stands_on(crate):
     """A crate and all that it stands on, by crates.txt."""
-    below = dict(re.findall(r'^(\w+)(?: staticlib)?:([^#\n]*)', read('crates.txt'), re.M))
+    named = below()
     crates = [crate]
     for one in crates:
-        crates += [dep for dep in below.get(one, '').split() if dep not in crates]
+        crates += [dep for dep in named.get(one, '').split() if dep not in crates]
     return crates
 
 
