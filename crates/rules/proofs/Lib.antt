@@ -27,3 +27,5 @@ pub mod FormNumbers
 pub mod TableWords
 -- a text that was read comes back
 pub mod Writer
+-- a derived equality in the words of the definitions
+pub mod Equal

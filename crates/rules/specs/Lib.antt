@@ -1,7 +1,8 @@
 -- Document 01 as definitions, in its order: what must be believed, and nothing else.
 
--- the numbers of refusals and stops, the mosts, small functions on lists
+-- the numbers of refusals and stops, a refusal as an answer, the mosts, small functions on lists
 pub mod Numbers
+pub mod Refusals
 pub mod Mosts
 pub mod Lists
 -- "Written form": texts and lines; a script as values; templates, matcher and printer; refusals 1 to 9; what an accepted program guarantees

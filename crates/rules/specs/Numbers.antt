@@ -2,6 +2,8 @@
 use Rattle.std.specs.Prelude.{ℕ, Bool, ◌||◌, eqb}
 use Rattle.rules.specs.declared.Ground.{Ground}
 use Rattle.rules.specs.declared.Ground.TheVariants.{Foreign, Alias, Other}
+use Rattle.rules.specs.declared.faults.Fault.{Fault}
+use Rattle.rules.specs.declared.faults.Fault.TheVariants as F
 
 -- text or turns too long
 abbrev pub overlong : ℕ
@@ -84,3 +86,33 @@ no_object = 21
 -- document 02, L5: "The stripped-script rule now counts 14, 15, 19 and 20 as permission or cast."
 abbrev pub is_guard : ℕ → Bool
 is_guard n = eqb n (permission Foreign) || eqb n (permission Alias) || eqb n (permission Other) || eqb n cast
+
+-- the number of a fault
+abbrev pub number : Fault → ℕ
+number F.Overlong = overlong
+number F.StrayByte = stray_byte
+number F.Malformed = malformed
+number F.OverCount = over_count
+number F.Unbound = unbound
+number F.SelfTaken = self_taken
+number F.Unfinished = unfinished
+number F.Dangling = dangling
+number F.ShortTable = short_table
+number F.Absent = absent
+number F.NoField = no_field
+number F.NoMethod = no_method
+number F.WrongThing = wrong_thing
+number F.Permission = permission Other
+number F.Cast = cast
+number F.UsedUp = used_up
+number F.NoThread = no_thread
+number F.NoScript = no_script
+number F.Alias = permission Alias
+number F.Foreign = permission Foreign
+number F.NoObject = no_object
+
+-- the fault on a ground, whose number is that of the ground
+abbrev pub fault_on : Ground → Fault
+fault_on Foreign = F.Foreign
+fault_on Alias = F.Alias
+fault_on Other = F.Permission

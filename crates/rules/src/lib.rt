@@ -5,15 +5,18 @@ ghost use Rattle.std.specs.Prelude.{◌≡◌, ◌<◌, get_or};
 ghost use Rattle.rules.specs.Numbers as No;
 ghost use Rattle.rules.specs.Script.{rank};
 ghost use Rattle.rules.specs.Templates.{cap_word};
+ghost use Rattle.rules.specs.Tables.{cap_of};
 ghost use Rattle.rules.specs.Turn.{may_hold};
 
+mod faults;
 pub mod forms;
 pub mod numbers;
 
+pub use faults::{Fault, Refusal};
 pub use forms::{Form, form_of};
 
 // "A value is absent, an object number or a channel number."
-#[derive(Clone, Copy)]
+#[derive(Clone, Copy, Debug, PartialEq, Eq)]
 pub enum Value {
     Absent,
     Obj(u16),
@@ -21,7 +24,7 @@ pub enum Value {
 }
 
 // "Capabilities are ordered imm < iso < local < unsafe".
-#[derive(Clone, Copy)]
+#[derive(Clone, Copy, Debug, PartialEq, Eq, PartialOrd, Ord)]
 pub enum Cap {
     Imm,
     Iso,
@@ -30,7 +33,7 @@ pub enum Cap {
 }
 
 // The grounds of a permission stop (document 02, L5).
-#[derive(Clone, Copy)]
+#[derive(Clone, Copy, Debug, PartialEq, Eq)]
 pub enum Ground {
     Foreign, // something local to another thread
     Alias, // a second reference to an iso
@@ -39,7 +42,7 @@ pub enum Ground {
 
 // What a turn that moves does to fields and messages (document 02, L9): it reads or swaps a field of an object, puts or receives a message, copies the
 // objects met from one.
-#[derive(Clone, Copy)]
+#[derive(Clone, Copy, Debug, PartialEq, Eq)]
 pub enum Event {
     Quiet,
     Reads(u16, u16),
@@ -109,6 +112,41 @@ pub const LOCAL: [u8; 5] = *b"local";
 
 pub const UNSAFE: [u8; 6] = *b"unsafe";
 
+impl Cap {
+    // The place of a capability in the order.
+    pub fn rank(self) -> usize
+        ensures value { result ≡ rank self }
+        ensures upper_bound { result < 4 }
+    {
+        self as usize
+    }
+
+    // Its word.
+    pub fn word(self) -> &'static [u8]
+        ensures { result.now ≡ cap_word self }
+    {
+        match self {
+            Cap::Imm => &IMM,
+            Cap::Iso => &ISO,
+            Cap::Local => &LOCAL,
+            Cap::Unsafe => &UNSAFE,
+        }
+    }
+}
+
+// A capability's number in a table read back.
+impl From<u16> for Cap {
+    ghost from_gives = { λ w c. c ≡ cap_of w };
+
+    fn from(w: u16) -> Cap {
+        match w {
+            0 => Cap::Imm,
+            1 => Cap::Iso,
+            2 => Cap::Local,
+            _ => Cap::Unsafe,
+        }
+    }
+}
 // Letter i of the word of a capability, and 0 past its end.
 pub fn cap_letter(c: Cap, i: usize) -> u8
     ensures { result ≡ get_or (cap_word c) i 0 }
