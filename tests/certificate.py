@@ -11,6 +11,7 @@ A name stands in backticks, as one of
     C: name, ..                             parts of the C test, tests/host/host_test.c and every_call.h
     G: name, ..                             parts of the gate, scripts/test
     CRATE::name, CRATE::MODULE::name        functions, types and constants: of the crate's root or passed on there; of src/MODULE.rt
+    CRATE::Type::name                       methods of a type, or of a trait that it has, and variants of an enum
     a/path, README.md                       files and folders of the repository
 (S, P and T without names cite the file). Whatever else stands in backticks is a failure. The last line is 'N passed, M failed'."""
 import glob
@@ -23,6 +24,7 @@ CERTIFICATE = 'docs/CERTIFICATE.md'
 EDITS = {'M': 'must-fail', 'E': 'tried'}
 KEYWORDS = {'pub', 'unfoldable', 'abbrev', 'record', 'data', 'module'}
 ITEM = r'^(?:pub )?(?:extern "C" )?(?:fn|enum|struct|const|mod) %s\b'
+IMPL = r'^impl(?:<[^{]*?>)? (?:[^{]* for )?(\w+)(?:<[^{]*)? \{\n(.*?)^\}'
 
 
 def read(path):
@@ -58,6 +60,27 @@ def passed_on(library):
             yield module, name
 
 
+def sources_of(crate):
+    """The sources of a crate, each with its module's name."""
+    for path in sorted(glob.glob(os.path.join(ROOT, 'crates', crate, 'src', '**', '*.rt'), recursive=True)):
+        yield os.path.splitext(os.path.basename(path))[0], read(os.path.relpath(path, ROOT))
+
+
+def methods(source):
+    """The type and the name of each method that a source gives to one: its own that are pub, and those of its traits."""
+    for block in re.finditer(IMPL, source, re.M | re.S):
+        of_trait = ' for ' in block[0].partition('{')[0]
+        for name in re.findall(r'^    %sfn (\w+)' % ('' if of_trait else 'pub '), block[2], re.M):
+            yield block[1], name
+
+
+def variants(source):
+    """The enum and the name of each variant."""
+    for block in re.finditer(r'^(?:pub )?enum (\w+) \{\n(.*?)^\}', source, re.M | re.S):
+        for name in re.findall(r'^    (\w+)', block[2], re.M):
+            yield block[1], name
+
+
 def stands(cited):
     """What a piece in backticks cites, each with whether it stands; nothing where the piece fits no convention."""
     place, colon, names = cited.partition(': ')
@@ -80,6 +103,9 @@ def stands(cited):
         return [(n, in_file('scripts/test', r'^ *part %s ')(n)) for n in names]
     if re.fullmatch(r'\w+(::\w+){1,2}', cited):
         crate, *module, name = cited.split('::')
+        if module and module[0][0].isupper():
+            members = [one for _, source in sources_of(crate) for one in [*methods(source), *variants(source)]]
+            return [(cited, (module[0], name) in members)]
         path = 'crates/%s/src/%s.rt' % (crate, module[0]) if module else root_of(crate)
         passed = not module and name in [other for _, other in passed_on(read(path))]
         return [(cited, passed or in_file(path, ITEM)(name))]
@@ -89,7 +115,7 @@ def stands(cited):
 
 
 def public_functions():
-    """Each function that a crate's lib.rt declares pub or passes on."""
+    """Each function that a crate's lib.rt declares pub or passes on, and each method of such a type."""
     for crate in re.findall(r'^(\w+)(?: staticlib)?:', read('crates.txt'), re.M):
         library = read('crates/%s/src/lib.rt' % crate)
         for name in re.findall(r'^pub (?:extern "C" )?fn (\w+)', library, re.M):
@@ -97,6 +123,11 @@ def public_functions():
         for module, name in passed_on(library):
             if in_file('crates/%s/src/%s.rt' % (crate, module), r'^pub fn %s\b')(name):
                 yield '%s::%s' % (crate, name)
+        types = set(re.findall(r'^pub (?:enum|struct) (\w+)', library, re.M)) | {name for _, name in passed_on(library)}
+        for _, source in sources_of(crate):
+            for method in sorted(set(methods(source))):
+                if library and method[0] in types:
+                    yield '%s::%s::%s' % ((crate,) + method)
 
 
 def edits_in(text):
