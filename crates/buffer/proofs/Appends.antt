@@ -6,6 +6,7 @@ use native.Mathlib.Omega.{arith}
 use mathlib.Core.Path.{◌≡◌, refl, sym, ap, ◌∙◌}
 use mathlib.Core.List.{List, [], ◌∷◌, ◌++◌, append_assoc}
 use lib.ListN.{length, take, drop, set, get_or, length-append, take-append-drop}
+use borrow.Rule.Slice.PartMut.{put_mid}
 use lib.Seq.{length-take-le, take-append_seam, drop-append-add, drop-drop, set_split, take-suc}
 use Rattle.buffer.specs.Writing.{over, Wrote}
 
@@ -16,6 +17,10 @@ over_none l at = rw (add-zero at) (sym (take-append-drop at l))
 over_byte : (l : List ℕ) (at b : ℕ) → at < length l → set l at b ≡ over l at (b ∷ [])
 unfolding over
 over_byte l at b there = rw (add-one at) (set_split l at b there)
+
+over_range : (l ys t : List ℕ) (at k : ℕ) → ys ≡ t → k ≡ length t → put_mid at k l ys ≡ over l at t
+unfolding over
+over_range l ys t at k e p = rw (e, p, drop-drop (length t) at l) refl
 
 over_past : (p q : List ℕ) (at : ℕ) → length p ≡ at → (t : List ℕ) → over (p ++ q) at t ≡ p ++ (t ++ drop (length t) q)
 unfolding over
@@ -33,6 +38,10 @@ nothing {l} {at} k there = record { is = over_none l at; end = omega arith; most
 
 pub byte : {l : List ℕ} {at : ℕ} (b : ℕ) → at < length l → Wrote 1 l (set l at b) at (at + 1) (b ∷ [])
 byte {l} {at} b there = record { is = over_byte l at b there; end = refl; most = omega arith; from = omega arith }
+
+-- a range of the buffer set to a text
+pub range : {l ys t : List ℕ} {at k : ℕ} → ys ≡ t → k ≡ length t → at ≤ length l → Wrote (length t) l (put_mid at k l ys) at (at + length t) t
+range {l} {ys} {t} {at} {k} e p there = record { is = over_range l ys t at k e p; end = refl; most = omega arith; from = there }
 
 infixr 5 ◌▹◌
 pub ◌▹◌ : {j k : ℕ} {l l₁ l₂ : List ℕ} {at m r : ℕ} {s t : List ℕ} → Wrote j l l₁ at m s → Wrote k l₁ l₂ m r t → Wrote (j + k) l l₂ at r (s ++ t)
