@@ -13,7 +13,7 @@ use Rattle.rules.specs.Reach.{count, slots_of}
 use Rattle.rules.proofs.TableWords.{length_outermost}
 use Rattle.table.specs.StateTable.{Counted, Starts, OnLine, frame_at, Innermost, callee, called, left}
 use Rattle.table.specs.ProgramTable.{fresh_table, Filled}
-use Rattle.table.specs.declared.state.Here.{Here}
+use Rattle.table.specs.declared.standing.Here.{Here}
 use Rattle.table.proofs.ProgramLines.{blocks_of_lines, line_there, line_part_is}
 use Rattle.table.proofs.StateTable.{splice, Part, part_set, frame_part, sender_put, frame_pushed, frame_dropped}
 use Rattle.table.proofs.StateEdits.{thread_put, put_put, length_put}

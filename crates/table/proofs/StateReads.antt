@@ -11,8 +11,8 @@ use Rattle.rules.specs.State.{Object, State, no_object, object_at, channel_at, s
 use Rattle.rules.specs.Tables.{cap_of, word, unmade, object_words, frame_words, channel_words}
 use Rattle.rules.proofs.ListLaws.{get_pad, get_there}
 use Rattle.rules.proofs.TableWords.{cap_of_rank}
-use Rattle.table.specs.StateTable.{value_of, InTable, Counted, Sees, Placed, frame_at, FieldIn}
-use Rattle.table.specs.declared.state.Here.{Here}
+use Rattle.table.specs.StateTable.{value_of, InTable, Counted, Sees, frame_at, FieldIn}
+use Rattle.table.specs.declared.standing.Here.{Here}
 use Rattle.table.proofs.StateTable.{part_get, object_part, frame_part, channel_part}
 
 -- ---- Values and capabilities
@@ -85,8 +85,8 @@ module _ {l rest : List ℕ} {N : ℕ → ℕ} {S : State} (held : Counted l N S
   message_word c h = channel_word c 0 (6952 + c * 2) h (omega arith) (omega arith)
 
   -- a slot where a thread stands
-  pub slot_here : (h : Here) → Placed h → (i : ℕ) → i < 16 → get_or l (h.frame + 3 + i) 0 ≡ word (slot_at (frame_at S h.thread h.depth).slots i)
-  slot_here h placed i lt = slot_word h.thread h.depth i (h.frame + 3 + i) placed.thread placed.depth lt (omega (arith, placed.frame))
+  pub slot_here : (h : Here) (i : ℕ) → i < 16 → get_or l (h.frame + 3 + i) 0 ≡ word (slot_at (frame_at S h.thread h.depth).slots i)
+  slot_here h i lt = slot_word h.thread h.depth i (h.frame + 3 + i) h.placed.thread h.placed.depth lt (omega (arith, h.placed.frame))
 
 -- ---- What is seen
 

@@ -13,7 +13,7 @@ use Rattle.rules.specs.Tables.{row, word, outermost_first, no_frame, counted_wor
 use Rattle.rules.specs.Holders.{holders}
 use Rattle.rules.specs.Reach.{count_one}
 use Rattle.table.specs.ProgramTable.{fresh_table, Filled}
-use Rattle.table.specs.declared.state.Here.{Here}
+use Rattle.table.specs.declared.standing.Here.{Here}
 
 -- ---- Values
 
@@ -54,14 +54,6 @@ abbrev pub Any : State → Type 0
 Any S = Unit {0}
 
 -- ---- Where a thread stands
-
--- the places are those of the thread's frame; the line's words lie in the program table
-pub record Placed (h : Here) : Type 0 where
-  pub thread : h.thread < mosts.threads
-  pub depth : h.depth < Most.frames
-  pub frame : h.frame ≡ 2058 + h.thread * 306 + h.depth * 19
-  pub row : h.row + 8 ≤ Most.words
-  pub aligned : h.row % 8 ≡ 0
 
 -- frame k of thread t, counted from the outermost
 unfoldable pub frame_at : State → ℕ → ℕ → Frame

@@ -2,6 +2,7 @@
 #![tactic(auto)]
 
 mod program;
+mod standing;
 mod state;
 mod stripped;
 
@@ -9,10 +10,11 @@ pub use program::{
     add_line, add_opener, block_form, copy_table, edition, first_line, kind_fields, kind_method,
     line_count, line_word, put_counts, same_table, used_words,
 };
+pub use standing::Here;
 pub use state::{
-    Here, add_object, cap, cap_of, clear_slot, creator, drop_frame, empty_channel, field,
-    frame_block, frame_count, frame_line, frame_slot, give_value, hold, holder_count, kind, locate,
-    message, message_number, next_line, object_count, part, push_frame, put_message, release,
-    return_value, sender, slot, slot_count, start_state, start_thread, store_field, thread_count,
+    add_object, cap, cap_of, clear_slot, creator, drop_frame, empty_channel, field, frame_block,
+    frame_count, frame_line, frame_slot, give_value, hold, holder_count, kind, locate, message,
+    message_number, object_count, push_frame, put_message, release, return_value, sender, slot,
+    slot_count, start_state, start_thread, store_field, thread_count,
 };
 pub use stripped::{erase_state, strip_program};

@@ -5,18 +5,10 @@ ghost use Rattle.rules.specs.declared.Value.TheVariants.{Absent};
 ghost use Rattle.rules.specs.State.{object_at, thread_at, channel_at, slot_at};
 ghost use Rattle.rules.specs.Tables.{cap_of, word, sender_word};
 ghost use Rattle.rules.specs.Turn.{started};
-ghost use Rattle.table.specs.StateTable.{value_of, InTable, Starts, Sees, Becomes, Any, Placed, Stands, frame_at, given, cleared, HasRoom, HasSlot, FieldIn, HasField, stored, channelled, Puts, sending, Pushes, MadeOf, Makes, Next, Innermost, callee, called, left, raised, lowered, counted_by, Counts, Stores, Releases, Drops};
+ghost use Rattle.table.specs.StateTable.{value_of, InTable, Starts, Sees, Becomes, Any, Stands, frame_at, given, cleared, HasRoom, HasSlot, FieldIn, HasField, stored, channelled, Puts, sending, Pushes, MadeOf, Makes, Next, Innermost, callee, called, left, raised, lowered, counted_by, Counts, Stores, Releases, Drops};
 
+use super::standing::Here;
 use rules::{Cap, Value};
-
-// Where a thread stands: its number, its innermost frame's number from the outermost, and the places of that frame's words and of its line's.
-#[derive(Clone, Copy)]
-pub struct Here {
-    pub thread: usize,
-    pub depth: usize,
-    pub frame: usize,
-    pub row: usize,
-}
 
 // 0 is absent, 1 + n object n, 257 + c channel c.
 fn unpack(w: u16) -> Value
@@ -46,12 +38,7 @@ fn pack(v: Value) -> u16
 pub fn cap_of(w: u16) -> Cap
     ensures { result ≡ cap_of w }
 {
-    match w {
-        0 => Cap::Imm,
-        1 => Cap::Iso,
-        2 => Cap::Local,
-        _ => Cap::Unsafe,
-    }
+    Cap::from(w)
 }
 
 // ---- Reading
@@ -117,7 +104,7 @@ pub fn slot_count(s: &[u16], t: usize, k: usize) -> u16
 
 // Slot i of the frame; absent where it is not filled.
 pub fn slot(s: &[u16], h: Here, i: usize) -> Value
-    requires { (8192 ≤ length s.now) × Placed h × (i < 16) }
+    requires { (8192 ≤ length s.now) × (i < 16) }
     ensures value { (result ≡ value_of (slice_index s.now (h.frame + 3 + i))) × InTable result }
     ensures sees { Sees s.now (λ S. InTable (slot_at (frame_at S h.thread h.depth).slots i)) (λ S. slot_at (frame_at S h.thread h.depth).slots i) result }
 {
@@ -139,7 +126,7 @@ pub fn cap(s: &[u16], o: u16) -> Cap
     ensures value { result ≡ cap_of (slice_index s.now (8 + o * 8)) }
     ensures sees { Sees s.now (λ S. o < length S.objects) (λ S. (object_at S.objects o).cap) result }
 {
-    cap_of(s[8 + o as usize * 8])
+    Cap::from(s[8 + o as usize * 8])
 }
 
 pub fn kind(s: &[u16], o: u16) -> u16
@@ -234,7 +221,7 @@ pub fn release(s: &mut [u16], v: Value)
 // Thread t with d frames, at its innermost one.
 pub fn locate(p: &[u16], s: &[u16], t: usize, d: u16) -> Here
     requires { (8192 ≤ length p.now) × (8192 ≤ length s.now) × (t < 16) × (1 ≤ d) }
-    ensures placed { Placed result × (result.thread ≡ t) }
+    ensures thread { result.thread ≡ t }
     ensures stands { Stands p.now s.now d result }
 {
     let depth = (d - 1) as usize % 16;
@@ -247,28 +234,6 @@ pub fn locate(p: &[u16], s: &[u16], t: usize, d: u16) -> Here
         frame: 2058 + t * 306 + depth * 19,
         row: (72 + (first + l) * 8) % 8192,
     }
-}
-
-// The same frame at its next line.
-pub fn next_line(h: Here) -> Here
-    requires { Placed h }
-    ensures { Placed result × (result.thread ≡ h.thread) × (result.depth ≡ h.depth) × (result.row ≡ (h.row + 8) % 8192) }
-{
-    Here {
-        thread: h.thread,
-        depth: h.depth,
-        frame: h.frame,
-        row: (h.row + 8) % 8192,
-    }
-}
-
-// Word k of the line where the thread stands.
-pub fn part(p: &[u16], h: Here, k: usize) -> u16
-    requires { (8192 ≤ length p.now) × Placed h × (k < 8) }
-    ensures { result ≡ slice_index p.now (h.row + k) }
-{
-    let at = h.row;
-    p[at + k]
 }
 
 // ---- Writing
@@ -288,7 +253,7 @@ fn push_word(s: &mut [u16], t: usize, k: usize, at: usize, x: u16)
 
 // The let gives this value.
 pub fn give_value(s: &mut [u16], h: Here, v: Value)
-    requires { (8192 ≤ length s.old) × Placed h × InTable v }
+    requires { (8192 ≤ length s.old) × InTable v }
     ensures { Becomes s.old (HasRoom h.thread h.depth) (given h.thread h.depth v) s.new }
 {
     let at = h.frame;
@@ -298,7 +263,7 @@ pub fn give_value(s: &mut [u16], h: Here, v: Value)
 
 // The caller's let gives this value.
 pub fn return_value(s: &mut [u16], h: Here, v: Value)
-    requires { (8192 ≤ length s.old) × Placed h × (1 ≤ h.depth) × InTable v }
+    requires { (8192 ≤ length s.old) × (1 ≤ h.depth) × InTable v }
     ensures { Becomes s.old (HasRoom h.thread (h.depth - 1)) (given h.thread (h.depth - 1) v) s.new }
 {
     let at = h.frame;
@@ -308,7 +273,7 @@ pub fn return_value(s: &mut [u16], h: Here, v: Value)
 
 // Slot i is made absent.
 pub fn clear_slot(s: &mut [u16], h: Here, i: usize)
-    requires { (8192 ≤ length s.old) × Placed h × (i < 16) }
+    requires { (8192 ≤ length s.old) × (i < 16) }
     ensures s_after { s.new ≡ slice_set s.old (h.frame + 3 + i) 0 }
     ensures becomes { Becomes s.old (HasSlot h.thread h.depth i) (cleared h.thread h.depth i) s.new }
 {
@@ -327,7 +292,7 @@ pub fn store_field(s: &mut [u16], o: u16, j: u16, v: Value)
 
 // Channel c takes this value as its next message, and the thread waits as its sender.
 pub fn put_message(s: &mut [u16], h: Here, c: u16, v: Value)
-    requires { (8192 ≤ length s.old) × Placed h × (c < 16) × InTable v }
+    requires { (8192 ≤ length s.old) × (c < 16) × InTable v }
     ensures { Becomes s.old (Puts h.thread c) (λ S. sending h.thread ((channel_at S c).number + 1) (channelled c v ((channel_at S c).number + 1) S)) s.new }
 {
     let t = h.thread;
@@ -406,7 +371,7 @@ pub fn start_thread(s: &mut [u16], n: u16, b: u16)
 
 // A new frame inside, before the first line of block b, with these values.
 pub fn push_frame(s: &mut [u16], h: Here, b: u16, target: Value, v: Value)
-    requires { (8192 ≤ length s.old) × Placed h × (h.depth < 15) × InTable target × InTable v }
+    requires { (8192 ≤ length s.old) × (h.depth < 15) × InTable target × InTable v }
     ensures { Becomes s.old (Innermost h.thread h.depth) (called h.thread (callee b target v)) s.new }
 {
     let at = h.frame;
@@ -423,7 +388,7 @@ pub fn push_frame(s: &mut [u16], h: Here, b: u16, target: Value, v: Value)
 
 // The innermost frame's words are zero again.
 fn clear_frame(s: &mut [u16], h: Here)
-    requires { (8192 ≤ length s.old) × Placed h }
+    requires { (8192 ≤ length s.old) }
     ensures { Becomes s.old (Innermost h.thread h.depth) (left h.thread) s.new }
 {
     let at = h.frame;
@@ -439,7 +404,7 @@ fn clear_frame(s: &mut [u16], h: Here)
 
 // Each value in the innermost frame's slots gets a holder less.
 fn release_slots(s: &mut [u16], h: Here)
-    requires { (8192 ≤ length s.old) × Placed h }
+    requires { (8192 ≤ length s.old) }
     ensures { Releases h.thread h.depth s.old s.new }
 {
     let n = slot_count(s, h.thread, h.depth) as usize % 17;
@@ -453,7 +418,7 @@ fn release_slots(s: &mut [u16], h: Here)
 
 // The innermost frame ends.
 pub fn drop_frame(s: &mut [u16], h: Here)
-    requires { (8192 ≤ length s.old) × Placed h }
+    requires { (8192 ≤ length s.old) }
     ensures { Drops h.thread h.depth s.old s.new }
 {
     release_slots(s, h);

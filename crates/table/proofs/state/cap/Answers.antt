@@ -3,5 +3,5 @@ use Rattle.std.proofs.Common.{arith}
 use Rattle.table.proofs.StateReads.{cap_seen}
 use Rattle.table.proofs.state.cap.Goals as goal
 
-pub returns : goal.returns
-returns c = record { value = c.cap_of.ensures; sees = cap_seen _ _ _ (omega arith) c.cap_of.ensures }
+pub returns-clause-sees : goal.returns-clause-sees
+returns-clause-sees c = cap_seen _ _ _ (omega arith) c.from.ensures

@@ -24,4 +24,4 @@ returns c =
     let a = c.args in
     let all : c.loop-i.i ≡ 19 = omega arith in
     let zero : c.loop-i.s ≡ paste a.s.now a.h.frame (zeros 19) 19 = c.loop-i.invariant.2 ∙ ap (paste a.s.now a.h.frame (zeros 19)) all in
-    record { becomes = λ S rest held inner. rw zero (frame_left held a.h.thread a.h.depth c.requires.1.thread a.h.frame c.requires.1.depth inner c.requires.1.frame) }
+    record { becomes = λ S rest held inner. rw zero (frame_left held a.h.thread a.h.depth a.h.placed.thread a.h.frame a.h.placed.depth inner a.h.placed.frame) }

@@ -9,6 +9,6 @@ returns c =
     let h = a.h in record {
       s_after = refl;
       becomes = record {
-        becomes = λ S rest held has. slot_cleared held h.thread h.depth h.frame c.requires.1.thread c.requires.1.depth c.requires.1.frame a.i c.requires.2 has;
+        becomes = λ S rest held has. slot_cleared held h.thread h.depth h.frame h.placed.thread h.placed.depth h.placed.frame a.i c.requires.1 has;
       };
     }

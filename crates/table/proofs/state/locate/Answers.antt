@@ -5,7 +5,7 @@ use Rattle.table.proofs.state.locate.Goals as goal
 
 pub returns : goal.returns
 returns c = record {
-  placed = (record { thread = omega arith; depth = omega arith; frame = refl; row = omega arith; aligned = omega arith }, refl);
+  thread = refl;
   stands = record {
     depth = λ S rest held e few. omega arith;
     row = λ P S counts rest₁ rest₂ filled held there few.

@@ -25,6 +25,6 @@ pub returns : goal.returns
 returns c =
     record {
       becomes = λ S rest held inner.
-          frame_called held c.args.h.thread c.args.h.depth c.requires.1.thread c.args.b c.args.h.frame _ _ _ _
-          c.pack-x.ensures c.pack-y.ensures (omega arith) inner c.requires.1.frame;
+          frame_called held c.args.h.thread c.args.h.depth c.args.h.placed.thread c.args.b c.args.h.frame _ _ _ _
+          c.pack-x.ensures c.pack-y.ensures (omega arith) inner c.args.h.placed.frame;
     }

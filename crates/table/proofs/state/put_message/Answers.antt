@@ -11,4 +11,4 @@ bounds-s-t c = simp length-set (omega arith)
 
 pub returns : goal.returns
 returns c =
-    record { becomes = λ S rest held puts. message_put held c.args.h.thread c.args.c _ _ c.requires.1.thread (omega arith) c.pack-x.ensures puts }
+    record { becomes = λ S rest held puts. message_put held c.args.h.thread c.args.c _ _ c.args.h.placed.thread (omega arith) c.pack-x.ensures puts }

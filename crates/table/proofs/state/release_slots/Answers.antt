@@ -3,19 +3,16 @@ use Rattle.std.proofs.Common.{◌≡◌, ◌%◌, refl, add-one, arith, rules}
 use Rattle.table.proofs.HolderCounts.{none_released, one_more_released, all_released}
 use Rattle.table.proofs.state.release_slots.Goals as goal
 
-pub slot_count-requires : goal.slot_count-requires
-slot_count-requires c = (c.requires.0, c.requires.1.thread, c.requires.1.depth)
-
 pub loop-i-init : goal.loop-i-init
 loop-i-init c = let a = c.args in (search rules, refl, none_released a.h.thread a.h.depth _ a.s.now)
 
 pub slot-v-requires : goal.slot-v-requires
 slot-v-requires c =
-    (omega (arith, c.loop-i.invariant.1, c.requires.0), c.requires.1, omega arith)
+    (omega (arith, c.loop-i.invariant.1, c.requires), omega arith)
 
 pub release-requires : goal.release-requires
 release-requires c =
-    (omega (arith, c.loop-i.invariant.1, c.requires.0), c.slot-v.ensures.value.1)
+    (omega (arith, c.loop-i.invariant.1, c.requires), c.slot-v.ensures.value.1)
 
 pub loop-i-preserved : goal.loop-i-preserved
 loop-i-preserved c = (

@@ -4,4 +4,8 @@ use Rattle.table.proofs.StateReads.{slot_seen}
 use Rattle.table.proofs.state.slot.Goals as goal
 
 pub returns : goal.returns
-returns c = record { value = c.unpack.ensures; sees = slot_seen c.args.h.thread c.args.h.depth c.args.i (c.args.h.frame + 3 + c.args.i) c.requires.1.thread c.requires.1.depth (omega arith) (omega (arith, c.requires.1.frame)) c.unpack.ensures.0 }
+returns c =
+    let h = c.args.h in
+    let i = c.args.i in
+    let sees = slot_seen h.thread h.depth i (h.frame + 3 + i) h.placed.thread h.placed.depth (omega arith) (omega arith) c.unpack.ensures.0 in
+    record { value = c.unpack.ensures; sees = sees }
