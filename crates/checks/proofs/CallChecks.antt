@@ -8,31 +8,30 @@ use mathlib.Core.List.{List, [], ◌∷◌, map}
 use lib.Dec.{ltb}
 use lib.ListN.{length, get_or, length-map, get_or-eq_default}
 use borrow.Author.Tests.{lt-ltb, le-ltb}
+use Rattle.rules.specs.Numbers as No
 use Rattle.rules.specs.declared.Value.{Value}
 use Rattle.rules.specs.declared.Value.TheVariants.{Absent, Obj, Chan}
 use Rattle.rules.specs.Script.{Program, lines_of, kind_at}
 use Rattle.rules.specs.State.{State, Frame, object_at}
 use Rattle.rules.specs.Tables.{operand_of}
-use Rattle.rules.specs.Turn.{ok, ◌>>=◌, ◌>>◌, check, permit, is_foreign, as_object, object, call_line}
+use Rattle.rules.specs.Turn.{Res, stop, ok, ◌>>=◌, ◌>>◌, check, permit, is_foreign, as_object, object, call_line}
 use Rattle.rules.proofs.ListLaws.{impossible}
 use Rattle.rules.proofs.Keeps.{kind_ok}
 use Rattle.table.specs.declared.state.Here.{Here}
 use Rattle.table.specs.ProgramTable.{Filled, KindMethod}
 use Rattle.table.specs.StateTable.{Sees, Any}
-use Rattle.checks.specs.declared.form_checks.Step.{Step}
-use Rattle.checks.specs.declared.form_checks.Step.TheVariants.{Next, NoValue, NoMethod, WrongThing, UsedUp}
-use Rattle.checks.specs.Checked.{result_of, outcome_of, is_pass, Made, Few, Stand, here_at, Named, MethodItem}
+use Rattle.checks.specs.Checked.{outcome_of, passed, Made, Few, Stand, here_at, Named, MethodItem}
 use Rattle.checks.proofs.CheckLaws.{stays, as_outcome}
 use Rattle.checks.proofs.Standing.{TargetSeen, OperandChecked, kind_is_there, target_read, target_object, operand_goes}
 
 -- ---- spawn: k threads
 
 module _ {s : List ℕ} {k : ℕ} (count : Sees s Any (λ S. length S.threads) k) where
-  pub spawn_room : k < 16 → Sees s Few (λ S. outcome_of (check (ltb (length S.threads) 16) 16)) (result_of Next)
+  pub spawn_room : k < 16 → Sees s Few (λ S. outcome_of (check (ltb (length S.threads) 16) 16)) (ok tt)
   unfolding check
   spawn_room room = record { sees = λ S rest held few. rw (sym (count.sees S rest held tt), lt-ltb k 16 room) refl }
 
-  pub spawn_used_up : 16 ≤ k → Sees s Few (λ S. outcome_of (check (ltb (length S.threads) 16) 16)) (result_of UsedUp)
+  pub spawn_used_up : 16 ≤ k → Sees s Few (λ S. outcome_of (check (ltb (length S.threads) 16) 16)) (stop No.used_up)
   unfolding check
   spawn_used_up full = record { sees = λ S rest held few. rw (sym (count.sees S rest held tt), le-ltb k 16 full) refl }
 
@@ -73,27 +72,27 @@ method_of_kind {k = k} j kind method =
 -- ---- call
 
 -- the checks of a call of method j on the target in slot i answer k
-pub record ChecksCall (p s : List ℕ) (h : Here) (i j w : ℕ) (k : Step) : Type 0 where
+pub record ChecksCall (p s : List ℕ) (h : Here) (i j w : ℕ) (k : Res (Unit {0})) : Type 0 where
   pub checks : (P : Program) (n : ℕ) (S : State) (f : Frame) (fs : List Frame) (counts rest₁ rest₂ : List ℕ) → Filled p counts (lines_of P) rest₁
-      → Stand s h P n S f fs rest₂ → Named (i ∷ w / 2 ∷ []) f → result_of k ≡ outcome_of (call_line P (here_at S h.thread f fs) i j (operand_of w))
+      → Stand s h P n S f fs rest₂ → Named (i ∷ w / 2 ∷ []) f → k ≡ outcome_of (call_line P (here_at S h.thread f fs) i j (operand_of w))
 
 -- the operand's word w, the target v in slot i as the operand leaves it, method j
 
-module _ {p s : List ℕ} {h : Here} (i j w : ℕ) {k : Step} (first : OperandChecked s h w k) where
-  pub call_no_operand : is_pass k ≡ false → ChecksCall p s h i j w k
+module _ {p s : List ℕ} {h : Here} (i j w : ℕ) {k : Res (Unit {0})} (first : OperandChecked s h w k) where
+  pub call_no_operand : passed k ≡ false → ChecksCall p s h i j w k
   unfolding call_line
   call_no_operand fails = record { checks = λ P n S f fs counts rest₁ rest₂ filled st named. stays _ _ fails (first.checks P n S f fs rest₂ st named.1) }
 
-  module _ {v : Value} (passed : is_pass k ≡ true) (target : TargetSeen s h i w v) where
-    pub call_no_target : v ≡ Absent → ChecksCall p s h i j w NoValue
+  module _ {v : Value} (goes : passed k ≡ true) (target : TargetSeen s h i w v) where
+    pub call_no_target : v ≡ Absent → ChecksCall p s h i j w (stop No.absent)
     unfolding call_line as_object ◌>>=◌
     call_no_target is =
-        record { checks = λ P n S f fs counts rest₁ rest₂ filled st named. rw (operand_goes st w first passed named.1.0, target_read st i w target named.0 ∙ is) refl }
+        record { checks = λ P n S f fs counts rest₁ rest₂ filled st named. rw (operand_goes st w first goes named.1.0, target_read st i w target named.0 ∙ is) refl }
 
-    pub call_of_channel : {c : ℕ} → v ≡ Chan c → ChecksCall p s h i j w WrongThing
+    pub call_of_channel : {c : ℕ} → v ≡ Chan c → ChecksCall p s h i j w (stop No.wrong_thing)
     unfolding call_line as_object ◌>>=◌
     call_of_channel is =
-        record { checks = λ P n S f fs counts rest₁ rest₂ filled st named. rw (operand_goes st w first passed named.1.0, target_read st i w target named.0 ∙ is) refl }
+        record { checks = λ P n S f fs counts rest₁ rest₂ filled st named. rw (operand_goes st w first goes named.1.0, target_read st i w target named.0 ∙ is) refl }
 
     -- object o, whose method is the item m
     module _ {o m : ℕ} (is : v ≡ Obj o) (method : MethodItem p s o j m) where
@@ -105,14 +104,14 @@ module _ {p s : List ℕ} {h : Here} (i j w : ℕ) {k : Step} (first : OperandCh
         item_is : get_or (map suc (kind_at P (object_at S.objects o).kind).methods) j 0 ≡ m
         item_is = sym (method.is P S counts rest₁ rest₂ filled st.held st.valid made (kind_is_there st o made))
 
-      pub call_no_method : m ≡ 0 → ChecksCall p s h i j w NoMethod
+      pub call_no_method : m ≡ 0 → ChecksCall p s h i j w (stop No.no_method)
       unfolding call_line as_object object check ◌>>=◌ ◌>>◌
       call_no_method none =
           record {
             checks = λ P n S f fs counts rest₁ rest₂ filled st named.
                 let ms = (kind_at P (object_at S.objects o).kind).methods in
                 let has = le-ltb j (length ms) (no_item ms j (item_is filled st named ∙ none)) in
-                rw (operand_goes st w first passed named.1.0, target_read st i w target named.0 ∙ is, has) refl;
+                rw (operand_goes st w first goes named.1.0, target_read st i w target named.0 ∙ is, has) refl;
           }
 
       module _ {b : Bool} (some : m ≡ 0 → ⊥) (away : Sees s (Made o) (λ S. is_foreign h.thread (object_at S.objects o)) b) where
@@ -126,30 +125,30 @@ module _ {p s : List ℕ} {h : Here} (i j w : ℕ) {k : Step} (first : OperandCh
           foreign_is : is_foreign h.thread (object_at S.objects o) ≡ b
           foreign_is = sym (away.sees S rest₂ st.held (made filled st named))
 
-        pub call_forbidden : {a : Step} → result_of a ≡ permit b false false → is_pass a ≡ false → ChecksCall p s h i j w a
+        pub call_forbidden : {a : Res (Unit {0})} → a ≡ permit b false false → passed a ≡ false → ChecksCall p s h i j w a
         unfolding call_line as_object object check ◌>>=◌ ◌>>◌
         call_forbidden permission fails =
             record {
               checks = λ P n S f fs counts rest₁ rest₂ filled st named.
-                  rw (operand_goes st w first passed named.1.0, target_read st i w target named.0 ∙ is, has_method filled st named, foreign_is filled st named)
+                  rw (operand_goes st w first goes named.1.0, target_read st i w target named.0 ∙ is, has_method filled st named, foreign_is filled st named)
                   (stays (permit _ _ _) _ fails (permission ∙ as_outcome _));
             }
 
         module _ (allowed : permit b false false ≡ ok tt) where
-          pub call_used_up : 15 ≤ h.depth → ChecksCall p s h i j w UsedUp
+          pub call_used_up : 15 ≤ h.depth → ChecksCall p s h i j w (stop No.used_up)
           unfolding call_line as_object object check ◌>>=◌ ◌>>◌
           call_used_up deep =
               record {
                 checks = λ P n S f fs counts rest₁ rest₂ filled st named.
                     let full = le-ltb (suc (length fs)) 16 (omega (arith, st.depth, deep)) in
-                    rw (operand_goes st w first passed named.1.0, target_read st i w target named.0 ∙ is, has_method filled st named, foreign_is filled st named, allowed, full) refl;
+                    rw (operand_goes st w first goes named.1.0, target_read st i w target named.0 ∙ is, has_method filled st named, foreign_is filled st named, allowed, full) refl;
               }
 
-          pub call_passes : h.depth < 15 → ChecksCall p s h i j w Next
+          pub call_passes : h.depth < 15 → ChecksCall p s h i j w (ok tt)
           unfolding call_line as_object object check ◌>>=◌ ◌>>◌
           call_passes room =
               record {
                 checks = λ P n S f fs counts rest₁ rest₂ filled st named.
                     let one_more = lt-ltb (suc (length fs)) 16 (omega (arith, st.depth, room)) in
-                    rw (operand_goes st w first passed named.1.0, target_read st i w target named.0 ∙ is, has_method filled st named, foreign_is filled st named, allowed, one_more) refl;
+                    rw (operand_goes st w first goes named.1.0, target_read st i w target named.0 ∙ is, has_method filled st named, foreign_is filled st named, allowed, one_more) refl;
               }

@@ -13,7 +13,14 @@ use Rattle.rules.specs.Tables.{operand_of}
 use Rattle.rules.specs.Turn.{Res, ok, wait, stop, ◌>>=◌, ◌>>◌, check, permit, is_iso_object, present, operand, left_by}
 use Rattle.rules.proofs.ListLaws.{impossible, by_bool}
 use Rattle.rules.proofs.TableWords.{slot_of_word}
-use Rattle.checks.specs.Checked.{outcome_of, passed}
+use Rattle.std.specs.Prelude.{Result}
+use Rattle.std.specs.Result.{IsErrAnd}
+use Rattle.std.proofs.lemmas.Result.{err_from_is_err_and}
+use Rattle.rules.specs.Numbers as No
+use Rattle.rules.specs.declared.faults.Fault.{Fault}
+use Rattle.checks.specs.declared.form_checks.Halt.{Halt}
+use Rattle.checks.specs.declared.form_checks.Halt.TheVariants.{Stops}
+use Rattle.checks.specs.Checked.{result_of, checked, outcome_of, passed}
 
 -- ---- Values
 
@@ -71,6 +78,13 @@ unfolding ◌>>=◌
 same_after (ok a) g g' same = same a
 same_after wait g g' same = refl
 same_after (stop n) g g' same = refl
+
+-- what a `?` hands on is the same stop
+pub stop_handed : {A : Type 0} (x : Fault) (r : Result A Halt) → IsErrAnd r (λ h. h ≡ Stops x) → result_of r ≡ stop (No.number x)
+stop_handed x r is = let p = err_from_is_err_and r is in rw (p.1, p.2) refl
+
+pub fault_handed : {A : Type 0} (x : Fault) (r : Result A Fault) → IsErrAnd r (λ f. f ≡ x) → checked r ≡ stop (No.number x)
+fault_handed x r is = let p = err_from_is_err_and r is in rw (p.1, p.2) refl
 
 -- ---- An operand first
 

@@ -7,6 +7,7 @@ use mathlib.Core.List.{List, [], ◌∷◌, ◌++◌, map}
 use lib.Dec.{ltb}
 use lib.ListN.{length, take, replicate}
 use borrow.Author.Tests.{lt-ltb, le-ltb}
+use Rattle.rules.specs.Numbers as No
 use Rattle.rules.specs.declared.Cap.{Cap}
 use Rattle.rules.specs.declared.Value.{Value}
 use Rattle.rules.specs.declared.Value.TheVariants.{Absent, Obj, Chan}
@@ -14,12 +15,10 @@ use Rattle.rules.specs.Mosts.{mosts}
 use Rattle.rules.specs.Numbers as No
 use Rattle.rules.specs.Lists.{any, pad, Every}
 use Rattle.rules.specs.State.{State, object_at}
-use Rattle.rules.specs.Turn.{ok, stop, ◌>>=◌, ◌>>◌, check, permit, may_hold, is_foreign, is_absent, as_object, all_objects}
+use Rattle.rules.specs.Turn.{Res, ok, stop, ◌>>=◌, ◌>>◌, check, permit, may_hold, is_foreign, is_absent, as_object, all_objects}
 use Rattle.rules.proofs.ListLaws.{impossible, every_pad}
 use Rattle.table.specs.StateTable.{Sees, Any}
-use Rattle.checks.specs.declared.form_checks.Step.{Step}
-use Rattle.checks.specs.declared.form_checks.Step.TheVariants.{Next, WrongThing, UsedUp}
-use Rattle.checks.specs.Checked.{result_of, outcome_of, is_pass, Made, InObjects}
+use Rattle.checks.specs.Checked.{outcome_of, passed, Made, InObjects}
 use Rattle.checks.proofs.CheckLaws.{number_of, stays, as_outcome}
 use Rattle.checks.specs.NewItems.{hold_all, foreign_to, above, is_channel, AllInObjects, ChecksHeld}
 
@@ -104,14 +103,14 @@ any_seen {d = d} g seen-a seen_b seen-c seen-d answer =
 -- ---- new, past its operands: four values, of which no more than are given are made up
 
 module _ (s : List ℕ) (t : ℕ) (k : Cap) {vs : List Value} where
-  pub held_channel : any is_channel vs ≡ true → ChecksHeld s t k vs WrongThing
+  pub held_channel : any is_channel vs ≡ true → ChecksHeld s t k vs (stop No.wrong_thing)
   unfolding hold_all ◌>>=◌
   held_channel some =
       record { checks = λ us values few there. record { sees = λ S rest held made. rw (channel_stops us there (any_pad is_channel Absent refl us vs values few ∙ some)) refl } }
 
   module _ (none : any is_channel vs ≡ false) where
     -- what is asked of the values that are given is asked of all four
-    of_all_four : {r : Step} → Sees s (AllInObjects vs) (λ S. outcome_of (permit (any (foreign_to t S) vs) false (any (above k S) vs) >> check (ltb (length S.objects) mosts.objects) No.used_up)) (result_of r)
+    of_all_four : {r : Res (Unit {0})} → Sees s (AllInObjects vs) (λ S. outcome_of (permit (any (foreign_to t S) vs) false (any (above k S) vs) >> check (ltb (length S.objects) mosts.objects) No.used_up)) r
         → ChecksHeld s t k vs r
     of_all_four answer =
         record {
@@ -123,7 +122,7 @@ module _ (s : List ℕ) (t : ℕ) (k : Cap) {vs : List Value} where
         }
 
     module _ {far over : Bool} (foreigns : Sees s (AllInObjects vs) (λ S. any (foreign_to t S) vs) far) (aboves : Sees s (AllInObjects vs) (λ S. any (above k S) vs) over) where
-      pub held_forbidden : {a : Step} → result_of a ≡ permit far false over → is_pass a ≡ false → ChecksHeld s t k vs a
+      pub held_forbidden : {a : Res (Unit {0})} → a ≡ permit far false over → passed a ≡ false → ChecksHeld s t k vs a
       unfolding ◌>>◌
       held_forbidden permission fails =
           of_all_four (record {
@@ -131,7 +130,7 @@ module _ (s : List ℕ) (t : ℕ) (k : Cap) {vs : List Value} where
           })
 
       module _ {n : ℕ} (allowed : permit far false over ≡ ok tt) (count : Sees s Any (λ S. length S.objects) n) where
-        pub held_passes : n < 256 → ChecksHeld s t k vs Next
+        pub held_passes : n < 256 → ChecksHeld s t k vs (ok tt)
         unfolding check ◌>>=◌ ◌>>◌
         held_passes room =
             of_all_four (record {
@@ -139,7 +138,7 @@ module _ (s : List ℕ) (t : ℕ) (k : Cap) {vs : List Value} where
                   rw (← foreigns.sees S rest held made, ← aboves.sees S rest held made, allowed, ← count.sees S rest held tt, lt-ltb n 256 room) refl;
             })
 
-        pub held_used_up : 256 ≤ n → ChecksHeld s t k vs UsedUp
+        pub held_used_up : 256 ≤ n → ChecksHeld s t k vs (stop No.used_up)
         unfolding check ◌>>=◌ ◌>>◌
         held_used_up full =
             of_all_four (record {

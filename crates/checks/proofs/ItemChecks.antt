@@ -7,6 +7,7 @@ use mathlib.Core.List.{List, [], ◌∷◌, ◌++◌, map}
 use lib.Dec.{eqb}
 use lib.ListN.{length, take, replicate}
 use borrow.Author.Tests.{eqb-true, eqb-false}
+use Rattle.rules.specs.Numbers as No
 use Rattle.rules.specs.declared.Value.{Value}
 use Rattle.rules.specs.declared.Value.TheVariants.{Absent}
 use Rattle.rules.specs.Lists.{pad, Every}
@@ -14,13 +15,11 @@ use Rattle.rules.specs.Script.{Operand, reads, takes, Program}
 use Rattle.rules.specs.Reading.{slot_of}
 use Rattle.rules.specs.State.{Object, Frame, State, slot_at}
 use Rattle.rules.specs.Tables.{operand_item, operand_of}
-use Rattle.rules.specs.Turn.{Res, ok, ◌>>=◌, ◌>>◌, permit, is_iso_object, present, operand, operands, left_by}
+use Rattle.rules.specs.Turn.{stop, Res, ok, ◌>>=◌, ◌>>◌, permit, is_iso_object, present, operand, operands, left_by}
 use Rattle.rules.proofs.ListLaws.{impossible, by_bool, every_pad, every_image, every_mapped, every_map}
 use Rattle.rules.proofs.TableWords.{operand_of_word, half_of_word, slot_of_word}
 use Rattle.table.specs.declared.state.Here.{Here}
-use Rattle.checks.specs.declared.form_checks.Step.{Step}
-use Rattle.checks.specs.declared.form_checks.Step.TheVariants.{Next, NoValue}
-use Rattle.checks.specs.Checked.{result_of, outcome_of, passed, is_pass, Stand, Named, Checks}
+use Rattle.checks.specs.Checked.{outcome_of, passed, Stand, Named, Checks}
 use Rattle.checks.specs.NewItems.{left_by_item, item_slots, item_operand, takes_slot, ChecksItems}
 use Rattle.checks.proofs.CheckLaws.{stays, goes_on, then_ok, then_gives, same_after, given}
 use Rattle.checks.proofs.OperandChecks.{slot_taken, slot_left}
@@ -49,7 +48,7 @@ still_absent vs a w gone = by_bool (takes_slot a (suc w)) (absent_if_taken vs a 
 
 -- ---- The answer of an operand, by its slot
 
-no_operand_there : (os : List Object) (vs : List Value) (w : ℕ) → slot_at vs (w / 2) ≡ Absent → result_of NoValue ≡ outcome_of (item_operand os vs (suc w))
+no_operand_there : (os : List Object) (vs : List Value) (w : ℕ) → slot_at vs (w / 2) ≡ Absent → (stop No.absent) ≡ outcome_of (item_operand os vs (suc w))
 unfolding operand present ◌>>=◌ ◌>>◌
 no_operand_there os vs w gone = by_bool (eqb (w % 2) 1) (λ t. rw (t, gone) refl) (λ t. rw (t, gone) refl)
 
@@ -61,30 +60,30 @@ same_slot_same_answer os vs us (takes s) same = rw same (same_after (present (sl
 
 -- ---- One item e, after the items a, b and c
 
-abbrev pub ItemChecked : List ℕ → Here → (a b c e : ℕ) → Step → Type 0
+abbrev pub ItemChecked : List ℕ → Here → (a b c e : ℕ) → Res (Unit {0}) → Type 0
 ItemChecked s h a b c e k = Checks s h (item_slots e) (λ P H. item_operand H.state.objects (left_by_item (left_by_item (left_by_item H.frame.slots a) b) c) e) k
 
-pub no_item_passes : (s : List ℕ) (h : Here) (a b c : ℕ) {e : ℕ} → e ≡ 0 → ItemChecked s h a b c e Next
+pub no_item_passes : (s : List ℕ) (h : Here) (a b c : ℕ) {e : ℕ} → e ≡ 0 → ItemChecked s h a b c e (ok tt)
 no_item_passes s h a b c none = record { checks = λ P n S f fs rest st named. rw none refl }
 
 module _ (s : List ℕ) (h : Here) (a b c : ℕ) where
-  pub first_took : (e : ℕ) → takes_slot a e ≡ true → ItemChecked s h a b c e NoValue
+  pub first_took : (e : ℕ) → takes_slot a e ≡ true → ItemChecked s h a b c e (stop No.absent)
   first_took zero t = impossible cc
   first_took (suc w) t =
       record { checks = λ P n S f fs rest st named. no_operand_there S.objects _ w (still_absent _ c w (still_absent _ b w (absent_if_taken f.slots a w t))) }
 
-  pub second_took : (e : ℕ) → takes_slot b e ≡ true → ItemChecked s h a b c e NoValue
+  pub second_took : (e : ℕ) → takes_slot b e ≡ true → ItemChecked s h a b c e (stop No.absent)
   second_took zero t = impossible cc
   second_took (suc w) t =
       record { checks = λ P n S f fs rest st named. no_operand_there S.objects _ w (still_absent _ c w (absent_if_taken (left_by_item f.slots a) b w t)) }
 
-  pub third_took : (e : ℕ) → takes_slot c e ≡ true → ItemChecked s h a b c e NoValue
+  pub third_took : (e : ℕ) → takes_slot c e ≡ true → ItemChecked s h a b c e (stop No.absent)
   third_took zero t = impossible cc
   third_took (suc w) t =
       record { checks = λ P n S f fs rest st named. no_operand_there S.objects _ w (absent_if_taken (left_by_item (left_by_item f.slots a) b) c w t) }
 
   -- no earlier item took the slot: the operand of word e - 1 sees it as it stands
-  pub none_took : (e : ℕ) {k : Step} → (e ≡ 0 → ⊥) → takes_slot a e ≡ false → takes_slot b e ≡ false → takes_slot c e ≡ false → OperandChecked s h (e - 1) k → ItemChecked s h a b c e k
+  pub none_took : (e : ℕ) {k : Res (Unit {0})} → (e ≡ 0 → ⊥) → takes_slot a e ≡ false → takes_slot b e ≡ false → takes_slot c e ≡ false → OperandChecked s h (e - 1) k → ItemChecked s h a b c e k
   none_took zero some ta tb tc first = absurd (some refl)
   none_took (suc w) {k} some ta tb tc first =
       let word : suc w - 1 ≡ w = omega arith in
@@ -126,9 +125,9 @@ operands_are_items os vs (suc n) m (w ∷ ws) few =
     (operand_first os vs w _ _ (then_gives (operands os (left_by vs w) ws) _ ∙ operands_are_items os (left_by vs w) n m ws (omega arith)))
 
 -- where each item's slot is filled, the items answer k
-pub record ItemsChecked (s : List ℕ) (h : Here) (items : List ℕ) (k : Step) : Type 0 where
+pub record ItemsChecked (s : List ℕ) (h : Here) (items : List ℕ) (k : Res (Unit {0})) : Type 0 where
   pub checks : (P : Program) (n : ℕ) (S : State) (f : Frame) (fs : List Frame) (rest : List ℕ) → Stand s h P n S f fs rest → Every (λ e. Named (item_slots e) f) items
-      → result_of k ≡ outcome_of (items_in_order S.objects f.slots items)
+      → k ≡ outcome_of (items_in_order S.objects f.slots items)
 
 -- what the operands name, their items do
 pub items_named : {items : List ℕ} (f : Frame) (ws : List Operand) → items ≡ pad 4 0 (map operand_item ws) → Named (map slot_of ws) f → Every (λ e. Named (item_slots e) f) items
@@ -137,7 +136,7 @@ items_named f ws items named =
     (every_pad _ 4 0 (map operand_item ws) tt
     (every_image (λ e. Named (item_slots e) f) operand_item ws (every_map (λ w filled. (rw (half_of_word w) filled, tt)) ws (every_mapped (λ i. i < length f.slots) slot_of ws named))))
 
-pub items_for_operands : {s : List ℕ} {h : Here} {items : List ℕ} {k : Step} → ItemsChecked s h items k → ChecksItems s h items k
+pub items_for_operands : {s : List ℕ} {h : Here} {items : List ℕ} {k : Res (Unit {0})} → ItemsChecked s h items k → ChecksItems s h items k
 unfolding pad
 items_for_operands all =
     record {
@@ -148,13 +147,13 @@ items_for_operands all =
       };
     }
 
-module _ {s : List ℕ} {h : Here} (a b c d : ℕ) {ka : Step} (first : ItemChecked s h 0 0 0 a ka) where
-  pub first_ends : is_pass ka ≡ false → ItemsChecked s h (a ∷ b ∷ c ∷ d ∷ []) ka
+module _ {s : List ℕ} {h : Here} (a b c d : ℕ) {ka : Res (Unit {0})} (first : ItemChecked s h 0 0 0 a ka) where
+  pub first_ends : passed ka ≡ false → ItemsChecked s h (a ∷ b ∷ c ∷ d ∷ []) ka
   unfolding ◌>>◌
   first_ends fails = record { checks = λ P n S f fs rest st named. stays (item_operand S.objects f.slots a) _ fails (first.checks P n S f fs rest st named.0) }
 
-  module _ {kb : Step} (a-passes : is_pass ka ≡ true) (second : ItemChecked s h a 0 0 b kb) where
-    pub second_ends : is_pass kb ≡ false → ItemsChecked s h (a ∷ b ∷ c ∷ d ∷ []) kb
+  module _ {kb : Res (Unit {0})} (a-passes : passed ka ≡ true) (second : ItemChecked s h a 0 0 b kb) where
+    pub second_ends : passed kb ≡ false → ItemsChecked s h (a ∷ b ∷ c ∷ d ∷ []) kb
     unfolding ◌>>◌
     second_ends fails =
         record {
@@ -163,14 +162,14 @@ module _ {s : List ℕ} {h : Here} (a b c d : ℕ) {ka : Step} (first : ItemChec
               ∙ sym (goes_on (item_operand S.objects f.slots a) _ a-passes (first.checks P n S f fs rest st named.0));
         }
 
-    module _ {kc : Step} (b-passes : is_pass kb ≡ true) (third : ItemChecked s h a b 0 c kc) where
+    module _ {kc : Res (Unit {0})} (b-passes : passed kb ≡ true) (third : ItemChecked s h a b 0 c kc) where
       module _ {P : Program} {n : ℕ} {S : State} {f : Frame} {fs : List Frame} {rest : List ℕ} (st : Stand s h P n S f fs rest) (named : Every (λ e. Named (item_slots e) f) (a ∷ b ∷ c ∷ d ∷ [])) where
         past_two : outcome_of (items_in_order S.objects f.slots (a ∷ b ∷ c ∷ d ∷ [])) ≡ outcome_of (items_in_order S.objects (left_by_item (left_by_item f.slots a) b) (c ∷ d ∷ []))
         past_two =
             goes_on (item_operand S.objects f.slots a) _ a-passes (first.checks P n S f fs rest st named.0)
             ∙ goes_on (item_operand S.objects (left_by_item f.slots a) b) _ b-passes (second.checks P n S f fs rest st named.1.0)
 
-      pub third_ends : is_pass kc ≡ false → ItemsChecked s h (a ∷ b ∷ c ∷ d ∷ []) kc
+      pub third_ends : passed kc ≡ false → ItemsChecked s h (a ∷ b ∷ c ∷ d ∷ []) kc
       unfolding ◌>>◌
       third_ends fails =
           record {
@@ -178,7 +177,7 @@ module _ {s : List ℕ} {h : Here} (a b c d : ℕ) {ka : Step} (first : ItemChec
                 stays (item_operand S.objects (left_by_item (left_by_item f.slots a) b) c) _ fails (third.checks P n S f fs rest st named.1.1.0) ∙ sym (past_two st named);
           }
 
-      pub fourth_ends : {kd : Step} → is_pass kc ≡ true → ItemChecked s h a b c d kd → ItemsChecked s h (a ∷ b ∷ c ∷ d ∷ []) kd
+      pub fourth_ends : {kd : Res (Unit {0})} → passed kc ≡ true → ItemChecked s h a b c d kd → ItemsChecked s h (a ∷ b ∷ c ∷ d ∷ []) kd
       fourth_ends c-passes fourth =
           record {
             checks = λ P n S f fs rest st named.

@@ -21,8 +21,7 @@ use Rattle.rules.proofs.TableWords.{half_of_word}
 use Rattle.rules.proofs.Moves.{left_was_there}
 use Rattle.table.specs.declared.state.Here.{Here}
 use Rattle.table.specs.StateTable.{InTable, Sees, frame_at}
-use Rattle.checks.specs.declared.form_checks.Step.{Step}
-use Rattle.checks.specs.Checked.{outcome_of, passed, is_pass, InObjects, here_at, Stand, Named}
+use Rattle.checks.specs.Checked.{outcome_of, passed, InObjects, here_at, Stand, Named}
 use Rattle.checks.specs.NewItems.{hold_all, item_slots, item_value, AllInObjects, ChecksItems, ChecksHeld, ChecksNew}
 use Rattle.checks.proofs.CheckLaws.{stays, then_ok, then_gives, same_after, given, no_both}
 use Rattle.checks.proofs.Standing.{SlotSeen, frame_is, slots_few, slot_in_table, slot_in_objects}
@@ -119,15 +118,15 @@ new_checks_values : (H : R.Here) (k : Cap) (kind : ℕ) (ws : List Operand) (us 
 unfolding new_line hold_all object ◌>>=◌ ◌>>◌
 new_checks_values H k kind ws us left gives = rw gives (same_after (all_objects us) _ _ λ ns. same_after (permit _ _ _) _ _ λ _. then_ok (check _ _) _)
 
-module _ {s : List ℕ} {h : Here} (k : Cap) {a b c d : ℕ} {first : Step} (checked : ChecksItems s h (a ∷ b ∷ c ∷ d ∷ []) first) where
-  pub new_no_operands : is_pass first ≡ false → ChecksNew s h k (a ∷ b ∷ c ∷ d ∷ []) first
+module _ {s : List ℕ} {h : Here} (k : Cap) {a b c d : ℕ} {first : Res (Unit {0})} (checked : ChecksItems s h (a ∷ b ∷ c ∷ d ∷ []) first) where
+  pub new_no_operands : passed first ≡ false → ChecksNew s h k (a ∷ b ∷ c ∷ d ∷ []) first
   unfolding new_line
   new_no_operands fails =
       record {
         checks = λ ws is few kind. record { checks = λ P n S f fs rest st named. stays _ _ fails ((checked.checks ws is few).checks P n S f fs rest st named) };
       }
 
-  pub new_of_values : {va vb vc vd : Value} {r : Step} → is_pass first ≡ true → ItemSeen s h a va → ItemSeen s h b vb → ItemSeen s h c vc → ItemSeen s h d vd
+  pub new_of_values : {va vb vc vd : Value} {r : Res (Unit {0})} → passed first ≡ true → ItemSeen s h a va → ItemSeen s h b vb → ItemSeen s h c vc → ItemSeen s h d vd
       → ChecksHeld s h.thread k (va ∷ vb ∷ vc ∷ vd ∷ []) r → ChecksNew s h k (a ∷ b ∷ c ∷ d ∷ []) r
   new_of_values passes seen-a seen_b seen-c seen-d held =
       record {

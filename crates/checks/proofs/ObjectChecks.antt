@@ -6,6 +6,7 @@ use mathlib.Core.List.{List, [], ◌∷◌}
 use lib.Dec.{ltb, eqb}
 use lib.ListN.{length, get_or, get_or-eq_default}
 use borrow.Author.Tests.{ltb-false}
+use Rattle.rules.specs.Numbers as No
 use Rattle.rules.specs.declared.Cap.{Cap}
 use Rattle.rules.specs.declared.Value.{Value}
 use Rattle.rules.specs.declared.Value.TheVariants.{Absent, Obj, Chan}
@@ -15,14 +16,12 @@ use Rattle.rules.specs.Lists.{Every}
 use Rattle.rules.specs.Script.{Program}
 use Rattle.rules.specs.State.{Object, Frame, State, object_at, slot_at}
 use Rattle.rules.specs.Tables.{operand_of}
-use Rattle.rules.specs.Turn.{◌>>=◌, ◌>>◌, check, permit, is_imm, is_local, may_hold, is_foreign, is_absent, is_iso_object, as_object, object, field_line, are_apart, permit_swap, swap_line}
+use Rattle.rules.specs.Turn.{Res, stop, ◌>>=◌, ◌>>◌, check, permit, is_imm, is_local, may_hold, is_foreign, is_absent, is_iso_object, as_object, object, field_line, are_apart, permit_swap, swap_line}
 use Rattle.rules.specs.Fits.{IsObject}
 use Rattle.rules.proofs.ListLaws.{by_bool, below, every_at}
 use Rattle.table.specs.declared.state.Here.{Here}
 use Rattle.table.specs.StateTable.{Sees, FieldIn}
-use Rattle.checks.specs.Checked.{result_of, outcome_of, is_pass, Made, Fielded, InObjects, swap_into, here_at, Stand, Named, Checks}
-use Rattle.checks.specs.declared.form_checks.Step.{Step}
-use Rattle.checks.specs.declared.form_checks.Step.TheVariants.{NoValue, NoField, WrongThing}
+use Rattle.checks.specs.Checked.{outcome_of, passed, Made, Fielded, InObjects, swap_into, here_at, Stand, Named, Checks}
 use Rattle.checks.proofs.CheckLaws.{stays, as_outcome, then_ok, same_after}
 use Rattle.checks.proofs.Standing.{SlotSeen, TargetSeen, OperandChecked, field_in, slot_in_objects, slot_object, fielded, field_in_objects, slot_read, target_read, target_object, operand_goes}
 
@@ -44,11 +43,11 @@ has_field o vs j h = by_bool (ltb j (length vs))
 -- ---- field: the target x in slot i
 
 module _ {s : List ℕ} {h : Here} (i j : ℕ) {x : Value} (target : SlotSeen s h (i % 16) x) where
-  pub field_no_target : x ≡ Absent → Checks s h (i ∷ []) (λ P H. field_line H i j) NoValue
+  pub field_no_target : x ≡ Absent → Checks s h (i ∷ []) (λ P H. field_line H i j) (stop No.absent)
   unfolding field_line as_object ◌>>=◌
   field_no_target is = record { checks = λ P n S f fs rest st named. rw (slot_read st i _ refl target named.0 ∙ is) refl }
 
-  pub field_of_channel : {c : ℕ} → x ≡ Chan c → Checks s h (i ∷ []) (λ P H. field_line H i j) WrongThing
+  pub field_of_channel : {c : ℕ} → x ≡ Chan c → Checks s h (i ∷ []) (λ P H. field_line H i j) (stop No.wrong_thing)
   unfolding field_line as_object ◌>>=◌
   field_of_channel is = record { checks = λ P n S f fs rest st named. rw (slot_read st i _ refl target named.0 ∙ is) refl }
 
@@ -72,12 +71,12 @@ module _ {s : List ℕ} {h : Here} (i j : ℕ) {x : Value} (target : SlotSeen s 
           rw (slot_read st i _ refl target named.0 ∙ is, field_is, has_field mosts.objects (object_at S.objects o).fields j (fielded st o made).fields)
           (same_after (check _ No.no_field) _ _ λ _. then_ok (permit _ _ false) _)
 
-    pub field_missing : is_absent v ≡ true → Checks s h (i ∷ []) (λ P H. field_line H i j) NoField
+    pub field_missing : is_absent v ≡ true → Checks s h (i ∷ []) (λ P H. field_line H i j) (stop No.no_field)
     unfolding check ◌>>◌ ◌>>=◌
     field_missing missing = record { checks = λ P n S f fs rest st named. let answer = field_answer st named in rw missing at answer }
 
-    pub field_answered : {far iso : Bool} {k : Step} → is_absent v ≡ false → Sees s (Made o) (λ S. is_foreign h.thread (object_at S.objects o)) far
-        → Sees s (InObjects v) (λ S. is_iso_object S.objects v) iso → result_of k ≡ permit far iso false → Checks s h (i ∷ []) (λ P H. field_line H i j) k
+    pub field_answered : {far iso : Bool} {k : Res (Unit {0})} → is_absent v ≡ false → Sees s (Made o) (λ S. is_foreign h.thread (object_at S.objects o)) far
+        → Sees s (InObjects v) (λ S. is_iso_object S.objects v) iso → k ≡ permit far iso false → Checks s h (i ∷ []) (λ P H. field_line H i j) k
     unfolding check ◌>>◌ ◌>>=◌
     field_answered there foreign alias permission =
         record {
@@ -105,23 +104,23 @@ module _ {s : List ℕ} {n : ℕ} (m : ℕ) {k : Cap} (cap : Sees s (Made n) (λ
   not_local_not_apart not_local = record { sees = λ S rest held made. rw (← cap.sees S rest held made.0, not_local) refl }
 
 -- object u into object o, by thread t
-pub into_answered : (t : ℕ) (o u : Object) (k : Step) {far imm holds : Bool} → far ≡ (is_foreign t o || are_apart o u) → imm ≡ is_imm o.cap → holds ≡ may_hold o.cap u.cap
-    → result_of k ≡ permit far false (imm || not holds) → result_of k ≡ outcome_of (permit_swap t o u)
+pub into_answered : (t : ℕ) (o u : Object) (k : Res (Unit {0})) {far imm holds : Bool} → far ≡ (is_foreign t o || are_apart o u) → imm ≡ is_imm o.cap → holds ≡ may_hold o.cap u.cap
+    → k ≡ permit far false (imm || not holds) → k ≡ outcome_of (permit_swap t o u)
 unfolding permit_swap
 into_answered t o u k foreign imm may_hold_lem permission = rw (← foreign, ← imm, ← may_hold_lem) (permission ∙ as_outcome _)
 
 -- into field j of object n
 module _ (t : ℕ) (os : List Object) (n j : ℕ) where
-  pub into_absent : result_of NoValue ≡ outcome_of (swap_into t os n j Absent)
+  pub into_absent : (stop No.absent) ≡ outcome_of (swap_into t os n j Absent)
   unfolding swap_into as_object ◌>>=◌
   into_absent = refl
 
-  pub into_channel : (c : ℕ) → result_of WrongThing ≡ outcome_of (swap_into t os n j (Chan c))
+  pub into_channel : (c : ℕ) → (stop No.wrong_thing) ≡ outcome_of (swap_into t os n j (Chan c))
   unfolding swap_into as_object ◌>>=◌
   into_channel c = refl
 
   module _ (m : ℕ) (fields : Every (IsObject mosts.objects) (object_at os n).fields) where
-    pub into_missing : is_absent (slot_at (object_at os n).fields j) ≡ true → result_of NoField ≡ outcome_of (swap_into t os n j (Obj m))
+    pub into_missing : is_absent (slot_at (object_at os n).fields j) ≡ true → (stop No.no_field) ≡ outcome_of (swap_into t os n j (Obj m))
     unfolding swap_into as_object check ◌>>=◌ ◌>>◌
     into_missing missing = rw (has_field mosts.objects (object_at os n).fields j fields, missing)
 
@@ -131,23 +130,23 @@ module _ (t : ℕ) (os : List Object) (n j : ℕ) where
 
 -- ---- swap: the operand's word w, the target x in slot i as the operand leaves it
 
-module _ {s : List ℕ} {h : Here} (i j w : ℕ) {k : Step} (first : OperandChecked s h w k) where
-  pub swap_no_operand : is_pass k ≡ false → Checks s h (i ∷ w / 2 ∷ []) (λ P H. swap_line H i j (operand_of w)) k
+module _ {s : List ℕ} {h : Here} (i j w : ℕ) {k : Res (Unit {0})} (first : OperandChecked s h w k) where
+  pub swap_no_operand : passed k ≡ false → Checks s h (i ∷ w / 2 ∷ []) (λ P H. swap_line H i j (operand_of w)) k
   unfolding swap_line
   swap_no_operand fails = record { checks = λ P n S f fs rest st named. stays _ _ fails (first.checks P n S f fs rest st named.1) }
 
-  module _ {x : Value} (passed : is_pass k ≡ true) (target : TargetSeen s h i w x) where
-    pub swap_no_target : x ≡ Absent → Checks s h (i ∷ w / 2 ∷ []) (λ P H. swap_line H i j (operand_of w)) NoValue
+  module _ {x : Value} (goes : passed k ≡ true) (target : TargetSeen s h i w x) where
+    pub swap_no_target : x ≡ Absent → Checks s h (i ∷ w / 2 ∷ []) (λ P H. swap_line H i j (operand_of w)) (stop No.absent)
     unfolding swap_line as_object ◌>>=◌
-    swap_no_target is = record { checks = λ P n S f fs rest st named. rw (operand_goes st w first passed named.1.0, target_read st i w target named.0 ∙ is) refl }
+    swap_no_target is = record { checks = λ P n S f fs rest st named. rw (operand_goes st w first goes named.1.0, target_read st i w target named.0 ∙ is) refl }
 
-    pub swap_of_channel : {c : ℕ} → x ≡ Chan c → Checks s h (i ∷ w / 2 ∷ []) (λ P H. swap_line H i j (operand_of w)) WrongThing
+    pub swap_of_channel : {c : ℕ} → x ≡ Chan c → Checks s h (i ∷ w / 2 ∷ []) (λ P H. swap_line H i j (operand_of w)) (stop No.wrong_thing)
     unfolding swap_line as_object ◌>>=◌
-    swap_of_channel is = record { checks = λ P n S f fs rest st named. rw (operand_goes st w first passed named.1.0, target_read st i w target named.0 ∙ is) refl }
+    swap_of_channel is = record { checks = λ P n S f fs rest st named. rw (operand_goes st w first goes named.1.0, target_read st i w target named.0 ∙ is) refl }
 
     -- the value v, read at the place r; nothing after its own checks can stop
-    pub swap_of_object : {o r : ℕ} {v : Value} {a : Step} → x ≡ Obj o → r ≡ w / 2 % 16 → SlotSeen s h r v
-        → Sees s (λ S. Fielded o S × InObjects v S) (λ S. outcome_of (swap_into h.thread S.objects o j v)) (result_of a) → Checks s h (i ∷ w / 2 ∷ []) (λ P H. swap_line H i j (operand_of w)) a
+    pub swap_of_object : {o r : ℕ} {v : Value} {a : Res (Unit {0})} → x ≡ Obj o → r ≡ w / 2 % 16 → SlotSeen s h r v
+        → Sees s (λ S. Fielded o S × InObjects v S) (λ S. outcome_of (swap_into h.thread S.objects o j v)) a → Checks s h (i ∷ w / 2 ∷ []) (λ P H. swap_line H i j (operand_of w)) a
     unfolding swap_line swap_into object as_object ◌>>=◌ ◌>>◌
     swap_of_object {o} {r} {v} is place value into =
         record {
@@ -156,6 +155,6 @@ module _ {s : List ℕ} {h : Here} (i j w : ℕ) {k : Step} (first : OperandChec
               let target_is = target_read st i w target named.0 ∙ is in
               let there = subst (λ u. InObjects u S) value-is (slot_in_objects st (w / 2)) in
               into.sees S rest st.held (fielded st o (target_object st i w o target_is), there)
-              ∙ rw (operand_goes st w first passed named.1.0, target_is, value-is)
+              ∙ rw (operand_goes st w first goes named.1.0, target_is, value-is)
               (same_after (as_object v) _ _ λ u. same_after (check _ No.no_field) _ _ λ _. then_ok (permit_swap h.thread _ _) _);
         }

@@ -9,19 +9,18 @@ use lib.Dec.{eqb}
 use lib.ListN.{length, set}
 use lib.Seq.{get_or-set_other}
 use borrow.Author.Tests.{eqb-true, eq-eqb, ne_eqb}
+use Rattle.rules.specs.Numbers as No
 use Rattle.rules.specs.declared.Cap.{Cap}
 use Rattle.rules.specs.declared.Value.{Value}
 use Rattle.rules.specs.declared.Value.TheVariants.{Absent, Obj, Chan}
 use Rattle.rules.specs.Script.{Program, rank}
 use Rattle.rules.specs.State.{Frame, State, object_at, slot_at}
 use Rattle.rules.specs.Tables.{operand_of}
-use Rattle.rules.specs.Turn.{◌>>=◌, ◌>>◌, check, permit, is_iso, is_local, same_cap, is_foreign, is_iso_object, present, as_object, operand, left_by, object, cast_line}
+use Rattle.rules.specs.Turn.{Res, ok, stop, ◌>>=◌, ◌>>◌, check, permit, is_iso, is_local, same_cap, is_foreign, is_iso_object, present, as_object, operand, left_by, object, cast_line}
 use Rattle.rules.proofs.ListLaws.{by_bool}
 use Rattle.table.specs.declared.state.Here.{Here}
 use Rattle.table.specs.StateTable.{InTable, Sees, frame_at}
-use Rattle.checks.specs.declared.form_checks.Step.{Step}
-use Rattle.checks.specs.declared.form_checks.Step.TheVariants.{Next, NoValue, WrongThing, WrongCap}
-use Rattle.checks.specs.Checked.{result_of, is_pass, Made, InObjects, Stand, Checks}
+use Rattle.checks.specs.Checked.{passed, Made, InObjects, Stand, Checks}
 use Rattle.checks.proofs.CheckLaws.{stays, as_outcome, then_ok}
 use Rattle.checks.proofs.Standing.{SlotSeen, TargetSeen, OperandChecked, slot_object, slot_read, operand_goes}
 
@@ -31,7 +30,7 @@ pub seen_at_half : {s : List ℕ} (h : Here) {r : ℕ} {v : Value} (w : ℕ) →
 seen_at_half {s = s} h {v = v} w place slot = subst (λ i. SlotSeen s h i v) place slot
 
 module _ {s : List ℕ} {h : Here} {r : ℕ} {v : Value} (w : ℕ) (place : r ≡ w / 2 % 16) (slot : SlotSeen s h r v) where
-  pub operand_absent : v ≡ Absent → OperandChecked s h w NoValue
+  pub operand_absent : v ≡ Absent → OperandChecked s h w (stop No.absent)
   unfolding operand present ◌>>=◌
   operand_absent is =
       record {
@@ -40,7 +39,7 @@ module _ {s : List ℕ} {h : Here} {r : ℕ} {v : Value} (w : ℕ) (place : r �
             by_bool (eqb (w % 2) 1) (λ t. rw (t, value) refl) (λ t. rw (t, value) refl);
       }
 
-  pub operand_channel : {c : ℕ} → v ≡ Chan c → OperandChecked s h w Next
+  pub operand_channel : {c : ℕ} → v ≡ Chan c → OperandChecked s h w (ok tt)
   unfolding operand present permit check is_iso_object ◌>>=◌ ◌>>◌
   operand_channel is =
       record {
@@ -50,13 +49,13 @@ module _ {s : List ℕ} {h : Here} {r : ℕ} {v : Value} (w : ℕ) (place : r �
       }
 
   module _ {o : ℕ} (is : v ≡ Obj o) where
-    pub operand_taken : w % 2 ≡ 1 → OperandChecked s h w Next
+    pub operand_taken : w % 2 ≡ 1 → OperandChecked s h w (ok tt)
     unfolding operand present ◌>>=◌
     operand_taken takes =
         record { checks = λ P n S f fs rest st named. rw (eq-eqb (w % 2) 1 takes, slot_read st (w / 2) _ place slot named.0 ∙ is) refl }
 
-    pub operand_read : {k : Cap} {b : Bool} {a : Step} → (w % 2 ≡ 1 → ⊥) → Sees s (λ S. o < length S.objects) (λ S. (object_at S.objects o).cap) k → b ≡ is_iso k
-        → result_of a ≡ permit false b false → OperandChecked s h w a
+    pub operand_read : {k : Cap} {b : Bool} {a : Res (Unit {0})} → (w % 2 ≡ 1 → ⊥) → Sees s (λ S. o < length S.objects) (λ S. (object_at S.objects o).cap) k → b ≡ is_iso k
+        → a ≡ permit false b false → OperandChecked s h w a
     unfolding operand present is_iso_object ◌>>=◌
     operand_read reads cap iso permission =
         record {
@@ -101,22 +100,22 @@ module _ (s : List ℕ) (h : Here) (i w : ℕ) where
 
 -- ---- cast: the operand's word w, its value v
 
-module _ {s : List ℕ} {h : Here} {k : Step} (w : ℕ) (c : Cap) (first : OperandChecked s h w k) where
-  abbrev CastGives : Step → Type 0
+module _ {s : List ℕ} {h : Here} {k : Res (Unit {0})} (w : ℕ) (c : Cap) (first : OperandChecked s h w k) where
+  abbrev CastGives : Res (Unit {0}) → Type 0
   CastGives j = Checks s h (w / 2 ∷ []) (λ P H. cast_line H c (operand_of w)) j
 
-  pub cast_no_operand : is_pass k ≡ false → CastGives k
+  pub cast_no_operand : passed k ≡ false → CastGives k
   unfolding cast_line
   cast_no_operand fails = record { checks = λ P n S f fs rest st named. stays _ _ fails (first.checks P n S f fs rest st named) }
 
-  module _ {r : ℕ} {v : Value} (passed : is_pass k ≡ true) (place : r ≡ w / 2 % 16) (slot : SlotSeen s h r v) where
-    pub cast_of_absent : v ≡ Absent → CastGives NoValue
+  module _ {r : ℕ} {v : Value} (goes : passed k ≡ true) (place : r ≡ w / 2 % 16) (slot : SlotSeen s h r v) where
+    pub cast_of_absent : v ≡ Absent → CastGives (stop No.absent)
     unfolding cast_line as_object ◌>>=◌
-    cast_of_absent is = record { checks = λ P n S f fs rest st named. rw (operand_goes st w first passed named.0, slot_read st (w / 2) _ place slot named.0 ∙ is) refl }
+    cast_of_absent is = record { checks = λ P n S f fs rest st named. rw (operand_goes st w first goes named.0, slot_read st (w / 2) _ place slot named.0 ∙ is) refl }
 
-    pub cast_of_channel : {d : ℕ} → v ≡ Chan d → CastGives WrongThing
+    pub cast_of_channel : {d : ℕ} → v ≡ Chan d → CastGives (stop No.wrong_thing)
     unfolding cast_line as_object ◌>>=◌
-    cast_of_channel is = record { checks = λ P n S f fs rest st named. rw (operand_goes st w first passed named.0, slot_read st (w / 2) _ place slot named.0 ∙ is) refl }
+    cast_of_channel is = record { checks = λ P n S f fs rest st named. rw (operand_goes st w first goes named.0, slot_read st (w / 2) _ place slot named.0 ∙ is) refl }
 
     module _ {o : ℕ} {a : Cap} (is : v ≡ Obj o) (cap : Sees s (λ S. o < length S.objects) (λ S. (object_at S.objects o).cap) a) where
       same_is : {P : Program} {n : ℕ} {S : State} {f : Frame} {fs : List Frame} {rest : List ℕ} → Stand s h P n S f fs rest → w / 2 < length f.slots
@@ -125,20 +124,20 @@ module _ {s : List ℕ} {h : Here} {k : Step} (w : ℕ) (c : Cap) (first : Opera
       same_is {S = S} {rest = rest} st filled =
           ap (λ (b : Cap). same_cap b c) (sym (cap.sees S rest st.held (slot_object st (w / 2) o (slot_read st (w / 2) _ place slot filled ∙ is))))
 
-      pub cast_same : rank a ≡ rank c → CastGives Next
+      pub cast_same : rank a ≡ rank c → CastGives (ok tt)
       unfolding cast_line as_object object check ◌>>=◌ ◌>>◌
       cast_same same =
           record {
             checks = λ P n S f fs rest st named.
-                rw (operand_goes st w first passed named.0, slot_read st (w / 2) _ place slot named.0 ∙ is, same_is st named.0 ∙ eq-eqb (rank a) (rank c) same) refl;
+                rw (operand_goes st w first goes named.0, slot_read st (w / 2) _ place slot named.0 ∙ is, same_is st named.0 ∙ eq-eqb (rank a) (rank c) same) refl;
           }
 
-      pub cast_other : (rank a ≡ rank c → ⊥) → CastGives WrongCap
+      pub cast_other : (rank a ≡ rank c → ⊥) → CastGives (stop No.cast)
       unfolding cast_line as_object object check ◌>>=◌ ◌>>◌
       cast_other other =
           record {
             checks = λ P n S f fs rest st named.
-                rw (operand_goes st w first passed named.0, slot_read st (w / 2) _ place slot named.0 ∙ is, same_is st named.0 ∙ ne_eqb (rank a) (rank c) other) refl;
+                rw (operand_goes st w first goes named.0, slot_read st (w / 2) _ place slot named.0 ∙ is, same_is st named.0 ∙ ne_eqb (rank a) (rank c) other) refl;
           }
 
 -- ---- Capabilities, as they are seen

@@ -13,7 +13,7 @@ use Rattle.rules.specs.Mosts.{mosts}
 use Rattle.rules.specs.Script.{Program}
 use Rattle.rules.specs.State.{Frame, State, object_at, channel_at, slot_at}
 use Rattle.rules.specs.Tables.{operand_of}
-use Rattle.rules.specs.Turn.{ok, is_absent, operand, left_by}
+use Rattle.rules.specs.Turn.{Res, ok, is_absent, operand, left_by}
 use Rattle.rules.specs.Fits.{InRange, IsObject, Fits}
 use Rattle.rules.proofs.ListLaws.{every_map, every_get}
 use Rattle.rules.proofs.Keeps.{HereFits, here_fits, is_object_more, object_in_range, slot_range, object_fits, channel_fits}
@@ -22,8 +22,7 @@ use Rattle.table.specs.declared.state.Here.{Here}
 use Rattle.table.specs.StateTable.{InTable, Sees, FieldIn, frame_at}
 use Rattle.table.proofs.StateEdits.{innermost_frame}
 use Rattle.table.proofs.Places.{in_table, has_place, message_in_table}
-use Rattle.checks.specs.declared.form_checks.Step.{Step}
-use Rattle.checks.specs.Checked.{is_pass, Fielded, InObjects, here_at, Stand, Checks}
+use Rattle.checks.specs.Checked.{passed, Fielded, InObjects, here_at, Stand, Checks}
 use Rattle.checks.proofs.CheckLaws.{operand_gives}
 
 -- ---- What is learned of the table
@@ -40,7 +39,7 @@ abbrev pub MessageSeen : List ℕ → ℕ → Value → Type 0
 MessageSeen s c v = Sees s (λ S. InTable (channel_at S c).message) (λ S. (channel_at S c).message) v
 
 -- the check of the operand of word w is k
-abbrev pub OperandChecked : List ℕ → Here → ℕ → Step → Type 0
+abbrev pub OperandChecked : List ℕ → Here → ℕ → Res (Unit {0}) → Type 0
 OperandChecked s h w k = Checks s h (w / 2 ∷ []) (λ P H. operand H.state.objects H.frame.slots (operand_of w)) k
 
 -- ---- Values in range
@@ -147,6 +146,6 @@ module _ {s : List ℕ} {h : Here} {P : Program} {n : ℕ} {S : State} {f : Fram
   message_read c read = sym (read.sees S rest st.held (message_in_table st.fits c))
 
   -- the operand of word w, whose check k passes
-  pub operand_goes : (w : ℕ) {k : Step} → OperandChecked s h w k → is_pass k ≡ true → w / 2 < length f.slots
+  pub operand_goes : (w : ℕ) {k : Res (Unit {0})} → OperandChecked s h w k → passed k ≡ true → w / 2 < length f.slots
       → operand S.objects f.slots (operand_of w) ≡ ok (slot_at f.slots (w / 2), left_by f.slots (operand_of w))
   operand_goes w first passes filled = operand_gives S.objects f.slots w passes (first.checks P n S f fs rest st (filled, tt))

@@ -1,7 +1,8 @@
 -- What the checks of a line answer: the rule's own result, read off the tables.
-use Rattle.std.specs.Prelude.{ℕ, suc, ◌≤◌, ◌<◌, ◌≡◌, Bool, true, false, List, ◌∷◌, map, ltb, length, get_or}
+use Rattle.std.specs.Prelude.{ℕ, suc, ◌≤◌, ◌<◌, ◌≡◌, Bool, true, false, List, ◌∷◌, map, ltb, length, get_or, Result, Ok, Err}
 use Rattle.rules.specs.declared.Value.{Value}
 use Rattle.rules.specs.declared.Value.TheVariants.{Absent, Obj, Chan}
+use Rattle.rules.specs.declared.faults.Fault.{Fault}
 use Rattle.rules.specs.Mosts as Most
 use Rattle.rules.specs.Mosts.{mosts}
 use Rattle.rules.specs.Numbers as No
@@ -15,22 +16,23 @@ use Rattle.rules.specs.Fits.{IsObject, Fits}
 use Rattle.table.specs.declared.state.Here.{Here}
 use Rattle.table.specs.ProgramTable.{Filled}
 use Rattle.table.specs.StateTable.{Held}
-use Rattle.checks.specs.declared.form_checks.Step.{Step}
-use Rattle.checks.specs.declared.form_checks.Step.TheVariants.{Next, Stay, Turned, Waits, NoValue, NoField, NoMethod, WrongThing, Forbidden, WrongCap, UsedUp}
+use Rattle.checks.specs.declared.form_checks.Halt.{Halt}
+use Rattle.checks.specs.declared.form_checks.Halt.TheVariants.{Waits, Stops}
 
--- a step as a result of the rules
-abbrev pub result_of : Step → Res (Unit {0})
-result_of Next = ok tt
-result_of Stay = ok tt
-result_of Turned = ok tt
-result_of Waits = wait
-result_of NoValue = stop No.absent
-result_of NoField = stop No.no_field
-result_of NoMethod = stop No.no_method
-result_of WrongThing = stop No.wrong_thing
-result_of (Forbidden g) = stop (No.permission g)
-result_of WrongCap = stop No.cast
-result_of UsedUp = stop No.used_up
+-- what ends a line, as a result of the rules
+abbrev pub halted : Halt → Res (Unit {0})
+halted Waits = wait
+halted (Stops f) = stop (No.number f)
+
+-- the answer of a check or a line, its value aside
+abbrev pub result_of : {A : Type 0} → Result A Halt → Res (Unit {0})
+result_of (Ok a) = ok tt
+result_of (Err h) = halted h
+
+-- and of a check that cannot wait
+abbrev pub checked : {A : Type 0} → Result A Fault → Res (Unit {0})
+checked (Ok a) = ok tt
+checked (Err f) = stop (No.number f)
 
 -- a result of the rules, its value aside
 abbrev pub outcome_of : {A : Type 0} → Res A → Res (Unit {0})
@@ -52,12 +54,6 @@ abbrev pub stop_number : Res (Unit {0}) → ℕ
 stop_number (ok a) = 0
 stop_number wait = 0
 stop_number (stop n) = n
-
-abbrev pub is_pass : Step → Bool
-is_pass k = passed (result_of k)
-
-abbrev pub is_wait : Step → Bool
-is_wait k = waited (result_of k)
 
 -- ---- What is asked of the state
 
@@ -112,9 +108,9 @@ abbrev pub Named : List ℕ → Frame → Type 0
 Named is f = Every (λ i. i < length f.slots) is
 
 -- a check of a line that names these slots answers what the rule does
-pub record Checks {A : Type 0} (s : List ℕ) (h : Here) (is : List ℕ) (line : Program → R.Here → Res A) (k : Step) : Type 0 where
+pub record Checks {A : Type 0} (s : List ℕ) (h : Here) (is : List ℕ) (line : Program → R.Here → Res A) (k : Res (Unit {0})) : Type 0 where
   pub checks : (P : Program) (n : ℕ) (S : State) (f : Frame) (fs : List Frame) (rest : List ℕ) → Stand s h P n S f fs rest → Named is f
-      → result_of k ≡ outcome_of (line P (here_at S h.thread f fs))
+      → k ≡ outcome_of (line P (here_at S h.thread f fs))
 
 -- method j of object n's kind, as an item
 pub record MethodItem (p s : List ℕ) (n j r : ℕ) : Type 0 where

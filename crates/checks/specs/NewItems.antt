@@ -15,8 +15,7 @@ use Rattle.rules.specs.Turn as R
 use Rattle.rules.specs.Turn.{Res, ok, ◌>>=◌, ◌>>◌, check, permit, may_hold, is_foreign, is_absent, operand, left_by, operands, all_objects}
 use Rattle.table.specs.declared.state.Here.{Here}
 use Rattle.table.specs.StateTable.{Sees}
-use Rattle.checks.specs.declared.form_checks.Step.{Step}
-use Rattle.checks.specs.Checked.{result_of, outcome_of, InObjects, Checks}
+use Rattle.checks.specs.Checked.{outcome_of, InObjects, Checks}
 
 -- new, past its operands, which give the values us
 unfoldable pub hold_all : ℕ → Cap → State → List Value → Res (Unit {0})
@@ -67,14 +66,14 @@ abbrev pub AllInObjects : List Value → State → Type 0
 AllInObjects vs S = Every (λ v. InObjects v S) vs
 
 -- the operands of a new; the values that they gave
-pub record ChecksItems (s : List ℕ) (h : Here) (items : List ℕ) (k : Step) : Type 0 where
+pub record ChecksItems (s : List ℕ) (h : Here) (items : List ℕ) (k : Res (Unit {0})) : Type 0 where
   pub checks : (ws : List Operand) → items ≡ pad Most.operands 0 (map operand_item ws) → length ws ≤ Most.operands
       → Checks s h (map slot_of ws) (λ P H. operands H.state.objects H.frame.slots ws) k
 
-pub record ChecksHeld (s : List ℕ) (t : ℕ) (c : Cap) (values : List Value) (k : Step) : Type 0 where
+pub record ChecksHeld (s : List ℕ) (t : ℕ) (c : Cap) (values : List Value) (k : Res (Unit {0})) : Type 0 where
   pub checks : (us : List Value) → values ≡ pad Most.operands Absent us → length us ≤ Most.operands → Every (λ u. is_absent u ≡ false) us
-      → Sees s (AllInObjects us) (λ S. outcome_of (hold_all t c S us)) (result_of k)
+      → Sees s (AllInObjects us) (λ S. outcome_of (hold_all t c S us)) k
 
-pub record ChecksNew (s : List ℕ) (h : Here) (c : Cap) (items : List ℕ) (k : Step) : Type 0 where
+pub record ChecksNew (s : List ℕ) (h : Here) (c : Cap) (items : List ℕ) (k : Res (Unit {0})) : Type 0 where
   pub checks : (ws : List Operand) → items ≡ pad Most.operands 0 (map operand_item ws) → length ws ≤ Most.operands
       → (kind : ℕ) → Checks s h (map slot_of ws) (λ P H. R.new_line mosts H c kind ws) k

@@ -1,4 +1,4 @@
-// What a line comes to, and the checks that lines share or that say whether a thread would wait, in document 01's order. None of them writes.
+// What ends a line, and the checks that lines share or that say whether a thread would wait, in document 01's order. None of them writes.
 ghost use Rattle.std.specs.Prelude.{◌≡◌, ◌||◌, [], ◌∷◌, ◌-◌, ◌/◌, ◌%◌, ◌≤◌, ◌<◌, ltb, length};
 ghost use Rattle.rules.specs.Mosts.{mosts};
 ghost use Rattle.rules.specs.Numbers as No;
@@ -6,80 +6,24 @@ ghost use Rattle.rules.specs.State.{object_at, channel_at, slot_at};
 ghost use Rattle.rules.specs.Tables.{operand_of};
 ghost use Rattle.rules.specs.Turn.{check, is_imm, is_iso, is_local, is_foreign, is_absent, is_iso_object, permit, operand, left_by, are_apart, permit_swap, cast_line, put_line, sent_line, recv_line};
 ghost use Rattle.table.specs.StateTable.{InTable, Sees, Placed, frame_at};
-ghost use Rattle.checks.specs.Checked.{result_of, outcome_of, stop_number, is_pass, is_wait, Made, Fielded, InObjects, Few, swap_into, put_into, MethodItem, Checks};
+ghost use Rattle.checks.specs.declared.form_checks.Halt.TheVariants.{Stops};
+ghost use Rattle.checks.specs.Checked.{result_of, outcome_of, checked, Made, Fielded, InObjects, Few, swap_into, put_into, MethodItem, Checks};
 
-use rules::{Cap, Ground, Value};
+use rules::{Cap, Fault, Value};
 use table::Here;
 
-// What a line comes to. It moves, and the thread is then at the frame's next line, at the same line, or in another frame or finished; it waits; or
-// it stops. A check that passes answers that the line moves, by Next.
-#[derive(Clone, Copy)]
-pub enum Step {
-    Next,
-    Stay,
-    Turned,
+// What ends a line before it has moved: the thread waits, or the line stops the run.
+#[derive(Clone, Copy, Debug, PartialEq, Eq)]
+pub enum Halt {
     Waits,
-    NoValue, // a slot that holds nothing
-    NoField,
-    NoMethod,
-    WrongThing, // a channel where an object is wanted, or an object where a channel is
-    Forbidden(Ground), // the capabilities do not allow it
-    WrongCap, // a cast to another capability
-    UsedUp,
+    Stops(Fault),
 }
 
-pub fn passes(k: Step) -> bool
-    ensures { result ≡ is_pass k }
-{
-    match k {
-        Step::Next => true,
-        Step::Stay => true,
-        Step::Turned => true,
-        Step::Waits => false,
-        Step::NoValue => false,
-        Step::NoField => false,
-        Step::NoMethod => false,
-        Step::WrongThing => false,
-        Step::Forbidden(_) => false,
-        Step::WrongCap => false,
-        Step::UsedUp => false,
-    }
-}
+impl From<Fault> for Halt {
+    ghost from_gives = { λ f h. h ≡ Stops f };
 
-pub fn waits(k: Step) -> bool
-    ensures { result ≡ is_wait k }
-{
-    match k {
-        Step::Next => false,
-        Step::Stay => false,
-        Step::Turned => false,
-        Step::Waits => true,
-        Step::NoValue => false,
-        Step::NoField => false,
-        Step::NoMethod => false,
-        Step::WrongThing => false,
-        Step::Forbidden(_) => false,
-        Step::WrongCap => false,
-        Step::UsedUp => false,
-    }
-}
-
-// The number of a stop; 0 of any other step.
-pub fn stop_number(k: Step) -> u16
-    ensures { result ≡ stop_number (result_of k) }
-{
-    match k {
-        Step::Next => 0,
-        Step::Stay => 0,
-        Step::Turned => 0,
-        Step::Waits => 0,
-        Step::NoValue => rules::numbers::ABSENT,
-        Step::NoField => rules::numbers::NO_FIELD,
-        Step::NoMethod => rules::numbers::NO_METHOD,
-        Step::WrongThing => rules::numbers::WRONG_THING,
-        Step::Forbidden(g) => rules::ground_number(g),
-        Step::WrongCap => rules::numbers::CAST,
-        Step::UsedUp => rules::numbers::USED_UP,
+    fn from(f: Fault) -> Halt {
+        Halt::Stops(f)
     }
 }
 
@@ -159,19 +103,19 @@ pub fn is_iso_object(s: &[u16], v: Value) -> bool
 }
 
 // A permission check: which of its grounds hold. "Where several hold, 20 goes before 19 and 19 before 14".
-pub fn permission_check(foreign: bool, alias: bool, other: bool) -> Step
-    ensures { result_of result ≡ permit foreign alias other }
+pub fn permission_check(foreign: bool, alias: bool, other: bool) -> Result<(), Fault>
+    ensures { checked result ≡ permit foreign alias other }
 {
     if foreign {
-        return Step::Forbidden(Ground::Foreign);
+        return Err(Fault::Foreign);
     }
     if alias {
-        return Step::Forbidden(Ground::Alias);
+        return Err(Fault::Alias);
     }
     if other {
-        return Step::Forbidden(Ground::Other);
+        return Err(Fault::Permission);
     }
-    Step::Next
+    Ok(())
 }
 
 // ---- Operands
@@ -186,17 +130,17 @@ pub fn operand(s: &[u16], h: Here, w: u16) -> Value
 }
 
 // "operand: absent 10; a read of an iso object 19."
-pub fn operand_check(s: &[u16], h: Here, w: u16) -> Step
+pub fn operand_check(s: &[u16], h: Here, w: u16) -> Result<(), Fault>
     requires { (8192 ≤ length s.now) × Placed h }
-    ensures { Checks s.now h (w / 2 ∷ []) (λ P H. operand H.state.objects H.frame.slots (operand_of w)) result }
+    ensures { Checks s.now h (w / 2 ∷ []) (λ P H. operand H.state.objects H.frame.slots (operand_of w)) (checked result) }
 {
     let v = operand(s, h, w);
     match v {
-        Value::Absent => Step::NoValue,
-        Value::Chan(_) => Step::Next,
+        Value::Absent => Err(Fault::Absent),
+        Value::Chan(_) => Ok(()),
         Value::Obj(n) => {
             if w % 2 == 1 {
-                return Step::Next;
+                return Ok(());
             }
             permission_check(false, is_iso(table::cap(s, n)), false)
         }
@@ -218,23 +162,20 @@ pub fn seen(s: &[u16], h: Here, i: u16, w: u16) -> Value
 // ---- The forms
 
 // "cast: a channel 13; capability not K 15; else gives the value."
-pub fn cast_check(s: &[u16], h: Here, k: Cap, w: u16) -> Step
+pub fn cast_check(s: &[u16], h: Here, k: Cap, w: u16) -> Result<(), Fault>
     requires { (8192 ≤ length s.now) × Placed h }
-    ensures { Checks s.now h (w / 2 ∷ []) (λ P H. cast_line H k (operand_of w)) result }
+    ensures { Checks s.now h (w / 2 ∷ []) (λ P H. cast_line H k (operand_of w)) (checked result) }
 {
-    let first = operand_check(s, h, w);
-    if !passes(first) {
-        return first;
-    }
+    operand_check(s, h, w)?;
     let v = operand(s, h, w);
     match v {
-        Value::Absent => Step::NoValue,
-        Value::Chan(_) => Step::WrongThing,
+        Value::Absent => Err(Fault::Absent),
+        Value::Chan(_) => Err(Fault::WrongThing),
         Value::Obj(n) => {
             if rules::cap_rank(table::cap(s, n)) == rules::cap_rank(k) {
-                return Step::Next;
+                return Ok(());
             }
-            Step::WrongCap
+            Err(Fault::Cast)
         }
     }
 }
@@ -262,9 +203,9 @@ fn is_foreign_swap(s: &[u16], t: usize, n: u16, m: u16) -> bool
 }
 
 // The same, and "target imm, or .. value above the target, .. 14".
-fn swap_permission(s: &[u16], t: usize, n: u16, m: u16) -> Step
+fn swap_permission(s: &[u16], t: usize, n: u16, m: u16) -> Result<(), Fault>
     requires { (8192 ≤ length s.now) × (n < 256) × (m < 256) }
-    ensures { Sees s.now (λ S. Made n S × Made m S) (λ S. outcome_of (permit_swap t (object_at S.objects n) (object_at S.objects m))) (result_of result) }
+    ensures { Sees s.now (λ S. Made n S × Made m S) (λ S. outcome_of (permit_swap t (object_at S.objects n) (object_at S.objects m))) (checked result) }
 {
     let a = table::cap(s, n);
     let b = table::cap(s, m);
@@ -274,16 +215,16 @@ fn swap_permission(s: &[u16], t: usize, n: u16, m: u16) -> Step
 }
 
 // The value into field j of object n: "value a channel 13; no such field 11; .. 14" or 20.
-pub fn swap_into(s: &[u16], t: usize, n: u16, j: u16, v: Value) -> Step
+pub fn swap_into(s: &[u16], t: usize, n: u16, j: u16, v: Value) -> Result<(), Fault>
     requires { (8192 ≤ length s.now) × (n < 256) × InTable v }
-    ensures { Sees s.now (λ S. Fielded n S × InObjects v S) (λ S. outcome_of (swap_into t S.objects n j v)) (result_of result) }
+    ensures { Sees s.now (λ S. Fielded n S × InObjects v S) (λ S. outcome_of (swap_into t S.objects n j v)) (checked result) }
 {
     match v {
-        Value::Absent => Step::NoValue,
-        Value::Chan(_) => Step::WrongThing,
+        Value::Absent => Err(Fault::Absent),
+        Value::Chan(_) => Err(Fault::WrongThing),
         Value::Obj(m) => {
             if is_absent(table::field(s, n, j)) {
-                return Step::NoField;
+                return Err(Fault::NoField);
             }
             swap_permission(s, t, n, m)
         }
@@ -302,90 +243,84 @@ pub fn method_item(p: &[u16], s: &[u16], n: u16, j: u16) -> u16
 }
 
 // "spawn: threads used up 16".
-pub fn spawn_check(s: &[u16]) -> Step
+pub fn spawn_check(s: &[u16]) -> Result<(), Fault>
     requires { 8192 ≤ length s.now }
-    ensures { Sees s.now (λ S. Few S) (λ S. outcome_of (check (ltb (length S.threads) mosts.threads) No.used_up)) (result_of result) }
+    ensures { Sees s.now (λ S. Few S) (λ S. outcome_of (check (ltb (length S.threads) mosts.threads) No.used_up)) (checked result) }
 {
     if table::thread_count(s) < 16 {
-        return Step::Next;
+        return Ok(());
     }
-    Step::UsedUp
+    Err(Fault::UsedUp)
 }
 
 // "recv: target absent 10; an object 13; empty: waits."
-pub fn recv_check(s: &[u16], h: Here, i: u16) -> Step
+pub fn recv_check(s: &[u16], h: Here, i: u16) -> Result<(), Halt>
     requires { (8192 ≤ length s.now) × Placed h }
-    ensures { Checks s.now h (i ∷ []) (λ P H. recv_line H i) result }
+    ensures { Checks s.now h (i ∷ []) (λ P H. recv_line H i) (result_of result) }
 {
     let x = table::slot(s, h, i as usize % 16);
     match x {
-        Value::Absent => Step::NoValue,
-        Value::Obj(_) => Step::WrongThing,
+        Value::Absent => Err(Halt::Stops(Fault::Absent)),
+        Value::Obj(_) => Err(Halt::Stops(Fault::WrongThing)),
         Value::Chan(c) => {
             if is_absent(table::message(s, c)) {
-                return Step::Waits; // empty
+                return Err(Halt::Waits); // empty
             }
-            Step::Next
+            Ok(())
         }
     }
 }
 
 // "waits while the channel still holds the message with that number": the sender's word is d.
-pub fn sent_check(s: &[u16], h: Here, i: u16, d: u16) -> Step
+pub fn sent_check(s: &[u16], h: Here, i: u16, d: u16) -> Result<(), Halt>
     requires { (8192 ≤ length s.now) × Placed h × (1 ≤ d) }
-    ensures { Checks s.now h (i ∷ []) (λ P H. sent_line H i (d - 1)) result }
+    ensures { Checks s.now h (i ∷ []) (λ P H. sent_line H i (d - 1)) (result_of result) }
 {
     let x = table::slot(s, h, i as usize % 16);
     match x {
-        Value::Absent => Step::NoValue,
-        Value::Obj(_) => Step::WrongThing,
+        Value::Absent => Err(Halt::Stops(Fault::Absent)),
+        Value::Obj(_) => Err(Halt::Stops(Fault::WrongThing)),
         Value::Chan(c) => {
             if is_absent(table::message(s, c)) {
-                return Step::Next;
+                return Ok(());
             }
             if table::message_number(s, c) == d - 1 {
-                return Step::Waits;
+                return Err(Halt::Waits);
             }
-            Step::Next
+            Ok(())
         }
     }
 }
 
 // The value into channel c: "value a channel 13; value local 14; channel full: waits".
-pub fn put_into(s: &[u16], c: u16, v: Value) -> Step
+pub fn put_into(s: &[u16], c: u16, v: Value) -> Result<(), Halt>
     requires { (8192 ≤ length s.now) × (c < 16) × InTable v }
     ensures { Sees s.now (λ S. InObjects v S × InTable (channel_at S c).message) (λ S. outcome_of (put_into S c v)) (result_of result) }
 {
     match v {
-        Value::Absent => Step::NoValue,
-        Value::Chan(_) => Step::WrongThing,
+        Value::Absent => Err(Halt::Stops(Fault::Absent)),
+        Value::Chan(_) => Err(Halt::Stops(Fault::WrongThing)),
         Value::Obj(n) => {
-            let k = permission_check(false, false, is_local(table::cap(s, n)));
-            if !passes(k) {
-                return k;
-            }
+            permission_check(false, false, is_local(table::cap(s, n)))?;
             if is_absent(table::message(s, c)) {
-                return Step::Next;
+                return Ok(());
             }
-            Step::Waits
+            Err(Halt::Waits)
         }
     }
 }
 
 // "send: target absent 10; an object 13; value a channel 13; value local 14; channel full: waits."
-pub fn put_check(s: &[u16], h: Here, i: u16, w: u16) -> Step
+pub fn put_check(s: &[u16], h: Here, i: u16, w: u16) -> Result<(), Halt>
     requires { (8192 ≤ length s.now) × Placed h × (i < 256) }
-    ensures { Checks s.now h (i ∷ w / 2 ∷ []) (λ P H. put_line H i (operand_of w)) result }
+    ensures { Checks s.now h (i ∷ w / 2 ∷ []) (λ P H. put_line H i (operand_of w)) (result_of result) }
 {
-    let k = operand_check(s, h, w);
-    if !passes(k) {
-        return k;
-    }
+    operand_check(s, h, w)?;
     let v = operand(s, h, w); // what is sent
     let x = seen(s, h, i, w);
     match x {
-        Value::Absent => Step::NoValue,
-        Value::Obj(_) => Step::WrongThing,
+        Value::Absent => Err(Halt::Stops(Fault::Absent)),
+        Value::Obj(_) => Err(Halt::Stops(Fault::WrongThing)),
         Value::Chan(c) => put_into(s, c, v),
     }
 }

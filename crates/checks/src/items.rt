@@ -3,11 +3,11 @@ ghost use Rattle.std.specs.Prelude.{◌≡◌, ◌||◌, [], ◌∷◌, ◌≤�
 ghost use Rattle.rules.specs.Lists.{any, Every};
 ghost use Rattle.rules.specs.State.{slot_at};
 ghost use Rattle.table.specs.StateTable.{InTable, Sees, Placed, frame_at};
-ghost use Rattle.checks.specs.Checked.{InObjects, Checks};
+ghost use Rattle.checks.specs.Checked.{checked, InObjects, Checks};
 ghost use Rattle.checks.specs.NewItems.{left_by_item, item_slots, item_operand, item_value, takes_slot, foreign_to, above, is_channel, AllInObjects, ChecksItems, ChecksHeld};
 
-use super::form_checks::{Step, is_foreign, operand, operand_check, passes, permission_check};
-use rules::{Cap, Value};
+use super::form_checks::{is_foreign, operand, operand_check, permission_check};
+use rules::{Cap, Fault, Value};
 use table::Here;
 
 // Whether item a takes the slot of item e.
@@ -21,42 +21,33 @@ fn takes_slot(a: u16, e: u16) -> bool
 }
 
 // The operand of item e, which sees what the items a, b and c before it took.
-fn item_check(s: &[u16], h: Here, a: u16, b: u16, c: u16, e: u16) -> Step
+fn item_check(s: &[u16], h: Here, a: u16, b: u16, c: u16, e: u16) -> Result<(), Fault>
     requires { (8192 ≤ length s.now) × Placed h }
-    ensures { Checks s.now h (item_slots e) (λ P H. item_operand H.state.objects (left_by_item (left_by_item (left_by_item H.frame.slots a) b) c) e) result }
+    ensures { Checks s.now h (item_slots e) (λ P H. item_operand H.state.objects (left_by_item (left_by_item (left_by_item H.frame.slots a) b) c) e) (checked result) }
 {
     if e == 0 {
-        return Step::Next;
+        return Ok(());
     }
     if takes_slot(a, e) {
-        return Step::NoValue;
+        return Err(Fault::Absent);
     }
     if takes_slot(b, e) {
-        return Step::NoValue;
+        return Err(Fault::Absent);
     }
     if takes_slot(c, e) {
-        return Step::NoValue;
+        return Err(Fault::Absent);
     }
     operand_check(s, h, e - 1)
 }
 
 // "All operands come first, left to right, each seeing what the earlier ones took."
-pub fn items_check(s: &[u16], h: Here, a: u16, b: u16, c: u16, d: u16) -> Step
+pub fn items_check(s: &[u16], h: Here, a: u16, b: u16, c: u16, d: u16) -> Result<(), Fault>
     requires { (8192 ≤ length s.now) × Placed h }
-    ensures { ChecksItems s.now h (a ∷ b ∷ c ∷ d ∷ []) result }
+    ensures { ChecksItems s.now h (a ∷ b ∷ c ∷ d ∷ []) (checked result) }
 {
-    let ka = item_check(s, h, 0, 0, 0, a);
-    if !passes(ka) {
-        return ka;
-    }
-    let kb = item_check(s, h, a, 0, 0, b);
-    if !passes(kb) {
-        return kb;
-    }
-    let kc = item_check(s, h, a, b, 0, c);
-    if !passes(kc) {
-        return kc;
-    }
+    item_check(s, h, 0, 0, 0, a)?;
+    item_check(s, h, a, 0, 0, b)?;
+    item_check(s, h, a, b, 0, c)?;
     item_check(s, h, a, b, c, d)
 }
 
@@ -155,21 +146,26 @@ fn any_above(s: &[u16], k: Cap, a: Value, b: Value, c: Value, d: Value) -> bool
 const OBJECTS: u16 = 256;
 
 // "any value a channel 13; any value above K, .. 14", or 20 for "new's value that is local with another creator"; "objects used up 16".
-pub fn hold_check(s: &[u16], t: usize, k: Cap, a: Value, b: Value, c: Value, d: Value) -> Step
+pub fn hold_check(
+    s: &[u16],
+    t: usize,
+    k: Cap,
+    a: Value,
+    b: Value,
+    c: Value,
+    d: Value,
+) -> Result<(), Fault>
     requires { (8192 ≤ length s.now) × InTable a × InTable b × InTable c × InTable d }
-    ensures { ChecksHeld s.now t k (a ∷ b ∷ c ∷ d ∷ []) result }
+    ensures { ChecksHeld s.now t k (a ∷ b ∷ c ∷ d ∷ []) (checked result) }
 {
     if any_channel(a, b, c, d) {
-        return Step::WrongThing;
+        return Err(Fault::WrongThing);
     }
     let foreign = any_foreign(s, t, a, b, c, d);
     let other = any_above(s, k, a, b, c, d);
-    let permission = permission_check(foreign, false, other);
-    if !passes(permission) {
-        return permission;
-    }
+    permission_check(foreign, false, other)?;
     if table::object_count(s) < OBJECTS {
-        return Step::Next;
+        return Ok(());
     }
-    Step::UsedUp
+    Err(Fault::UsedUp)
 }

@@ -18,7 +18,7 @@ use Rattle.rules.specs.Reading.{slot_of}
 use Rattle.rules.specs.Script.{Operand, Program, call, bind, give, kind_at}
 use Rattle.rules.specs.State.{Frame, Sender, ready, Thread, State, object_at, thread_at, slot_at}
 use Rattle.rules.specs.Tables.{operand_of, outermost_first, no_frame}
-use Rattle.rules.specs.Turn.{left_by, object, put_thread, filled, with_slots, is_absent, give_line, let_line, perform}
+use Rattle.rules.specs.Turn.{Res, left_by, object, put_thread, filled, with_slots, is_absent, give_line, let_line, perform}
 use Rattle.rules.proofs.ListLaws.{get_there, every_map}
 use Rattle.rules.proofs.Moves.{left_was_there, MethodCalled, Step, by_call, by_return, by_finish}
 use Rattle.rules.proofs.Keeps.{block_ok}
@@ -31,13 +31,12 @@ use Rattle.checks.specs.Checked.{here_at, Stand, MethodItem}
 use Rattle.checks.proofs.CheckLaws.{number_of, then_gives}
 use Rattle.checks.proofs.CallChecks.{ChecksCall}
 use Rattle.checks.proofs.Standing.{SlotSeen, TargetSeen, fits_here, slots_few, OperandChecked, target_read, slot_object, kind_is_there}
-use Rattle.checks.specs.declared.form_checks.Step as C
-use Rattle.checks.specs.declared.form_checks.Step.TheVariants.{Turned}
 use Rattle.turn.specs.Performed.{emptied, Leaves, Went, to_other, Always, Loaded}
 use Rattle.turn.proofs.Settled.{Written, written, only_gained}
 use Rattle.turn.proofs.SlotLines.{operand_kept, operand_gave}
 use Rattle.turn.proofs.TurnSteps.{Answers, Writes, word_names, let_names, give_names}
 use Rattle.turn.proofs.Frames.{Inside, inside, frame_inside, inside_put, innermost, left_inside}
+use Rattle.turn.specs.declared.Move.TheVariants.{Turned}
 
 -- ---- The frame that called the innermost one
 
@@ -67,7 +66,7 @@ called_by {S = S} in_frame g = inside_put S ready in_frame.thread (ap suc in_fra
 
 -- ---- give: the operand's word w
 
-pub give_answers : {s : List ℕ} {h : Here} {k : C.Step} (w : ℕ) → OperandChecked s h w k → Answers Always s h (give (operand_of w)) k
+pub give_answers : {s : List ℕ} {h : Here} {k : Res (Unit {0})} (w : ℕ) → OperandChecked s h w k → Answers Always s h (give (operand_of w)) k
 unfolding perform give_line
 give_answers w first = record { answers = λ P n S f fs rest q st at_line. first.checks P n S f fs rest st (word_names st w (give_names st at_line), tt) ∙ sym (then_gives _ _) }
 
@@ -153,7 +152,7 @@ module _ {s s₁ s₂ s₃ : List ℕ} {h : Here} {v : Value} (w : ℕ) (inner :
 
 -- ---- call: the operand's word w, the target in slot i, method j
 
-pub call_answers : {p s : List ℕ} {h : Here} {k : C.Step} (i j w : ℕ) → ChecksCall p s h i j w k → Answers (λ P S. Loaded p P) s h (bind (call i j (operand_of w))) k
+pub call_answers : {p s : List ℕ} {h : Here} {k : Res (Unit {0})} (i j w : ℕ) → ChecksCall p s h i j w k → Answers (λ P S. Loaded p P) s h (bind (call i j (operand_of w))) k
 unfolding perform let_line
 call_answers i j w all =
     record {

@@ -14,21 +14,20 @@ use Rattle.rules.specs.Holders.{holders}
 use Rattle.rules.specs.HolderChanges.{let_gained, line_gained, line_lost}
 use Rattle.rules.specs.Script.{Program, spawn, recv, bind, line_at}
 use Rattle.rules.specs.State.{Frame, ready, Thread, no_thread, State, thread_at, channel_at}
-use Rattle.rules.specs.Turn.{check, put_thread, put_channel, filled, gives, started, spawn_line, recv_line, let_line, perform}
+use Rattle.rules.specs.Turn.{Res, check, put_thread, put_channel, filled, gives, started, spawn_line, recv_line, let_line, perform}
 use Rattle.rules.proofs.ListLaws.{length_snoc}
 use Rattle.rules.proofs.Moves.{Step, by_spawn, by_recv}
 use Rattle.table.specs.declared.state.Here.{Here}
 use Rattle.table.specs.StateTable as T
 use Rattle.table.specs.StateTable.{Counted, Sees, Becomes, Any, HasRoom, given, channelled}
-use Rattle.checks.specs.declared.form_checks.Step as C
-use Rattle.checks.specs.Checked.{result_of, outcome_of, Few, here_at, Stand, Checks}
+use Rattle.checks.specs.Checked.{outcome_of, Few, here_at, Stand, Checks}
 use Rattle.checks.proofs.CheckLaws.{number_of, then_ok}
 use Rattle.checks.proofs.Standing.{SlotSeen, MessageSeen, slot_channel, slot_read, message_read}
-use Rattle.checks.specs.declared.form_checks.Step.TheVariants.{Next}
 use Rattle.turn.specs.Performed.{Went, to_next, Always}
 use Rattle.turn.proofs.Settled.{Written, nothing_gained}
 use Rattle.turn.proofs.TurnSteps.{Answers, Writes, let_names, let_room, line_few}
 use Rattle.turn.proofs.Frames.{Inside, inside, has_room, stands_put, given_inside}
+use Rattle.turn.specs.declared.Move.TheVariants.{Next}
 
 -- ---- spawn
 
@@ -46,7 +45,7 @@ started_inside b {t} S here =
     }
 
 module _ {s : List ℕ} {h : Here} (b : ℕ) where
-  pub spawn_answers : {k : C.Step} → Sees s (λ S. Few S) (λ S. outcome_of (check (ltb (length S.threads) mosts.threads) No.used_up)) (result_of k) → Answers Always s h (bind (spawn b)) k
+  pub spawn_answers : {k : Res (Unit {0})} → Sees s (λ S. Few S) (λ S. outcome_of (check (ltb (length S.threads) mosts.threads) No.used_up)) k → Answers Always s h (bind (spawn b)) k
   unfolding perform let_line spawn_line
   spawn_answers room = record { answers = λ P n S f fs rest q st at_line. room.sees S rest st.held st.fits.few_threads ∙ then_ok _ _ }
 
@@ -76,7 +75,7 @@ module _ {s : List ℕ} {h : Here} (b : ℕ) where
 -- ---- recv
 
 module _ {s : List ℕ} {h : Here} (i : ℕ) where
-  pub recv_answers : {k : C.Step} → Checks s h (i ∷ []) (λ P H. recv_line H i) k → Answers Always s h (bind (recv i)) k
+  pub recv_answers : {k : Res (Unit {0})} → Checks s h (i ∷ []) (λ P H. recv_line H i) k → Answers Always s h (bind (recv i)) k
   unfolding perform let_line
   recv_answers all = record { answers = λ P n S f fs rest q st at_line. all.checks P n S f fs rest st (let_names st at_line, tt) }
 

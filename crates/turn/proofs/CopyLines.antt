@@ -3,7 +3,7 @@
 use Prim.Native.Nat.{ℕ, ◌+◌, ◌%◌, ◌≤◌, ◌<◌}
 use native.Mathlib.Nat.{mod-eq_of_lt}
 use native.Mathlib.Omega.{arith}
-use mathlib.Core.Path.{◌≡◌, refl, sym, ap, ap₂, ◌∙◌, subst}
+use mathlib.Core.Path.{◌≡◌, refl, sym, ap, ap₂, ◌∙◌}
 use mathlib.Core.Bool.{Bool, true, false}
 use mathlib.Core.List.{List, [], ◌∷◌, ◌++◌, map}
 use lib.Dec.{leb}
@@ -24,7 +24,7 @@ use Rattle.rules.specs.Walk.{met_from}
 use Rattle.rules.specs.Holders.{holders}
 use Rattle.rules.specs.HolderChanges.{copied_fields, copies_gained, let_gained, line_gained, line_lost}
 use Rattle.rules.specs.Fits.{Fits}
-use Rattle.rules.proofs.ListLaws.{every_map}
+use Rattle.rules.proofs.ListLaws.{impossible, every_map}
 use Rattle.rules.proofs.Counts.{object_self, every_time, among_times, place_there, count_append}
 use Rattle.rules.proofs.Walks.{walked_values, walked_fields, walked_range, met_walked}
 use Rattle.rules.proofs.Moves.{met_here, Step, by_copy, with_copies}
@@ -34,17 +34,22 @@ use Rattle.table.specs.StateTable.{Counted, Held, Sees, Any, Becomes, HasRoom, g
 use Rattle.walk.specs.Walking.{tally, Numbered, Walks, Of}
 use Rattle.walk.proofs.Numbers.{number_at}
 use Rattle.walk.proofs.FromNothing.{walk_from_nothing}
-use Rattle.checks.specs.declared.form_checks.Step as C
-use Rattle.checks.specs.declared.form_checks.Step.TheVariants.{Next, NoValue, WrongThing, Forbidden, UsedUp}
-use Rattle.checks.specs.Checked.{result_of, outcome_of, stop_number, Made, here_at, Stand}
+use Rattle.std.specs.Prelude.{Result, Ok, Err}
+use Rattle.std.specs.Result.{IsErrAnd}
+use Rattle.rules.specs.declared.faults.Fault.TheVariants as F
+use Rattle.checks.specs.declared.form_checks.Halt.{Halt}
+use Rattle.checks.specs.declared.form_checks.Halt.TheVariants.{Stops}
+use Rattle.checks.specs.Checked.{halted, outcome_of, passed, Made, here_at, Stand}
 use Rattle.checks.proofs.CheckLaws.{number_of, as_outcome, then_ok, same_after}
 use Rattle.checks.proofs.Standing.{SlotSeen, made_fielded, slot_read, slot_object}
 use Rattle.turn.specs.Performed.{Went, to_next, Always, Performs}
 use Rattle.turn.specs.Copied.{AllMade, renamed_by, all_copied, fields_copied, CanCopyAll, CopiesAll, copy_from, CopiesFrom}
 use Rattle.turn.proofs.Settled.{Written, only_gained, raised_append}
-use Rattle.turn.proofs.TurnSteps.{Answers, line_halts, line_moves, let_names, let_room, line_few}
+use Rattle.turn.proofs.TurnSteps.{Answers, line_halts, line_hands_on, line_moves, let_names, let_room, line_few}
 use Rattle.turn.proofs.Frames.{Inside, inside, inside_objects, has_room, stands_put, given_inside}
 use Rattle.turn.proofs.CopiesMade.{foreign_in}
+use Rattle.turn.specs.declared.Move.{Move}
+use Rattle.turn.specs.declared.Move.TheVariants.{Next}
 
 -- ---- Copies by the places of what is met
 
@@ -127,60 +132,36 @@ module _ {s order₀ places order : List ℕ} {n total : ℕ}
 
   module _ (t cap : ℕ) {far : Bool} {first : ℕ}
       (foreign : Sees s (AllMade (take total order)) (λ S. any (foreign_in t S) (take total order)) far) (counted : Sees s Any (λ S. length S.objects) first) where
-    pub from_foreign : far ≡ true → CopiesFrom t cap n s (No.permission Foreign) s
+    pub from_foreign : far ≡ true → CopiesFrom t cap n s (stop (No.permission Foreign)) s
     unfolding permit check ◌>>◌ ◌>>=◌
     from_foreign some =
         record {
-          stops = λ other. refl;
-          answers = λ P m S rest held fits there. let same = checks_same held fits there t foreign counted in ap stop_number (rw some at same);
-          copies = λ P m S f fs rest held fits there none. absurd (omega arith);
+          stops = λ fails. refl;
+          answers = λ P m S rest held fits there. let same = checks_same held fits there t foreign counted in rw some at same;
+          copies = λ P m S f fs rest held fits there passes. impossible cc;
         }
 
     module _ (near : far ≡ false) where
-      pub from_used_up : 256 < first + total → CopiesFrom t cap n s No.used_up s
+      pub from_used_up : 256 < first + total → CopiesFrom t cap n s (stop No.used_up) s
       unfolding permit check ◌>>◌ ◌>>=◌
       from_used_up full =
           record {
-            stops = λ other. refl;
-            answers = λ P m S rest held fits there. let same = checks_same held fits there t foreign counted in ap stop_number (rw (near, lt-leb (first + total) 256 full) at same);
-            copies = λ P m S f fs rest held fits there none. absurd (omega arith);
+            stops = λ fails. refl;
+            answers = λ P m S rest held fits there. let same = checks_same held fits there t foreign counted in rw (near, lt-leb (first + total) 256 full) at same;
+            copies = λ P m S f fs rest held fits there passes. impossible cc;
           }
 
-      pub from_copied : {s₁ : List ℕ} → first + total ≤ 256 → CopiesAll t cap places first (take total order) s s₁ → CopiesFrom t cap n s 0 s₁
+      pub from_copied : {s₁ : List ℕ} → first + total ≤ 256 → CopiesAll t cap places first (take total order) s s₁ → CopiesFrom t cap n s (ok tt) s₁
       unfolding permit check ◌>>◌ ◌>>=◌
       from_copied {s₁} room all =
           record {
-            stops = λ other. absurd (other refl);
-            answers = λ P m S rest held fits there. let same = checks_same held fits there t foreign counted in ap stop_number (rw (near, le-leb (first + total) 256 room) at same);
-            copies = λ P m S f fs rest held fits there none k ranked.
+            stops = λ fails. impossible cc;
+            answers = λ P m S rest held fits there. let same = checks_same held fits there t foreign counted in rw (near, le-leb (first + total) 256 room) at same;
+            copies = λ P m S f fs rest held fits there passes k ranked.
                 let is-count : first ≡ length S.objects = counted.sees S rest held tt in
                 let made = all.copies k S rest ranked held (can_copy_all held fits there is-count) in
                 rw (copies_same held fits there is-count room k t f fs, gained_same held fits there is-count room) at made;
           }
-
--- ---- The number of a stop tells the check
-
-module _ (far fits : Bool) where
-  abbrev checked : Res (Unit {0})
-  checked = permit far false false >> check fits No.used_up
-
-passes_by_number : (far fits : Bool) → 0 ≡ stop_number (checked far fits) → checked far fits ≡ ok tt
-unfolding permit check ◌>>◌ ◌>>=◌
-passes_by_number true fits e = absurd (omega arith)
-passes_by_number false true e = refl
-passes_by_number false false e = absurd (omega arith)
-
-used_up_by_number : (far fits : Bool) → No.used_up ≡ stop_number (checked far fits) → checked far fits ≡ stop No.used_up
-unfolding permit check ◌>>◌ ◌>>=◌
-used_up_by_number true fits e = absurd (omega arith)
-used_up_by_number false true e = absurd (omega arith)
-used_up_by_number false false e = refl
-
-foreign_by_number : (far fits : Bool) (n : ℕ) → n ≡ stop_number (checked far fits) → (n ≡ No.used_up → ⊥) → (n ≡ 0 → ⊥) → checked far fits ≡ stop (No.permission Foreign)
-unfolding permit check ◌>>◌ ◌>>=◌
-foreign_by_number true fits n e other some = refl
-foreign_by_number false true n e other some = absurd (some e)
-foreign_by_number false false n e other some = absurd (other e)
 
 -- ---- The line, by what its slot holds
 
@@ -192,16 +173,16 @@ held_last {s₁} {rest} {S} {S₁} {vs} {v} held =
     record { counts = last.counts; held = last.held; tally = λ small n. let sum = last.tally small n in omega (arith, sum, count_append n vs (v ∷ [])) }
 
 module _ {s : List ℕ} {h : Here} (k : Cap) (i : ℕ) {x : Value} (target : SlotSeen s h (i % 16) x) where
-  pub copy_no_source : x ≡ Absent → Performs Always s h (bind (copy k i)) NoValue s
+  pub copy_no_source : x ≡ Absent → Performs Always s h (bind (copy k i)) (Err (Stops F.Absent)) s
   unfolding perform let_line copy_line as_object ◌>>=◌
-  copy_no_source is = line_halts (record { answers = λ P n S f fs rest q st at_line. rw (slot_read st i _ refl target (let_names st at_line).0 ∙ is) refl }) refl
+  copy_no_source is = line_halts (record { answers = λ P n S f fs rest q st at_line. rw (slot_read st i _ refl target (let_names st at_line).0 ∙ is) refl })
 
-  pub copy_of_channel : {c : ℕ} → x ≡ Chan c → Performs Always s h (bind (copy k i)) WrongThing s
+  pub copy_of_channel : {c : ℕ} → x ≡ Chan c → Performs Always s h (bind (copy k i)) (Err (Stops F.WrongThing)) s
   unfolding perform let_line copy_line as_object ◌>>=◌
-  copy_of_channel is = line_halts (record { answers = λ P n S f fs rest q st at_line. rw (slot_read st i _ refl target (let_names st at_line).0 ∙ is) refl }) refl
+  copy_of_channel is = line_halts (record { answers = λ P n S f fs rest q st at_line. rw (slot_read st i _ refl target (let_names st at_line).0 ∙ is) refl })
 
   -- object n, whose copies answer r
-  module _ {n cap r : ℕ} {s₁ : List ℕ} (is : x ≡ Obj n) (does : CopiesFrom h.thread cap n s r s₁) where
+  module _ {n cap : ℕ} {r : Res (Unit {0})} {s₁ : List ℕ} (is : x ≡ Obj n) (does : CopiesFrom h.thread cap n s r s₁) where
     module _ {P : Program} {m : ℕ} {S : State} {f : Frame} {fs : List Frame} {rest : List ℕ} (st : Stand s h P m S f fs rest)
         (at_line : line_at P f.block f.line ≡ bind (copy k i)) where
       source_read : slot_at f.slots i ≡ Obj n
@@ -214,29 +195,17 @@ module _ {s : List ℕ} {h : Here} (k : Cap) (i : ℕ) {x : Value} (target : Slo
       unfolding copy_line copy_from as_object object ◌>>=◌ ◌>>◌
       line_checks = rw source_read (as_outcome _ ∙ same_after (permit _ false false) _ _ λ _. then_ok (check _ No.used_up) _)
 
-      number_tells : r ≡ stop_number (copy_from h.thread n S)
-      number_tells = does.answers P m S rest st.held st.fits source_made
-
-    -- a step that is what the number tells
-    line_answers : {step : C.Step} → ((t : ℕ) (S : State) → r ≡ stop_number (copy_from t n S) → result_of step ≡ copy_from t n S) → Answers Always s h (bind (copy k i)) step
+    line_answers : Answers Always s h (bind (copy k i)) r
     unfolding perform let_line
-    line_answers told = record { answers = λ P m S f fs rest q st at_line. told h.thread S (number_tells st at_line) ∙ line_checks st at_line }
+    line_answers = record { answers = λ P m S f fs rest q st at_line. does.answers P m S rest st.held st.fits (source_made st at_line) ∙ line_checks st at_line }
 
-    pub copy_used_up : r ≡ No.used_up → Performs Always s h (bind (copy k i)) UsedUp s₁
-    unfolding copy_from
-    copy_used_up full =
-        subst (λ (l : List ℕ). Performs Always s h (bind (copy k i)) UsedUp l) (sym (does.stops (λ none. omega arith)))
-        (line_halts (line_answers (λ t S e. sym (used_up_by_number _ _ (sym full ∙ e)))) refl)
+  pub copy_hands_on : {n cap : ℕ} {s₁ : List ℕ} {r : Result Move Halt} (e : Halt) → x ≡ Obj n → IsErrAnd r (λ i. i ≡ e) → CopiesFrom h.thread cap n s (halted e) s₁
+      → passed (halted e) ≡ false → Performs Always s h (bind (copy k i)) r s₁
+  copy_hands_on e is handed does fails = rw (does.stops fails) (line_hands_on e handed (line_answers is does))
 
-    module _ (room : r ≡ No.used_up → ⊥) where
-      pub copy_foreign : (r ≡ 0 → ⊥) → Performs Always s h (bind (copy k i)) (Forbidden Foreign) s₁
-      unfolding copy_from
-      copy_foreign some =
-          subst (λ (l : List ℕ). Performs Always s h (bind (copy k i)) (Forbidden Foreign) l) (sym (does.stops some))
-          (line_halts (line_answers (λ t S e. sym (foreign_by_number _ _ r e room some))) refl)
-
+  module _ {n cap : ℕ} {s₁ : List ℕ} (is : x ≡ Obj n) (does : CopiesFrom h.thread cap n s (ok tt) s₁) where
     -- the copies are made, and the first is given and held
-    module _ {s₂ s₃ : List ℕ} {count number : ℕ} (ranked : cap ≡ rank k) (none : r ≡ 0) (counted : Sees s Any (λ S. length S.objects) count) (is-next : number ≡ count % 256)
+    module _ {s₂ s₃ : List ℕ} {count number : ℕ} (ranked : cap ≡ rank k) (counted : Sees s Any (λ S. length S.objects) count) (is-next : number ≡ count % 256)
         (gives-copy : Becomes s₁ (HasRoom h.thread h.depth) (given h.thread h.depth (Obj number)) s₂) (holds : Counts (raised (Obj number)) s₂ s₃) where
       copy_moved : {P : Program} {m : ℕ} {S : State} {f : Frame} {fs : List Frame} {S₁ : State} {rest : List ℕ} (st : Stand s h P m S f fs rest)
           → line_at P f.block f.line ≡ bind (copy k i) → Step mosts P (here_at S h.thread f fs) (bind (copy k i)) S₁
@@ -244,21 +213,21 @@ module _ {s : List ℕ} {h : Here} (k : Cap) (i : ℕ) {x : Value} (target : Slo
       unfolding gives filled
       copy_moved {P} {m} {S} {f} {fs} {S₁} {rest} st at_line (by_copy c j o graph) =
           let H = here_at S h.thread f fs in
-          let same : o ≡ n = ap number_of (sym graph.target ∙ source_read st at_line) in
+          let same : o ≡ n = ap number_of (sym graph.target ∙ source_read is does st at_line) in
           let is-met = place_there o (met_here H o) (walked_values S.objects (met_walked S.objects (Obj o ∷ [])) o (self_counts o)) in
           let below : length S.objects < 256 = omega (arith, graph.room, is-met) in
           let is_number : number ≡ length S.objects = is-next ∙ ap (λ a. a % 256) (counted.sees S rest st.held tt) ∙ mod-eq_of_lt below in
           let R = put_objects S (with_copies H k n) in
           let here : Inside h.thread h.depth f fs R = inside_objects _ (inside st) in
-          let made = does.copies P m S f fs rest st.held st.fits (source_made st at_line) none k ranked in
+          let made = does.copies P m S f fs rest st.held st.fits (source_made is does st at_line) refl k ranked in
           let held-copy = holds.counts _ rest (gives-copy.becomes R rest made (has_room here (let_room st at_line) (line_few st))) in
-          rw (same, source_read st at_line) (
+          rw (same, source_read is does st at_line) (
             held_last (rw (is_number, given_inside here (Obj (length S.objects))) at held-copy),
             to_next (stands_put R _ fs ready here.thread),
           )
 
-      pub copy_moves : Performs Always s h (bind (copy k i)) Next s₃
+      pub copy_moves : Performs Always s h (bind (copy k i)) (Ok Next) s₃
       unfolding copy_from line_gained let_gained line_lost
       copy_moves =
-          line_moves {k = Next} (line_answers (λ t S e. sym (passes_by_number _ _ (sym none ∙ e)))) refl
+          line_moves (line_answers is does)
           (record { writes = λ P m S f fs rest q st few at_line S₁ step. copy_moved st at_line step })

@@ -23,9 +23,11 @@ use Rattle.table.specs.declared.state.Here.{Here}
 use Rattle.table.specs.StateTable.{OnLine}
 use Rattle.checks.specs.Checked.{Stand}
 use Rattle.checks.proofs.Standing.{slot_place}
-use Rattle.checks.specs.declared.form_checks.Step.{Step}
 use Rattle.turn.specs.Performed.{Always, Loaded, Performs, PerformsNew, PerformsHere}
 use Rattle.turn.proofs.TurnSteps.{four_by_place, let_names}
+use Rattle.std.specs.Prelude.{Result}
+use Rattle.checks.specs.declared.form_checks.Halt.{Halt}
+use Rattle.turn.specs.declared.Move.{Move}
 
 -- ---- The parts read back
 
@@ -183,7 +185,7 @@ not_outside : (k : ℕ) → k < 11 → OneOf outside (place (form_of (4 + k))) �
 unfolding all_below
 not_outside k few one = miss outside (place (form_of (4 + k))) (subst T (sym (below_true (λ i. not (has_key outside (place (form_of (4 + i))))) 11 k refl few)) tt) one
 
-module _ {p s s₁ : List ℕ} {h : Here} {r : Step} where
+module _ {p s s₁ : List ℕ} {h : Here} {r : Result Move Halt} where
   -- Q is asked of a program that is loaded
   pub performs_loaded : {Q : Program → State → Type 0} {x : Line} → ((P : Program) (S : State) → Loaded p P → Q P S) → Tells p s h x → Performs Q s h x r s₁
       → PerformsHere p s h r s₁

@@ -18,11 +18,13 @@ use Rattle.table.specs.declared.state.Here.{Here}
 use Rattle.table.specs.StateTable.{Held, Sees, Any, OnLine, Stands}
 use Rattle.table.proofs.ProgramTable.{program_words_by_lines}
 use Rattle.table.proofs.ProgramLines.{blocks_of_lines}
-use Rattle.checks.specs.Checked.{result_of, here_at, Stand}
+use Rattle.checks.specs.Checked.{here_at, Stand}
 use Rattle.checks.proofs.Standing.{frame_is}
-use Rattle.checks.specs.declared.form_checks.Step.{Step}
-use Rattle.checks.specs.declared.form_checks.Step.TheVariants.{Waits}
-use Rattle.turn.specs.Performed.{Loaded, Performed, PerformsHere, Went, to_next, to_same, to_other, Taken, moved, waited, stopped, TakesTurn}
+use Rattle.turn.specs.Performed.{Loaded, Performed, PerformsHere, Taken, moved, waited, stopped, TakesTurn}
+use Rattle.std.specs.Prelude.{Result, Err}
+use Rattle.checks.specs.declared.form_checks.Halt.{Halt}
+use Rattle.checks.specs.declared.form_checks.Halt.TheVariants.{Waits}
+use Rattle.turn.specs.declared.Move.{Move}
 
 -- ---- The program's table
 
@@ -112,20 +114,15 @@ locates {p} {s} {t} {d} {h} seen some same stands =
 
 -- ---- The turn
 
-pub went_moves : {t : ℕ} {f : Frame} {fs : List Frame} {S : State} {r : Step} → Went t f fs S r → result_of r ≡ ok tt
-went_moves (to_next stands) = refl
-went_moves (to_same stands) = refl
-went_moves to_other = refl
-
-taken : {t : ℕ} {f : Frame} {fs : List Frame} {s rest s₁ : List ℕ} {r : Step} {x : Res State} → Performed t f fs s rest r s₁ x → Taken s rest r s₁ x
-taken (moved held went) = moved (went_moves went) held
+taken : {t : ℕ} {f : Frame} {fs : List Frame} {s rest s₁ : List ℕ} {r : Result Move Halt} {x : Res State} → Performed t f fs s rest r s₁ x → Taken s rest r s₁ x
+taken (moved held went) = moved held
 taken waited = waited
 taken (stopped is) = stopped is
 
-pub idle_takes : {p s : List ℕ} {t : ℕ} → Idles s t → TakesTurn p s t Waits s
+pub idle_takes : {p s : List ℕ} {t : ℕ} → Idles s t → TakesTurn p s t (Err Waits) s
 idle_takes idle = record { takes = λ P n S rest loaded held valid fits few. rw (idle.idles P n S rest held fits) waited }
 
-pub found_takes : {p s s₁ : List ℕ} {t : ℕ} {h : Here} {r : Step} → Finds p s t h → PerformsHere p s h r s₁ → TakesTurn p s t r s₁
+pub found_takes : {p s s₁ : List ℕ} {t : ℕ} {h : Here} {r : Result Move Halt} → Finds p s t h → PerformsHere p s h r s₁ → TakesTurn p s t r s₁
 found_takes place does =
     record {
       takes = λ P n S rest loaded held valid fits few.

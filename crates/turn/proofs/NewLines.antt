@@ -3,7 +3,7 @@ use Prim.Native.Nat.{ℕ, zero, suc, ◌-◌, ◌%◌, ◌≤◌, ◌<◌}
 use native.Mathlib.Nat.{mod-eq_of_lt}
 use native.Mathlib.Omega.{arith}
 use mathlib.Core.Path.{◌≡◌, refl, ap, ◌∙◌, subst}
-use mathlib.Core.Bool.{true, false}
+use mathlib.Core.Bool.{false}
 use mathlib.Core.List.{List, [], ◌∷◌, ◌++◌, map}
 use lib.ListN.{length, take, replicate}
 use Rattle.rules.specs.declared.Cap.{Cap}
@@ -16,7 +16,7 @@ use Rattle.rules.specs.Script.{Operand, Program, new, bind, line_at, rank, block
 use Rattle.rules.specs.Reading.{slot_of}
 use Rattle.rules.specs.State.{Object, Frame, State, ready, slot_at}
 use Rattle.rules.specs.Tables.{operand_item}
-use Rattle.rules.specs.Turn.{is_absent, left_by, put_thread, filled, gives, let_line, perform}
+use Rattle.rules.specs.Turn.{Res, ok, is_absent, left_by, put_thread, filled, gives, let_line, perform}
 use Rattle.rules.specs.Holders.{holders}
 use Rattle.rules.specs.HolderChanges.{operand_gained, operands_gained, let_gained, line_gained, line_lost}
 use Rattle.rules.proofs.ListLaws.{every_map, every_image, length_snoc}
@@ -25,16 +25,19 @@ use Rattle.rules.proofs.Keeps.{kind_ok}
 use Rattle.rules.proofs.TableWords.{operand_of_word, half_of_word}
 use Rattle.table.specs.declared.state.Here.{Here}
 use Rattle.table.specs.StateTable.{Counted, Sees, Any, Becomes, HasSlot, HasRoom, Makes, given, made, raised, all_raised, Counts}
-use Rattle.checks.specs.declared.form_checks.Step as C
-use Rattle.checks.specs.Checked.{is_pass, here_at, Stand, Named}
+use Rattle.std.specs.Prelude.{Result, Ok}
+use Rattle.std.specs.Result.{IsErrAnd}
+use Rattle.checks.specs.declared.form_checks.Halt.{Halt}
+use Rattle.checks.specs.Checked.{halted, here_at, Stand, Named}
 use Rattle.checks.specs.NewItems.{ChecksNew}
 use Rattle.checks.proofs.NewChecks.{slots_of, were_there, ItemSeen, values_read}
-use Rattle.checks.specs.declared.form_checks.Step.TheVariants.{Next}
 use Rattle.turn.specs.Performed.{item_emptied, Leaves, LeavesItem, Went, to_next, Always, PerformsNew}
 use Rattle.turn.proofs.SlotLines.{kept_gained}
 use Rattle.turn.proofs.Settled.{Written, only_gained, raised_append}
-use Rattle.turn.proofs.TurnSteps.{Answers, Writes, line_halts, line_moves, operand_names, let_names, let_room, line_few}
+use Rattle.turn.proofs.TurnSteps.{Answers, Writes, line_hands_on, line_moves, operand_names, let_names, let_room, line_few}
 use Rattle.turn.proofs.Frames.{Inside, inside, inside_objects, has_room, has_slot, stands_put, inside_put, given_inside, filled_then_emptied}
+use Rattle.turn.specs.declared.Move.{Move}
+use Rattle.turn.specs.declared.Move.TheVariants.{Next}
 
 -- ---- What an item leaves
 
@@ -126,8 +129,8 @@ items_read seen-a seen_b seen-c seen-d = record { read = λ ws is P n S f fs res
 
 -- ---- The line whose operands are these items, whose check is k
 
-module _ {s : List ℕ} {h : Here} {c : Cap} {items : List ℕ} {k : C.Step} (kind : ℕ) (checked : ChecksNew s h c items k) where
-  new_answers : (ws : List Operand) → items ≡ pad 4 0 (map operand_item ws) → Answers Always s h (bind (new c kind ws)) k
+module _ {s : List ℕ} {h : Here} {c : Cap} {items : List ℕ} {k : Res (Unit {0})} (kind : ℕ) (checked : ChecksNew s h c items k) where
+  pub new_answers : (ws : List Operand) → items ≡ pad 4 0 (map operand_item ws) → Answers Always s h (bind (new c kind ws)) k
   unfolding perform let_line
   new_answers ws is =
       record {
@@ -136,8 +139,9 @@ module _ {s : List ℕ} {h : Here} {c : Cap} {items : List ℕ} {k : C.Step} (ki
             (checked.checks ws is (operands_few st ws at_line) kind).checks P n S f fs rest st named;
       }
 
-  pub new_halts : is_pass k ≡ false → PerformsNew s h c kind items k s
-  new_halts fails = record { performs = λ ws is. line_halts (new_answers ws is) fails }
+pub new_hands_on : {s : List ℕ} {h : Here} {c : Cap} {items : List ℕ} {r : Result Move Halt} (kind : ℕ) (e : Halt) → IsErrAnd r (λ i. i ≡ e) → ChecksNew s h c items (halted e)
+    → PerformsNew s h c kind items r s
+new_hands_on kind e is checked = record { performs = λ ws items-are. line_hands_on e is (new_answers kind checked ws items-are) }
 
 -- object n is made of the values of the items, it is given and held, then the slots of the items are left
 module _ {s s₁ s₂ s₃ s₄ : List ℕ} {h : Here} {c : Cap} {kind count n cap : ℕ} {items : List ℕ} {values : List Value}
@@ -190,5 +194,5 @@ module _ {s s₁ s₂ s₃ s₄ : List ℕ} {h : Here} {c : Cap} {kind count n c
   unfolding line_gained let_gained line_lost
   new_writes ws is = record { writes = λ P n S f fs rest q st few at_line S₁ step. new_moved st ws is at_line step }
 
-  pub new_moves : {k : C.Step} → ChecksNew s h c items k → is_pass k ≡ true → PerformsNew s h c kind items Next s₄
-  new_moves checked passes = record { performs = λ ws is. line_moves (new_answers kind checked ws is) passes (new_writes ws is) }
+  pub new_moves : ChecksNew s h c items (ok tt) → PerformsNew s h c kind items (Ok Next) s₄
+  new_moves checked = record { performs = λ ws is. line_moves (new_answers kind checked ws is) (new_writes ws is) }

@@ -3,41 +3,37 @@
 use Prim.Native.Nat.{ℕ, ◌/◌, ◌%◌, ◌<◌}
 use native.Mathlib.Nat.{mod-eq_of_lt}
 use native.Mathlib.Omega.{arith}
-use mathlib.Core.Path.{◌≡◌, refl, sym, ap, ◌∙◌, subst}
-use mathlib.Core.Bool.{true, false}
+use mathlib.Core.Path.{◌≡◌, refl, sym, ap, ◌∙◌}
 use mathlib.Core.List.{List, [], ◌∷◌, ◌++◌}
 use lib.ListN.{length}
 use Rattle.rules.specs.declared.Value.{Value}
-use Rattle.rules.specs.declared.Value.TheVariants.{Absent, Obj, Chan}
+use Rattle.rules.specs.declared.Value.TheVariants.{Obj}
 use Rattle.rules.specs.Mosts as Most
 use Rattle.rules.specs.Mosts.{mosts}
-use Rattle.rules.specs.Lists.{Every}
-use Rattle.rules.specs.Fits.{IsObject}
 use Rattle.rules.specs.Script.{Program, field, swap, bind, line_at}
 use Rattle.rules.specs.State.{Frame, State, ready, object_at, thread_at, slot_at}
 use Rattle.rules.specs.Holders.{holders}
 use Rattle.rules.specs.HolderChanges.{operand_gained, field_of, let_gained, line_gained, line_lost}
 use Rattle.rules.specs.Tables.{operand_of}
-use Rattle.rules.specs.Turn.{is_absent, left_by, object, put_thread, put_objects, filled, gives, field_line, swap_line, let_line, perform}
-use Rattle.rules.proofs.ListLaws.{impossible, every_map, every_get, every_at, length_snoc}
+use Rattle.rules.specs.Turn.{Res, is_absent, left_by, object, put_thread, put_objects, filled, gives, field_line, swap_line, let_line, perform}
+use Rattle.rules.proofs.ListLaws.{length_snoc}
 use Rattle.rules.proofs.Moves.{Step, by_field, by_swap}
 use Rattle.rules.proofs.TableWords.{slot_of_word}
 use Rattle.table.specs.declared.state.Here.{Here}
 use Rattle.table.specs.StateTable.{Counted, Sees, Becomes, HasRoom, HasField, FieldIn, edit_frame, given, stored, raised, all_raised, Counts}
-use Rattle.checks.specs.declared.form_checks.Step as C
 use Rattle.checks.specs.Checked.{here_at, Stand, Checks}
 use Rattle.checks.proofs.CheckLaws.{number_of}
 use Rattle.checks.proofs.Standing.{SlotSeen, TargetSeen, field_in, slot_read, slot_object, target_read, target_object, fielded}
-use Rattle.checks.specs.declared.form_checks.Step.TheVariants.{Next}
-use Rattle.turn.specs.Performed.{Leaves, Went, to_next, Performs, Always}
+use Rattle.turn.specs.Performed.{Leaves, Went, to_next, Always}
 use Rattle.turn.proofs.Settled.{Written, only_gained}
 use Rattle.turn.proofs.SlotLines.{operand_kept, operand_gave}
 use Rattle.turn.proofs.TurnSteps.{Answers, Writes, word_names, let_names, let_room, line_few}
 use Rattle.turn.proofs.Frames.{Inside, inside, inside_objects, has_room, has_slot, stands_put, inside_put, given_inside, given_then_emptied}
+use Rattle.turn.specs.declared.Move.TheVariants.{Next}
 
 -- ---- The checks
 
-module _ {s : List ℕ} {h : Here} {k : C.Step} (i j : ℕ) where
+module _ {s : List ℕ} {h : Here} {k : Res (Unit {0})} (i j : ℕ) where
   pub field_answers : Checks s h (i ∷ []) (λ P H. field_line H i j) k → Answers Always s h (bind (field i j)) k
   unfolding perform let_line
   field_answers all = record { answers = λ P n S f fs rest q st at_line. all.checks P n S f fs rest st ((let_names st at_line).0, tt) }
@@ -63,62 +59,10 @@ has_field_given t k o j v S has = record { object = has.object; field = has.fiel
 
 -- ---- Field j of object o, which holds u
 
-pub field_absent : {u : Value} → u ≡ Absent → is_absent u ≡ true
-unfolding is_absent
-field_absent is = rw is refl
-
-pub field_present : {u : Value} {n : ℕ} → u ≡ Obj n → is_absent u ≡ false
-unfolding is_absent
-field_present is = rw is refl
-
--- no field holds a channel, and one that is there holds an object
-no_channel : (vs : List Value) (j c : ℕ) → Every (IsObject 256) vs → slot_at vs j ≡ Chan c → ⊥
-unfolding slot_at
-no_channel vs j c all = every_get (λ v. v ≡ Chan c → ⊥) vs j Absent (λ e. impossible cc) (every_map (λ v is e. subst (IsObject 256) e is) vs all)
-
-not_absent : (vs : List Value) (j : ℕ) → Every (IsObject 256) vs → j < length vs → slot_at vs j ≡ Absent → ⊥
-unfolding slot_at
-not_absent vs j all there e = subst (IsObject 256) e (every_at (IsObject 256) vs j Absent there all)
-
-module _ {s : List ℕ} {h : Here} {o : ℕ} {u : Value} (j : ℕ) (read : Sees s (FieldIn o j) (λ S. slot_at (object_at S.objects o).fields j) u) where
-  module _ {P : Program} {n : ℕ} {S : State} {f : Frame} {fs : List Frame} {rest : List ℕ} (st : Stand s h P n S f fs rest) (made : o < length S.objects) where
-    field_read : slot_at (object_at S.objects o).fields j ≡ u
-    field_read = sym (read.sees S rest st.held (field_in o j (fielded st o made)))
-
-    field_no_channel : {c : ℕ} → u ≡ Chan c → ⊥
-    field_no_channel {c} is = no_channel (object_at S.objects o).fields j c (fielded st o made).fields (field_read ∙ is)
-
-    field_there : j < length (object_at S.objects o).fields → u ≡ Absent → ⊥
-    field_there has is = not_absent (object_at S.objects o).fields j (fielded st o made).fields has (field_read ∙ is)
-
-  -- so neither comes about, whatever is done then: with the target x in slot i, or as the operand of word w leaves it
-  pub field_of_none : {x : Value} {c : ℕ} {r : C.Step} {s₁ : List ℕ} (i : ℕ) → SlotSeen s h (i % 16) x → x ≡ Obj o → u ≡ Chan c → Performs Always s h (bind (field i j)) r s₁
-  field_of_none i target is none = record {
-    performs = λ P n S f fs rest q st few at_line.
-        absurd (field_no_channel st (slot_object st i o (slot_read st i _ refl target (let_names st at_line).0 ∙ is)) none);
-  }
-
-  module _ {x : Value} (i w : ℕ) (target : TargetSeen s h i w x) (is : x ≡ Obj o) where
-    pub swap_of_other : {r : C.Step} {s₁ : List ℕ} {c : ℕ} → u ≡ Chan c → Writes Always s h (bind (swap i j (operand_of w))) r s₁
-    swap_of_other none = record {
-      writes = λ P n S f fs rest q st few at_line S₁ step.
-          absurd (field_no_channel st (target_object st i w o (target_read st i w target (let_names st at_line).0 ∙ is)) none);
-    }
-
-    swapped_field : {P : Program} {n : ℕ} {S : State} {f : Frame} {fs : List Frame} {rest : List ℕ} {S₁ : State} → Stand s h P n S f fs rest
-        → line_at P f.block f.line ≡ bind (swap i j (operand_of w)) → Step mosts P (here_at S h.thread f fs) (bind (swap i j (operand_of w))) S₁
-        → j < length (object_at S.objects o).fields
-    unfolding object
-    swapped_field {f = f} st at_line (by_swap b c d m e vs swapped) =
-        let target_left : slot_at (left_by f.slots (operand_of w)) i ≡ Obj m = rw swapped.gave.slots at swapped.target in
-        let same : m ≡ o = ap number_of (sym target_left ∙ target_read st i w target (let_names st at_line).0 ∙ is) in
-        rw same at swapped.has_field
-
-    pub swap_of_none : {r : C.Step} {s₁ : List ℕ} → u ≡ Absent → Writes Always s h (bind (swap i j (operand_of w))) r s₁
-    swap_of_none none = record {
-      writes = λ P n S f fs rest q st few at_line S₁ step.
-          absurd (field_there st (target_object st i w o (target_read st i w target (let_names st at_line).0 ∙ is)) (swapped_field st at_line step) none);
-    }
+field_read : {s : List ℕ} {h : Here} {o : ℕ} {u : Value} (j : ℕ) → Sees s (FieldIn o j) (λ S. slot_at (object_at S.objects o).fields j) u
+    → {P : Program} {n : ℕ} {S : State} {f : Frame} {fs : List Frame} {rest : List ℕ} → Stand s h P n S f fs rest → o < length S.objects
+    → slot_at (object_at S.objects o).fields j ≡ u
+field_read {o = o} j read {S = S} {rest = rest} st made = sym (read.sees S rest st.held (field_in o j (fielded st o made)))
 
 -- ---- It is given
 

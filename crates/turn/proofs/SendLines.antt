@@ -12,7 +12,7 @@ use Rattle.rules.specs.HolderChanges.{operand_gained, put_gained, let_gained, li
 use Rattle.rules.specs.Script.{Operand, Line, Program, send, bind, line_at}
 use Rattle.rules.specs.State.{Frame, Sender, ready, waiting, Thread, State, thread_at, channel_at}
 use Rattle.rules.specs.Tables.{operand_of, sender_word}
-use Rattle.rules.specs.Turn.{is_absent, left_by, put_thread, put_channel, filled, with_slots, gives, put_line, sent_line, send_line, let_line, perform}
+use Rattle.rules.specs.Turn.{Res, is_absent, left_by, put_thread, put_channel, filled, with_slots, gives, put_line, sent_line, send_line, let_line, perform}
 use Rattle.rules.proofs.ListLaws.{impossible}
 use Rattle.rules.proofs.Moves.{left_was_there, Step, by_put, by_sent}
 use Rattle.rules.proofs.TableWords.{sender_tells}
@@ -22,13 +22,15 @@ use Rattle.table.proofs.StateEdits.{thread_put, put_put}
 use Rattle.checks.specs.Checked.{outcome_of, here_at, Stand, Checks}
 use Rattle.checks.proofs.CheckLaws.{number_of}
 use Rattle.checks.proofs.Standing.{SlotSeen, TargetSeen, slot_channel, messages_few, slot_read, target_read}
-use Rattle.checks.specs.declared.form_checks.Step as C
-use Rattle.checks.specs.declared.form_checks.Step.TheVariants.{Next, Stay}
 use Rattle.turn.specs.Performed.{emptied, Leaves, Went, to_next, to_same, Performs, Always}
 use Rattle.turn.proofs.Settled.{Written, only_gained, nothing_gained}
 use Rattle.turn.proofs.SlotLines.{operand_kept, operand_gave}
 use Rattle.turn.proofs.TurnSteps.{Answers, Writes, always_performs, word_names, let_names, let_room, line_few}
 use Rattle.turn.proofs.Frames.{Inside, inside, has_room, has_slot, stands_put, inside_put, given_inside, emptied_inside}
+use Rattle.std.specs.Prelude.{Result}
+use Rattle.checks.specs.declared.form_checks.Halt.{Halt}
+use Rattle.turn.specs.declared.Move.{Move}
+use Rattle.turn.specs.declared.Move.TheVariants.{Next, Stay}
 
 -- ---- send by a thread that is ready
 
@@ -60,7 +62,7 @@ abbrev Ready : ℕ → Program → State → Type 0
 Ready t P S = (thread_at S t).sender ≡ ready
 
 module _ {s : List ℕ} {h : Here} (i w : ℕ) where
-  pub put_answers : {k : C.Step} → Checks s h (i ∷ w / 2 ∷ []) (λ P H. put_line H i (operand_of w)) k → Answers (Ready h.thread) s h (bind (send i (operand_of w))) k
+  pub put_answers : {k : Res (Unit {0})} → Checks s h (i ∷ w / 2 ∷ []) (λ P H. put_line H i (operand_of w)) k → Answers (Ready h.thread) s h (bind (send i (operand_of w))) k
   unfolding perform let_line send_line
   put_answers all =
       record {
@@ -113,7 +115,7 @@ abbrev Waiting : ℕ → ℕ → Program → State → Type 0
 Waiting t d P S = sender_word (thread_at S t).sender ≡ d
 
 module _ {s : List ℕ} {h : Here} (i : ℕ) {d : ℕ} (some : 1 ≤ d) (w : Operand) where
-  pub sent_answers : {k : C.Step} → Checks s h (i ∷ []) (λ P H. sent_line H i (d - 1)) k → Answers (Waiting h.thread d) s h (bind (send i w)) k
+  pub sent_answers : {k : Res (Unit {0})} → Checks s h (i ∷ []) (λ P H. sent_line H i (d - 1)) k → Answers (Waiting h.thread d) s h (bind (send i w)) k
   unfolding perform let_line send_line
   sent_answers all =
       record {
@@ -153,7 +155,7 @@ module _ {s : List ℕ} (t : ℕ) {d : ℕ} (sender : Sees s Any (λ S. sender_w
   pub seen_waiting : (P : Program) (S : State) (rest : List ℕ) → Held s S rest → Waiting t d P S
   seen_waiting P S rest held = sym (sender.sees S rest held tt)
 
-module _ {s s₁ : List ℕ} {h : Here} {x : Line} {d : ℕ} {r : C.Step} (sender : Sees s Any (λ S. sender_word (thread_at S h.thread).sender) d) where
+module _ {s s₁ : List ℕ} {h : Here} {x : Line} {d : ℕ} {r : Result Move Halt} (sender : Sees s Any (λ S. sender_word (thread_at S h.thread).sender) d) where
   pub send_ready : d ≡ 0 → Performs (Ready h.thread) s h x r s₁ → Performs Always s h x r s₁
   send_ready none = always_performs (seen_ready h.thread sender none)
 

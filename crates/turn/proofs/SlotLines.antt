@@ -16,22 +16,21 @@ use Rattle.rules.specs.Script.{Operand, reads, takes, Program, value, cast, bind
 use Rattle.rules.specs.Reading.{slot_of}
 use Rattle.rules.specs.State.{Object, Frame, Thread, State, ready, no_thread, thread_at, slot_at}
 use Rattle.rules.specs.Tables.{operand_of}
-use Rattle.rules.specs.Turn.{left_by, put_thread, filled, with_slots, gives, value_line, cast_line, let_line, perform}
+use Rattle.rules.specs.Turn.{Res, left_by, put_thread, filled, with_slots, gives, value_line, cast_line, let_line, perform}
 use Rattle.rules.proofs.ListLaws.{by_bool, length_snoc}
 use Rattle.rules.specs.HolderChanges.{operand_gained, let_gained, line_gained, line_lost}
 use Rattle.rules.proofs.Moves.{Gave, Step, by_value, by_cast}
 use Rattle.rules.proofs.TableWords.{slot_of_word}
 use Rattle.table.specs.declared.state.Here.{Here}
 use Rattle.table.specs.StateTable.{Becomes, HasSlot, HasRoom, on_frame, edit_frame, cleared, given, raised, all_raised, Counts}
-use Rattle.checks.specs.declared.form_checks.Step as C
 use Rattle.checks.specs.Checked.{here_at, Stand, Checks}
 use Rattle.checks.proofs.CheckLaws.{then_gives}
 use Rattle.checks.proofs.Standing.{OperandChecked, SlotSeen, slot_read}
-use Rattle.checks.specs.declared.form_checks.Step.TheVariants.{Next}
 use Rattle.turn.specs.Performed.{emptied, kept_by, Leaves, Went, to_next, Always}
 use Rattle.turn.proofs.Settled.{Written, only_gained}
 use Rattle.turn.proofs.TurnSteps.{Answers, Writes, word_names, let_names, let_room, line_few}
 use Rattle.turn.proofs.Frames.{Inside, inside, has_room, has_slot, stands_put, inside_put, given_inside, given_then_emptied}
+use Rattle.turn.specs.declared.Move.TheVariants.{Next}
 
 -- ---- What an operand leaves
 
@@ -77,7 +76,7 @@ module _ {s : List ℕ} {h : Here} {P : Program} {n : ℕ} {S : State} {f : Fram
 
 -- ---- The operand of word w, whose check is k
 
-module _ {s : List ℕ} {h : Here} {k : C.Step} (w : ℕ) where
+module _ {s : List ℕ} {h : Here} {k : Res (Unit {0})} (w : ℕ) where
   pub value_answers : OperandChecked s h w k → Answers Always s h (bind (value (operand_of w))) k
   unfolding perform let_line value_line
   value_answers first = record { answers = λ P n S f fs rest q st at_line. first.checks P n S f fs rest st (word_names st w (let_names st at_line), tt) ∙ sym (then_gives _ _) }

@@ -1,8 +1,7 @@
 -- A rule's result as the step taken: where the check waits or stops the table is as it was; where it passes the rule has moved.
 use Prim.Native.Nat.{ℕ, suc, ◌/◌, ◌<◌}
 use native.Mathlib.Omega.{arith}
-use mathlib.Core.Path.{◌≡◌, refl, ap}
-use mathlib.Core.Bool.{true, false}
+use mathlib.Core.Path.{◌≡◌, refl}
 use mathlib.Core.List.{List, [], ◌∷◌}
 use lib.ListN.{length, get_or}
 use Rattle.rules.specs.Mosts as Most
@@ -25,65 +24,61 @@ use Rattle.rules.proofs.HolderLaws.{step_changes, holders_few}
 use Rattle.rules.proofs.TableWords.{slot_of_word}
 use Rattle.table.specs.declared.state.Here.{Here}
 use Rattle.table.specs.StateTable.{Held}
-use Rattle.checks.specs.declared.form_checks.Step as C
-use Rattle.checks.specs.declared.form_checks.Step.TheVariants.{Next, Stay, Turned, Waits, NoValue, NoField, NoMethod, WrongThing, Forbidden, WrongCap, UsedUp}
-use Rattle.checks.specs.Checked.{result_of, outcome_of, passed, is_pass, here_at, Stand}
-use Rattle.checks.proofs.CheckLaws.{no_both}
+use Rattle.std.specs.Prelude.{Result, Ok, Err}
+use Rattle.std.specs.Result.{IsErrAnd}
+use Rattle.std.proofs.lemmas.Result.{err_from_is_err_and}
+use Rattle.checks.specs.declared.form_checks.Halt.{Halt}
+use Rattle.checks.specs.declared.form_checks.Halt.TheVariants.{Waits, Stops}
+use Rattle.checks.specs.Checked.{halted, outcome_of, here_at, Stand}
 use Rattle.checks.proofs.Standing.{fits_here}
 use Rattle.turn.proofs.Settled.{InWords, Written, settled}
 use Rattle.turn.specs.Performed.{Went, Performed, moved, waited, stopped, Performs, Always}
+use Rattle.turn.specs.declared.Move.{Move}
 
 -- ---- A result
 
--- one step alone waits
-only_waits : (k : C.Step) → result_of k ≡ wait → k ≡ Waits
-only_waits Next e = impossible cc
-only_waits Stay e = impossible cc
-only_waits Turned e = impossible cc
-only_waits Waits e = refl
-only_waits NoValue e = impossible cc
-only_waits NoField e = impossible cc
-only_waits NoMethod e = impossible cc
-only_waits WrongThing e = impossible cc
-only_waits (Forbidden g) e = impossible cc
-only_waits WrongCap e = impossible cc
-only_waits UsedUp e = impossible cc
-
 module _ {t : ℕ} {f : Frame} {fs : List Frame} {s rest : List ℕ} where
-  performed_halt : (x : Res State) {k : C.Step} → result_of k ≡ outcome_of x → is_pass k ≡ false → Performed t f fs s rest k s x
-  performed_halt (ok S) {k} e fails = no_both (result_of k) (ap passed e) fails
-  performed_halt wait {k} e fails = rw (only_waits k e) waited
-  performed_halt (stop m) e fails = stopped e
+  performed_halt : (x : Res State) (e : Halt) → halted e ≡ outcome_of x → Performed t f fs s rest (Err e) s x
+  performed_halt (ok S) Waits is = impossible cc
+  performed_halt (ok S) (Stops f) is = impossible cc
+  performed_halt wait Waits is = waited
+  performed_halt wait (Stops f) is = impossible cc
+  performed_halt (stop m) Waits is = impossible cc
+  performed_halt (stop m) (Stops f) is = stopped cc
 
-  performed_pass : (x : Res State) (k : C.Step) {r : C.Step} {s₁ : List ℕ} → result_of k ≡ outcome_of x → is_pass k ≡ true → ((S : State) → x ≡ ok S → Performed t f fs s rest r s₁ (ok S))
+  performed_pass : (x : Res State) {r : Result Move Halt} {s₁ : List ℕ} → ok tt ≡ outcome_of x → ((S : State) → x ≡ ok S → Performed t f fs s rest r s₁ (ok S))
       → Performed t f fs s rest r s₁ x
-  performed_pass (ok S) k e passes go = go S refl
-  performed_pass wait k e passes go = no_both (result_of k) passes (ap passed e)
-  performed_pass (stop m) k e passes go = no_both (result_of k) passes (ap passed e)
+  performed_pass (ok S) is go = go S refl
+  performed_pass wait is go = impossible cc
+  performed_pass (stop m) is go = impossible cc
 
 -- ---- A line, by its check
 
 -- the check k is the answer of line x
-pub record Answers (Q : Program → State → Type 0) (s : List ℕ) (h : Here) (x : Line) (k : C.Step) : Type 0 where
+pub record Answers (Q : Program → State → Type 0) (s : List ℕ) (h : Here) (x : Line) (k : Res (Unit {0})) : Type 0 where
   pub answers : (P : Program) (n : ℕ) (S : State) (f : Frame) (fs : List Frame) (rest : List ℕ) → Q P S → Stand s h P n S f fs rest
-      → line_at P f.block f.line ≡ x → result_of k ≡ outcome_of (R.perform mosts P (here_at S h.thread f fs) x)
+      → line_at P f.block f.line ≡ x → k ≡ outcome_of (R.perform mosts P (here_at S h.thread f fs) x)
 
 -- each way to move is one that the writes make
-pub record Writes (Q : Program → State → Type 0) (s : List ℕ) (h : Here) (x : Line) (r : C.Step) (s₁ : List ℕ) : Type 0 where
+pub record Writes (Q : Program → State → Type 0) (s : List ℕ) (h : Here) (x : Line) (r : Move) (s₁ : List ℕ) : Type 0 where
   pub writes : (P : Program) (n : ℕ) (S : State) (f : Frame) (fs : List Frame) (rest : List ℕ) → Q P S → Stand s h P n S f fs rest → n < Most.turns
       → line_at P f.block f.line ≡ x → (S₁ : State) → Step mosts P (here_at S h.thread f fs) x S₁
       → Written s₁ S (line_gained (here_at S h.thread f fs) x) (line_lost (here_at S h.thread f fs) x) S₁ rest × Went h.thread f fs S₁ r
 
-module _ {Q : Program → State → Type 0} {s : List ℕ} {h : Here} {x : Line} {k : C.Step} (told : Answers Q s h x k) where
-  pub line_halts : is_pass k ≡ false → Performs Q s h x k s
-  line_halts fails = record { performs = λ P n S f fs rest q st few at_line. performed_halt _ (told.answers P n S f fs rest q st at_line) fails }
+module _ {Q : Program → State → Type 0} {s : List ℕ} {h : Here} {x : Line} where
+  pub line_halts : {e : Halt} → Answers Q s h x (halted e) → Performs Q s h x (Err e) s
+  line_halts {e} told = record { performs = λ P n S f fs rest q st few at_line. performed_halt _ e (told.answers P n S f fs rest q st at_line) }
 
-  pub line_moves : {r : C.Step} {s₁ : List ℕ} → is_pass k ≡ true → Writes Q s h x r s₁ → Performs Q s h x r s₁
-  line_moves passes does =
+  -- what a `?` hands on
+  pub line_hands_on : {r : Result Move Halt} (e : Halt) → IsErrAnd r (λ i. i ≡ e) → Answers Q s h x (halted e) → Performs Q s h x r s
+  line_hands_on {r} e is told = let p = err_from_is_err_and r is in rw (p.1, p.2) (line_halts told)
+
+  pub line_moves : {m : Move} {s₁ : List ℕ} → Answers Q s h x (ok tt) → Writes Q s h x m s₁ → Performs Q s h x (Ok m) s₁
+  line_moves told does =
       record {
         performs = λ P n S f fs rest q st few at_line.
             let H = here_at S h.thread f fs in
-            performed_pass (R.perform mosts P H x) k (told.answers P n S f fs rest q st at_line) passes
+            performed_pass (R.perform mosts P H x) (told.answers P n S f fs rest q st at_line)
             λ S₁ e.
             let step = stepped mosts P H x S₁ e in
             let done = does.writes P n S f fs rest q st few at_line S₁ step in
@@ -94,7 +89,7 @@ module _ {Q : Program → State → Type 0} {s : List ℕ} {h : Here} {x : Line}
       }
 
 -- where Q holds of each state that the table holds, it need not be asked
-pub always_performs : {Q : Program → State → Type 0} {s s₁ : List ℕ} {h : Here} {x : Line} {r : C.Step} → ((P : Program) (S : State) (rest : List ℕ) → Held s S rest → Q P S)
+pub always_performs : {Q : Program → State → Type 0} {s s₁ : List ℕ} {h : Here} {x : Line} {r : Result Move Halt} → ((P : Program) (S : State) (rest : List ℕ) → Held s S rest → Q P S)
     → Performs Q s h x r s₁ → Performs Always s h x r s₁
 always_performs holds does = record { performs = λ P n S f fs rest q st few at_line. does.performs P n S f fs rest (holds P S rest st.held) st few at_line }
 

@@ -17,8 +17,13 @@ use Rattle.rules.specs.Turn.{Res, ok, wait, stop, ◌>>=◌, ◌>>◌, check, pe
 use Rattle.rules.specs.Run.{waits}
 use Rattle.table.specs.declared.state.Here.{Here}
 use Rattle.table.specs.StateTable.{Held, Sees, Any}
-use Rattle.checks.specs.declared.form_checks.Step.{Step}
-use Rattle.checks.specs.Checked.{result_of, outcome_of, waited, is_wait, here_at, Checks}
+use Rattle.std.specs.Prelude.{Result, Ok, Err}
+use Rattle.std.specs.Result.{result_eq}
+use Rattle.std.specs.contracts.prelude.UnitPartialEq.TheImpl as UnitEqual
+use Rattle.checks.specs.contracts.form_checks.HaltPartialEq.TheImpl as HaltEqual
+use Rattle.checks.specs.declared.form_checks.Halt.{Halt}
+use Rattle.checks.specs.declared.form_checks.Halt.TheVariants.{Waits, Stops}
+use Rattle.checks.specs.Checked.{result_of, outcome_of, waited, here_at, Checks}
 use Rattle.turn.specs.Performed.{WaitsHere, WouldWait}
 use Rattle.turn.proofs.TurnSteps.{Answers}
 use Rattle.turn.proofs.ChannelLines.{recv_answers}
@@ -28,27 +33,36 @@ use Rattle.turn.proofs.Located.{Idles, Finds}
 
 -- ---- A send and a recv, by their checks
 
-answer_waits : (x : Res State) (k : Step) → result_of k ≡ outcome_of x → is_wait k ≡ waits x
+-- the code compares a check's answer with the one that waits
+equals_waits : (r : Result (Unit {0}) Halt) → result_eq (UnitEqual.eq-value).it (HaltEqual.eq-value).it r (Err Waits) ≡ waited (result_of r)
+equals_waits (Ok a) = refl
+equals_waits (Err Waits) = refl
+equals_waits (Err (Stops f)) = refl
+
+answer_waits : (x : Res State) {k : Res (Unit {0})} → k ≡ outcome_of x → waited k ≡ waits x
 unfolding waits
-answer_waits (ok S) k e = ap waited e
-answer_waits wait k e = ap waited e
-answer_waits (stop n) k e = ap waited e
+answer_waits (ok S) e = ap waited e
+answer_waits wait e = ap waited e
+answer_waits (stop n) e = ap waited e
 
--- r says whether the check k waits
-module _ {s : List ℕ} {h : Here} {k : Step} {r : Bool} (is : r ≡ is_wait k) where
+-- r says whether the check's answer k is that the thread waits
+abbrev AsksWait : Result (Unit {0}) Halt → Bool → Type 0
+AsksWait k r = r ≡ result_eq (UnitEqual.eq-value).it (HaltEqual.eq-value).it k (Err Waits)
+
+module _ {s : List ℕ} {h : Here} {r : Bool} (k : Result (Unit {0}) Halt) (asked : AsksWait k r) where
   -- where Q holds of each state that the table holds
-  answered_waits : {Q : Program → State → Type 0} {x : Line} → ((P : Program) (S : State) (rest : List ℕ) → Held s S rest → Q P S) → Answers Q s h x k → WaitsHere s h x r
-  answered_waits holds told = record { is = λ P n S f fs rest st at_line. is ∙ answer_waits _ k (told.answers P n S f fs rest (holds P S rest st.held) st at_line) }
+  answered_waits : {Q : Program → State → Type 0} {x : Line} → ((P : Program) (S : State) (rest : List ℕ) → Held s S rest → Q P S) → Answers Q s h x (result_of k) → WaitsHere s h x r
+  answered_waits holds told = record { is = λ P n S f fs rest st at_line. asked ∙ equals_waits k ∙ answer_waits _ (told.answers P n S f fs rest (holds P S rest st.held) st at_line) }
 
-  pub recv_waits : (i : ℕ) → Checks s h (i ∷ []) (λ P H. recv_line H i) k → WaitsHere s h (bind (recv i)) r
+  pub recv_waits : (i : ℕ) → Checks s h (i ∷ []) (λ P H. recv_line H i) (result_of k) → WaitsHere s h (bind (recv i)) r
   recv_waits i checked = answered_waits (λ P S rest held. tt) (recv_answers i checked)
 
-module _ {s : List ℕ} {h : Here} {k : Step} {r : Bool} (is : r ≡ is_wait k) {d : ℕ} (seen : Sees s Any (λ S. sender_word (thread_at S h.thread).sender) d) (i w : ℕ) where
-  pub put_waits : d ≡ 0 → Checks s h (i ∷ w / 2 ∷ []) (λ P H. put_line H i (operand_of w)) k → WaitsHere s h (bind (send i (operand_of w))) r
-  put_waits none checked = answered_waits is (seen_ready h.thread seen none) (put_answers i w checked)
+module _ {s : List ℕ} {h : Here} {r : Bool} (k : Result (Unit {0}) Halt) (asked : AsksWait k r) {d : ℕ} (seen : Sees s Any (λ S. sender_word (thread_at S h.thread).sender) d) (i w : ℕ) where
+  pub put_waits : d ≡ 0 → Checks s h (i ∷ w / 2 ∷ []) (λ P H. put_line H i (operand_of w)) (result_of k) → WaitsHere s h (bind (send i (operand_of w))) r
+  put_waits none checked = answered_waits k asked (seen_ready h.thread seen none) (put_answers i w checked)
 
-  pub sent_waits : (d ≡ 0 → ⊥) → Checks s h (i ∷ []) (λ P H. sent_line H i (d - 1)) k → WaitsHere s h (bind (send i (operand_of w))) r
-  sent_waits some checked = answered_waits is (seen_waiting h.thread seen) (sent_answers i (omega (arith, some)) (operand_of w) checked)
+  pub sent_waits : (d ≡ 0 → ⊥) → Checks s h (i ∷ []) (λ P H. sent_line H i (d - 1)) (result_of k) → WaitsHere s h (bind (send i (operand_of w))) r
+  sent_waits some checked = answered_waits k asked (seen_waiting h.thread seen) (sent_answers i (omega (arith, some)) (operand_of w) checked)
 
 -- ---- The other lines go on or stop
 

@@ -1,5 +1,5 @@
 -- A copy: what is asked of the objects met, and what is made of them by the places that the walk gave them.
-use Rattle.std.specs.Prelude.{ℕ, ◌+◌, ◌%◌, ◌≤◌, ◌≡◌, false, List, [], ◌∷◌, ◌++◌, map, leb, length, get_or}
+use Rattle.std.specs.Prelude.{ℕ, ◌+◌, ◌%◌, ◌≤◌, ◌≡◌, true, false, List, [], ◌∷◌, ◌++◌, map, leb, length, get_or}
 use Rattle.rules.specs.declared.Cap.{Cap}
 use Rattle.rules.specs.declared.Value.{Value}
 use Rattle.rules.specs.declared.Value.TheVariants.{Absent, Obj, Chan}
@@ -14,7 +14,7 @@ use Rattle.rules.specs.Holders.{holders}
 use Rattle.rules.specs.HolderChanges.{copies_gained}
 use Rattle.rules.specs.Fits.{Fits}
 use Rattle.table.specs.StateTable.{Counted, Held, made, all_raised}
-use Rattle.checks.specs.Checked.{stop_number, Made, Fielded, here_at}
+use Rattle.checks.specs.Checked.{passed, Made, Fielded, here_at}
 
 -- these objects are there, and so each has a place in the table
 pub record AllMade (ms : List ℕ) (S : State) : Type 0 where
@@ -72,10 +72,10 @@ copy_from t n S = do
   permit (any (λ i. is_foreign t (object_at S.objects i)) met) false false
   check (leb (length S.objects + length met) mosts.objects) No.used_up
 
--- of any state of a run in which object n is: r is the stop's number, or 0 where the rule's copies are made
-pub record CopiesFrom (t cap n : ℕ) (e : List ℕ) (r : ℕ) (e₁ : List ℕ) : Type 0 where
-  pub stops : (r ≡ 0 → ⊥) → e₁ ≡ e
-  pub answers : (P : Program) (m : ℕ) (S : State) (rest : List ℕ) → Held e S rest → Fits mosts P m S → Made n S → r ≡ stop_number (copy_from t n S)
-  pub copies : (P : Program) (m : ℕ) (S : State) (f : Frame) (fs : List Frame) (rest : List ℕ) → Held e S rest → Fits mosts P m S → Made n S → r ≡ 0 → (k : Cap) → cap ≡ rank k
+-- of any state of a run in which object n is: r is what the rule's checks answer, and where they pass the rule's copies are made
+pub record CopiesFrom (t cap n : ℕ) (e : List ℕ) (r : Res (Unit {0})) (e₁ : List ℕ) : Type 0 where
+  pub stops : passed r ≡ false → e₁ ≡ e
+  pub answers : (P : Program) (m : ℕ) (S : State) (rest : List ℕ) → Held e S rest → Fits mosts P m S → Made n S → r ≡ copy_from t n S
+  pub copies : (P : Program) (m : ℕ) (S : State) (f : Frame) (fs : List Frame) (rest : List ℕ) → Held e S rest → Fits mosts P m S → Made n S → passed r ≡ true → (k : Cap) → cap ≡ rank k
       → (let met = met_from S.objects (Obj n ∷ []) in
       Counted e₁ (all_raised (copies_gained S.objects (Obj n)) (holders S)) (put_objects S (S.objects ++ map (copy_of (here_at S t f fs) k met) met)) rest)

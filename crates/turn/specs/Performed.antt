@@ -1,7 +1,9 @@
 -- What a turn on the tables does: the rule's own result, and where the thread stands then.
-use Rattle.std.specs.Prelude.{ℕ, zero, suc, ◌+◌, ◌/◌, ◌<◌, ◌≡◌, Bool, List, [], ◌∷◌, map, length}
+use Rattle.std.specs.Prelude.{ℕ, zero, suc, ◌+◌, ◌/◌, ◌<◌, ◌≡◌, Bool, List, [], ◌∷◌, map, length, Result, Ok, Err}
 use Rattle.rules.specs.declared.Cap.{Cap}
 use Rattle.rules.specs.declared.Value.{Value}
+use Rattle.rules.specs.declared.faults.Fault.{Fault}
+use Rattle.rules.specs.Numbers.{number}
 use Rattle.rules.specs.Mosts as Most
 use Rattle.rules.specs.Mosts.{mosts}
 use Rattle.rules.specs.Lists.{pad, Every}
@@ -16,10 +18,12 @@ use Rattle.rules.specs.Fits.{Fits}
 use Rattle.table.specs.declared.state.Here.{Here}
 use Rattle.table.specs.ProgramTable.{Filled}
 use Rattle.table.specs.StateTable.{Counted, Held, OnLine, HasSlot, edit_frame, all_raised}
-use Rattle.checks.specs.declared.form_checks.Step.{Step}
-use Rattle.checks.specs.declared.form_checks.Step.TheVariants.{Next, Stay, Turned, Waits}
-use Rattle.checks.specs.Checked.{result_of, here_at, Stand}
+use Rattle.checks.specs.declared.form_checks.Halt.{Halt}
+use Rattle.checks.specs.declared.form_checks.Halt.TheVariants.{Waits, Stops}
+use Rattle.checks.specs.Checked.{here_at, Stand}
 use Rattle.checks.specs.NewItems.{item_slots}
+use Rattle.turn.specs.declared.Move.{Move}
+use Rattle.turn.specs.declared.Move.TheVariants.{Next, Stay, Turned}
 
 -- ---- What operands leave
 
@@ -61,21 +65,21 @@ pub record StandsAt (t b l k : ℕ) (S : State) : Type 0 where
   pub line : frame.line ≡ l
 
 -- after the line of frame f, whose callers are fs: at the next line, at the same line, or in another frame
-pub data Went (t : ℕ) (f : Frame) (fs : List Frame) (S : State) : Step → Type 0 where
+pub data Went (t : ℕ) (f : Frame) (fs : List Frame) (S : State) : Move → Type 0 where
   to_next : StandsAt t f.block (f.line + 1) (length fs) S → Went t f fs S Next
   to_same : StandsAt t f.block f.line (length fs) S → Went t f fs S Stay
   to_other : Went t f fs S Turned
 
--- the step taken and the table afterwards, for each result of the rule; where it waits or stops the table is as it was
-pub data Performed (t : ℕ) (f : Frame) (fs : List Frame) (s rest : List ℕ) : Step → List ℕ → Res State → Type 0 where
-  moved : {r : Step} {s₁ : List ℕ} {S : State} → Held s₁ S rest → Went t f fs S r → Performed t f fs s rest r s₁ (ok S)
-  waited : Performed t f fs s rest Waits s wait
-  stopped : {r : Step} {k : ℕ} → result_of r ≡ stop k → Performed t f fs s rest r s (stop k)
+-- the answer and the table afterwards, for each result of the rule; where it waits or stops the table is as it was
+pub data Performed (t : ℕ) (f : Frame) (fs : List Frame) (s rest : List ℕ) : Result Move Halt → List ℕ → Res State → Type 0 where
+  moved : {m : Move} {s₁ : List ℕ} {S : State} → Held s₁ S rest → Went t f fs S m → Performed t f fs s rest (Ok m) s₁ (ok S)
+  waited : Performed t f fs s rest (Err Waits) s wait
+  stopped : {x : Fault} {k : ℕ} → number x ≡ k → Performed t f fs s rest (Err (Stops x)) s (stop k)
 
 -- ---- The lines
 
 -- the line x is performed, where Q holds of the program and the state
-pub record Performs (Q : Program → State → Type 0) (s : List ℕ) (h : Here) (x : Line) (r : Step) (s₁ : List ℕ) : Type 0 where
+pub record Performs (Q : Program → State → Type 0) (s : List ℕ) (h : Here) (x : Line) (r : Result Move Halt) (s₁ : List ℕ) : Type 0 where
   pub performs : (P : Program) (n : ℕ) (S : State) (f : Frame) (fs : List Frame) (rest : List ℕ) → Q P S → Stand s h P n S f fs rest → n < Most.turns
       → line_at P f.block f.line ≡ x → Performed h.thread f fs s rest r s₁ (R.perform mosts P (here_at S h.thread f fs) x)
 
@@ -89,15 +93,15 @@ pub record Loaded (p : List ℕ) (P : Program) : Type 0 where
   pub filled : Filled p counts (lines_of P) rest
 
 -- a new whose operands are these items
-pub record PerformsNew (s : List ℕ) (h : Here) (c : Cap) (kind : ℕ) (items : List ℕ) (r : Step) (s₁ : List ℕ) : Type 0 where
+pub record PerformsNew (s : List ℕ) (h : Here) (c : Cap) (kind : ℕ) (items : List ℕ) (r : Result Move Halt) (s₁ : List ℕ) : Type 0 where
   pub performs : (ws : List Operand) → items ≡ pad Most.operands 0 (map operand_item ws) → Performs Always s h (bind (new c kind ws)) r s₁
 
 -- a send on the channel in slot i, by a sender whose word is d
-pub record PerformsSent (s : List ℕ) (h : Here) (i d : ℕ) (r : Step) (s₁ : List ℕ) : Type 0 where
+pub record PerformsSent (s : List ℕ) (h : Here) (i d : ℕ) (r : Result Move Halt) (s₁ : List ℕ) : Type 0 where
   pub performs : (w : Operand) → Performs (λ P S. sender_word (thread_at S h.thread).sender ≡ d) s h (bind (send i w)) r s₁
 
 -- the line where the thread stands is performed
-pub record PerformsHere (p s : List ℕ) (h : Here) (r : Step) (s₁ : List ℕ) : Type 0 where
+pub record PerformsHere (p s : List ℕ) (h : Here) (r : Result Move Halt) (s₁ : List ℕ) : Type 0 where
   pub performs : (P : Program) (n : ℕ) (S : State) (f : Frame) (fs : List Frame) (rest : List ℕ) → Loaded p P → Stand s h P n S f fs rest → n < Most.turns
       → OnLine p P f.block f.line h
       → Performed h.thread f fs s rest r s₁ (R.perform mosts P (here_at S h.thread f fs) (line_at P f.block f.line))
@@ -110,13 +114,13 @@ pub record WaitsHere (s : List ℕ) (h : Here) (x : Line) (r : Bool) : Type 0 wh
 -- ---- The turn
 
 -- the same without the place
-pub data Taken (s rest : List ℕ) : Step → List ℕ → Res State → Type 0 where
-  moved : {r : Step} {s₁ : List ℕ} {S : State} → result_of r ≡ ok tt → Held s₁ S rest → Taken s rest r s₁ (ok S)
-  waited : Taken s rest Waits s wait
-  stopped : {r : Step} {k : ℕ} → result_of r ≡ stop k → Taken s rest r s (stop k)
+pub data Taken (s rest : List ℕ) : Result Move Halt → List ℕ → Res State → Type 0 where
+  moved : {m : Move} {s₁ : List ℕ} {S : State} → Held s₁ S rest → Taken s rest (Ok m) s₁ (ok S)
+  waited : Taken s rest (Err Waits) s wait
+  stopped : {x : Fault} {k : ℕ} → number x ≡ k → Taken s rest (Err (Stops x)) s (stop k)
 
 -- of any program and any state of a run of it: what the turn of thread t does
-pub record TakesTurn (p s : List ℕ) (t : ℕ) (r : Step) (s₁ : List ℕ) : Type 0 where
+pub record TakesTurn (p s : List ℕ) (t : ℕ) (r : Result Move Halt) (s₁ : List ℕ) : Type 0 where
   pub takes : (P : Program) (n : ℕ) (S : State) (rest : List ℕ) → Loaded p P → Held s S rest → Valid mosts P → Fits mosts P n S → n < Most.turns
       → Taken s rest r s₁ (R.turn mosts P S t)
 

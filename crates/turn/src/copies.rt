@@ -6,11 +6,13 @@ ghost use Rattle.rules.specs.Script.{copy, bind};
 ghost use Rattle.rules.specs.State.{object_at, slot_at};
 ghost use Rattle.rules.specs.Turn.{is_foreign};
 ghost use Rattle.table.specs.StateTable.{InTable, Sees, Placed, FieldIn, all_raised, Counts};
+ghost use Rattle.checks.specs.Checked.{checked};
 ghost use Rattle.turn.specs.Performed.{Always, Performs};
 ghost use Rattle.turn.specs.Copied.{AllMade, renamed_by, CopiesOne, CopiesAll, CopiesFrom};
 
-use checks::Step;
-use rules::{Cap, Ground, Value};
+use super::Move;
+use checks::Halt;
+use rules::{Cap, Fault, Value};
 use table::Here;
 
 // Whether any of the objects met is local to another thread than t.
@@ -99,49 +101,40 @@ fn add_copies(
     add_copy_of(s, t, cap, places, first, (first + i) as u16, order[i] % 256);
 }
 
-// The objects met from object n are copied, unless "any object met local to another thread 20, too few objects left for all copies 16". Answers 0, or
-// the number of the stop.
-fn copy_from(s: &mut [u16], t: usize, cap: u16, n: u16) -> u16
+// The objects met from object n are copied, unless "any object met local to another thread 20, too few objects left for all copies 16".
+fn copy_from(s: &mut [u16], t: usize, cap: u16, n: u16) -> Result<(), Fault>
     requires { (8192 ≤ length s.old) × (t < 16) × (n < 256) }
-    ensures { CopiesFrom t cap n s.old result s.new }
+    ensures { CopiesFrom t cap n s.old (checked result) s.new }
 {
     let mut places = [0u16; 256];
     let mut order = [0u16; 256];
     let count = walk::walk(s, &mut places, &mut order, 0, Value::Obj(n));
     let first = table::object_count(s) as usize;
-    let foreign = any_foreign_met(s, t, &order, count);
-    let used_up = 256 < first + count;
-    if foreign {
-        return rules::numbers::FOREIGN;
+    if any_foreign_met(s, t, &order, count) {
+        return Err(Fault::Foreign);
     }
-    if used_up {
-        return rules::numbers::USED_UP;
+    if 256 < first + count {
+        return Err(Fault::UsedUp);
     }
     add_copies(s, t as u16, cap, &places, &order, first, count);
-    0
+    Ok(())
 }
 
 // "slot absent 10, a channel 13, .. The slot keeps its value, even an iso."
-pub fn copy_line(s: &mut [u16], h: Here, k: Cap, i: u16) -> Step
+pub fn copy_line(s: &mut [u16], h: Here, k: Cap, i: u16) -> Result<Move, Halt>
     requires { (8192 ≤ length s.old) × Placed h }
     ensures { Performs Always s.old h (bind (copy k i)) result s.new }
 {
     let x = table::slot(s, h, i as usize % 16);
     match x {
-        Value::Absent => Step::NoValue,
-        Value::Chan(_) => Step::WrongThing,
+        Value::Absent => Err(Halt::Stops(Fault::Absent)),
+        Value::Chan(_) => Err(Halt::Stops(Fault::WrongThing)),
         Value::Obj(n) => {
             let first = table::object_count(s) % 256;
-            let stop = copy_from(s, h.thread, rules::cap_rank(k) as u16, n);
-            if stop == rules::numbers::USED_UP {
-                return Step::UsedUp;
-            }
-            if stop != 0 {
-                return Step::Forbidden(Ground::Foreign);
-            }
+            copy_from(s, h.thread, k.rank() as u16, n)?;
             table::give_value(s, h, Value::Obj(first));
             table::hold(s, Value::Obj(first));
-            Step::Next
+            Ok(Move::Next)
         }
     }
 }

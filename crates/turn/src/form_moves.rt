@@ -7,8 +7,9 @@ ghost use Rattle.rules.specs.Tables.{operand_of};
 ghost use Rattle.table.specs.StateTable.{InTable, Placed};
 ghost use Rattle.turn.specs.Performed.{Leaves, LeavesItem, Always, Loaded, Performs, PerformsNew, PerformsSent};
 
-use checks::{Step, slot_of};
-use rules::{Cap, Value};
+use super::Move;
+use checks::{Halt, slot_of};
+use rules::{Cap, Fault, Value};
 use table::Here;
 
 // ---- Operands
@@ -38,226 +39,177 @@ fn leave_item(s: &mut [u16], h: Here, e: u16, v: Value)
 
 // ---- The forms
 
-pub fn value_line(s: &mut [u16], h: Here, w: u16) -> Step
+pub fn value_line(s: &mut [u16], h: Here, w: u16) -> Result<Move, Halt>
     requires { (8192 ≤ length s.old) × Placed h }
     ensures { Performs Always s.old h (bind (value (operand_of w))) result s.new }
 {
-    let k = checks::operand_check(s, h, w);
-    if !checks::passes(k) {
-        return k;
-    }
+    checks::operand_check(s, h, w)?;
     let v = checks::operand(s, h, w);
     table::give_value(s, h, v);
     leave(s, h, w, v);
-    Step::Next
+    Ok(Move::Next)
 }
 
 // "field: target slot absent 10; a channel 13; no such field 11; target local to another thread 20; field holds an iso 19."
-pub fn field_line(s: &mut [u16], h: Here, i: u16, j: u16) -> Step
+pub fn field_line(s: &mut [u16], h: Here, i: u16, j: u16) -> Result<Move, Halt>
     requires { (8192 ≤ length s.old) × Placed h }
     ensures { Performs Always s.old h (bind (field i j)) result s.new }
 {
     let x = table::slot(s, h, i as usize % 16);
     match x {
-        Value::Absent => Step::NoValue,
-        Value::Chan(_) => Step::WrongThing,
+        Value::Absent => Err(Halt::Stops(Fault::Absent)),
+        Value::Chan(_) => Err(Halt::Stops(Fault::WrongThing)),
         Value::Obj(n) => {
             let v = table::field(s, n, j);
-            match v {
-                Value::Absent => Step::NoField,
-                Value::Chan(_) => Step::NoField, // no field holds a channel
-                Value::Obj(_) => {
-                    let foreign = checks::is_foreign(s, h.thread, n);
-                    let alias = checks::is_iso_object(s, v);
-                    let k = checks::permission_check(foreign, alias, false);
-                    if !checks::passes(k) {
-                        return k;
-                    }
-                    table::give_value(s, h, v);
-                    table::hold(s, v);
-                    Step::Next
-                }
+            if checks::is_absent(v) {
+                return Err(Halt::Stops(Fault::NoField));
             }
+            let foreign = checks::is_foreign(s, h.thread, n);
+            let alias = checks::is_iso_object(s, v);
+            checks::permission_check(foreign, alias, false)?;
+            table::give_value(s, h, v);
+            table::hold(s, v);
+            Ok(Move::Next)
         }
     }
 }
 
 // "swap: target absent 10; target a channel 13; .. It stores the value and gives the old one."
-pub fn swap_line(s: &mut [u16], h: Here, i: u16, j: u16, w: u16) -> Step
+pub fn swap_line(s: &mut [u16], h: Here, i: u16, j: u16, w: u16) -> Result<Move, Halt>
     requires { (8192 ≤ length s.old) × Placed h × (i < 256) }
     ensures { Performs Always s.old h (bind (swap i j (operand_of w))) result s.new }
 {
-    let first = checks::operand_check(s, h, w);
-    if !checks::passes(first) {
-        return first;
-    }
+    checks::operand_check(s, h, w)?;
     let v = checks::operand(s, h, w);
     let x = checks::seen(s, h, i, w);
     match x {
-        Value::Absent => Step::NoValue,
-        Value::Chan(_) => Step::WrongThing,
+        Value::Absent => Err(Halt::Stops(Fault::Absent)),
+        Value::Chan(_) => Err(Halt::Stops(Fault::WrongThing)),
         Value::Obj(n) => {
-            let k = checks::swap_into(s, h.thread, n, j, v);
-            if !checks::passes(k) {
-                return k;
-            }
+            checks::swap_into(s, h.thread, n, j, v)?;
             let old = table::field(s, n, j);
-            match old {
-                Value::Absent => Step::NoField, // the check has passed
-                Value::Chan(_) => Step::NoField, // no field holds a channel
-                Value::Obj(_) => {
-                    table::give_value(s, h, old); // it moves from the field to the slot
-                    table::store_field(s, n, j % 4, v);
-                    leave(s, h, w, v);
-                    Step::Next
-                }
-            }
+            table::give_value(s, h, old); // it moves from the field to the slot
+            table::store_field(s, n, j % 4, v);
+            leave(s, h, w, v);
+            Ok(Move::Next)
         }
     }
 }
 
 // "call: target absent 10; a channel 13; no such method 12; target local to another thread 20; frames used up 16. The new frame holds target and
 // value; the caller's slot keeps the target."
-pub fn call_line(p: &[u16], s: &mut [u16], h: Here, i: u16, j: u16, w: u16) -> Step
+pub fn call_line(p: &[u16], s: &mut [u16], h: Here, i: u16, j: u16, w: u16) -> Result<Move, Halt>
     requires { (8192 ≤ length p.now) × (8192 ≤ length s.old) × Placed h × (i < 256) }
     ensures { Performs (λ P S. Loaded p.now P) s.old h (bind (call i j (operand_of w))) result s.new }
 {
-    let first = checks::operand_check(s, h, w);
-    if !checks::passes(first) {
-        return first;
-    }
+    checks::operand_check(s, h, w)?;
     let x = checks::seen(s, h, i, w);
     match x {
-        Value::Absent => Step::NoValue,
-        Value::Chan(_) => Step::WrongThing,
+        Value::Absent => Err(Halt::Stops(Fault::Absent)),
+        Value::Chan(_) => Err(Halt::Stops(Fault::WrongThing)),
         Value::Obj(n) => {
             let m = checks::method_item(p, s, n, j);
             if m == 0 {
-                return Step::NoMethod;
+                return Err(Halt::Stops(Fault::NoMethod));
             }
-            let k = checks::permission_check(checks::is_foreign(s, h.thread, n), false, false);
-            if !checks::passes(k) {
-                return k;
-            }
+            checks::permission_check(checks::is_foreign(s, h.thread, n), false, false)?;
             if 15 <= h.depth {
-                return Step::UsedUp;
+                return Err(Halt::Stops(Fault::UsedUp));
             }
             let v = checks::operand(s, h, w);
             table::push_frame(s, h, m - 1, Value::Obj(n), v);
             table::hold(s, Value::Obj(n)); // the caller's slot keeps the target
             leave(s, h, w, v);
-            Step::Turned
+            Ok(Move::Turned)
         }
     }
 }
 
-pub fn new_line(s: &mut [u16], h: Here, k: Cap, kind: u16, a: u16, b: u16, c: u16, d: u16) -> Step
+pub fn new_line(
+    s: &mut [u16],
+    h: Here,
+    k: Cap,
+    kind: u16,
+    a: u16,
+    b: u16,
+    c: u16,
+    d: u16,
+) -> Result<Move, Halt>
     requires { (8192 ≤ length s.old) × Placed h }
     ensures { PerformsNew s.old h k kind (a ∷ b ∷ c ∷ d ∷ []) result s.new }
 {
-    let first = checks::items_check(s, h, a, b, c, d);
-    if !checks::passes(first) {
-        return first;
-    }
+    checks::items_check(s, h, a, b, c, d)?;
     let va = checks::item_value(s, h, a);
     let vb = checks::item_value(s, h, b);
     let vc = checks::item_value(s, h, c);
     let vd = checks::item_value(s, h, d);
-    let check = checks::hold_check(s, h.thread, k, va, vb, vc, vd);
-    if !checks::passes(check) {
-        return check;
-    }
+    checks::hold_check(s, h.thread, k, va, vb, vc, vd)?;
     let n = table::object_count(s) % 256;
-    table::add_object(
-        s,
-        h.thread as u16,
-        n,
-        rules::cap_rank(k) as u16,
-        kind,
-        va,
-        vb,
-        vc,
-        vd,
-    );
+    table::add_object(s, h.thread as u16, n, k.rank() as u16, kind, va, vb, vc, vd);
     table::give_value(s, h, Value::Obj(n));
     table::hold(s, Value::Obj(n)); // in that slot
     leave_item(s, h, a, va);
     leave_item(s, h, b, vb);
     leave_item(s, h, c, vc);
     leave_item(s, h, d, vd);
-    Step::Next
+    Ok(Move::Next)
 }
 
-pub fn cast_line(s: &mut [u16], h: Here, k: Cap, w: u16) -> Step
+pub fn cast_line(s: &mut [u16], h: Here, k: Cap, w: u16) -> Result<Move, Halt>
     requires { (8192 ≤ length s.old) × Placed h }
     ensures { Performs Always s.old h (bind (cast k (operand_of w))) result s.new }
 {
-    let check = checks::cast_check(s, h, k, w);
-    if !checks::passes(check) {
-        return check;
-    }
+    checks::cast_check(s, h, k, w)?;
     let v = checks::operand(s, h, w);
     table::give_value(s, h, v);
     leave(s, h, w, v);
-    Step::Next
+    Ok(Move::Next)
 }
 
 // "A spawn makes the next thread, with an empty channel of the same number."
-pub fn spawn_line(s: &mut [u16], h: Here, b: u16) -> Step
+pub fn spawn_line(s: &mut [u16], h: Here, b: u16) -> Result<Move, Halt>
     requires { (8192 ≤ length s.old) × Placed h }
     ensures { Performs Always s.old h (bind (spawn b)) result s.new }
 {
-    let k = checks::spawn_check(s);
-    if !checks::passes(k) {
-        return k;
-    }
+    checks::spawn_check(s)?;
     let n = table::thread_count(s) % 16;
     table::start_thread(s, n, b);
     table::give_value(s, h, Value::Chan(n));
-    Step::Next
+    Ok(Move::Next)
 }
 
 // A send by a thread that is ready: "target absent 10; an object 13; ..".
-fn put_line(s: &mut [u16], h: Here, i: u16, w: u16) -> Step
+fn put_line(s: &mut [u16], h: Here, i: u16, w: u16) -> Result<Move, Halt>
     requires { (8192 ≤ length s.old) × Placed h × (i < 256) }
     ensures { Performs (λ P S. (thread_at S h.thread).sender ≡ ready) s.old h (bind (send i (operand_of w))) result s.new }
 {
-    let first = checks::operand_check(s, h, w);
-    if !checks::passes(first) {
-        return first;
-    }
+    checks::operand_check(s, h, w)?;
     let v = checks::operand(s, h, w);
     let x = checks::seen(s, h, i, w);
     match x {
-        Value::Absent => Step::NoValue,
-        Value::Obj(_) => Step::WrongThing,
+        Value::Absent => Err(Halt::Stops(Fault::Absent)),
+        Value::Obj(_) => Err(Halt::Stops(Fault::WrongThing)),
         Value::Chan(c) => {
-            let k = checks::put_into(s, c, v);
-            if !checks::passes(k) {
-                return k;
-            }
+            checks::put_into(s, c, v)?;
             table::put_message(s, h, c, v);
             leave(s, h, w, v);
-            Step::Stay
+            Ok(Move::Stay)
         }
     }
 }
 
 // A send by a thread that waits as a sender, whose word is d.
-fn sent_line(s: &mut [u16], h: Here, i: u16, d: u16) -> Step
+fn sent_line(s: &mut [u16], h: Here, i: u16, d: u16) -> Result<Move, Halt>
     requires { (8192 ≤ length s.old) × Placed h × (1 ≤ d) }
     ensures { PerformsSent s.old h i d result s.new }
 {
-    let k = checks::sent_check(s, h, i, d);
-    if !checks::passes(k) {
-        return k;
-    }
+    checks::sent_check(s, h, i, d)?;
     let x = table::slot(s, h, i as usize % 16);
     table::give_value(s, h, x); // the channel
-    Step::Next
+    Ok(Move::Next)
 }
 
-pub fn send_line(s: &mut [u16], h: Here, i: u16, w: u16) -> Step
+pub fn send_line(s: &mut [u16], h: Here, i: u16, w: u16) -> Result<Move, Halt>
     requires { (8192 ≤ length s.old) × Placed h × (i < 256) }
     ensures { Performs Always s.old h (bind (send i (operand_of w))) result s.new }
 {
@@ -269,42 +221,39 @@ pub fn send_line(s: &mut [u16], h: Here, i: u16, w: u16) -> Step
 }
 
 // "recv: target absent 10; an object 13; empty: waits. Otherwise it gives the value and empties the channel."
-pub fn recv_line(s: &mut [u16], h: Here, i: u16) -> Step
+pub fn recv_line(s: &mut [u16], h: Here, i: u16) -> Result<Move, Halt>
     requires { (8192 ≤ length s.old) × Placed h }
     ensures { Performs Always s.old h (bind (recv i)) result s.new }
 {
     let x = table::slot(s, h, i as usize % 16);
     match x {
-        Value::Absent => Step::NoValue,
-        Value::Obj(_) => Step::WrongThing,
+        Value::Absent => Err(Halt::Stops(Fault::Absent)),
+        Value::Obj(_) => Err(Halt::Stops(Fault::WrongThing)),
         Value::Chan(c) => {
             let v = table::message(s, c);
             if checks::is_absent(v) {
-                return Step::Waits;
+                return Err(Halt::Waits);
             }
             table::give_value(s, h, v); // it moves from the channel to the slot
             table::empty_channel(s, c);
-            Step::Next
+            Ok(Move::Next)
         }
     }
 }
 
 // "A give ends the frame and fills the caller's slot. From the outermost frame it finishes the thread."
-pub fn give_line(s: &mut [u16], h: Here, w: u16) -> Step
+pub fn give_line(s: &mut [u16], h: Here, w: u16) -> Result<Move, Halt>
     requires { (8192 ≤ length s.old) × Placed h }
     ensures { Performs Always s.old h (give (operand_of w)) result s.new }
 {
-    let k = checks::operand_check(s, h, w);
-    if !checks::passes(k) {
-        return k;
-    }
+    checks::operand_check(s, h, w)?;
     if h.depth == 0 {
         table::drop_frame(s, h);
-        return Step::Turned;
+        return Ok(Move::Turned);
     }
     let v = checks::operand(s, h, w);
     table::return_value(s, h, v);
     table::hold(s, v);
     table::drop_frame(s, h);
-    Step::Turned
+    Ok(Move::Turned)
 }

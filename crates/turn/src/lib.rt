@@ -5,4 +5,12 @@ mod copies;
 mod form_moves;
 mod turns;
 
+// Where a thread stands once its line has moved: at the frame's next line, at the same line, or in another frame or finished.
+#[derive(Clone, Copy, Debug, PartialEq, Eq)]
+pub enum Move {
+    Next,
+    Stay,
+    Turned,
+}
+
 pub use turns::{perform, perform_copy, turn, would_wait};

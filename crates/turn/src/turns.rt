@@ -7,12 +7,13 @@ ghost use Rattle.rules.specs.Tables.{operand_of};
 ghost use Rattle.table.specs.StateTable.{Placed};
 ghost use Rattle.turn.specs.Performed.{PerformsHere, TakesTurn, WouldWait, WaitsHere};
 
-use checks::Step;
+use super::Move;
+use checks::Halt;
 use rules::Form;
 use table::Here;
 
 // Performs the line where the thread stands, a copy.
-pub fn perform_copy(p: &[u16], s: &mut [u16], h: Here) -> Step
+pub fn perform_copy(p: &[u16], s: &mut [u16], h: Here) -> Result<Move, Halt>
     requires { (8192 ≤ length p.now) × (8192 ≤ length s.old) × Placed h × (get_or p.now (h.row + 0) 0 ≡ form_number Copy) }
     ensures { PerformsHere p.now s.old h result s.new }
 {
@@ -21,7 +22,7 @@ pub fn perform_copy(p: &[u16], s: &mut [u16], h: Here) -> Step
 }
 
 // Performs the line where the thread stands.
-pub fn perform(p: &[u16], s: &mut [u16], h: Here) -> Step
+pub fn perform(p: &[u16], s: &mut [u16], h: Here) -> Result<Move, Halt>
     requires { (8192 ≤ length p.now) × (8192 ≤ length s.old) × Placed h }
     ensures { PerformsHere p.now s.old h result s.new }
 {
@@ -75,21 +76,21 @@ pub fn perform(p: &[u16], s: &mut [u16], h: Here) -> Step
         ),
         Form::Recv => super::form_moves::recv_line(s, h, table::part(p, h, 1)),
         Form::Copy => perform_copy(p, s, h),
-        Form::NoForm | Form::Kind | Form::Thread | Form::Method => Step::Waits,
+        Form::NoForm | Form::Kind | Form::Thread | Form::Method => Err(Halt::Waits),
     }
 }
 
 // The turn of thread t. "A waiting turn, or one for a finished or unstarted thread, changes nothing."
-pub fn turn(p: &[u16], s: &mut [u16], t: usize) -> Step
+pub fn turn(p: &[u16], s: &mut [u16], t: usize) -> Result<Move, Halt>
     requires { (8192 ≤ length p.now) × (8192 ≤ length s.old) }
     ensures { TakesTurn p.now s.old t result s.new }
 {
     if 16 <= t {
-        return Step::Waits; // no such thread
+        return Err(Halt::Waits); // no such thread
     }
     let d = table::frame_count(s, t);
     if d == 0 {
-        return Step::Waits; // unstarted or finished
+        return Err(Halt::Waits); // unstarted or finished
     }
     let h = table::locate(p, s, t, d);
     perform(p, s, h)
@@ -103,16 +104,16 @@ fn send_waits(s: &[u16], h: Here, i: u16, w: u16) -> bool
 {
     let d = table::sender(s, h.thread);
     if d == 0 {
-        return checks::waits(checks::put_check(s, h, i, w));
+        return checks::put_check(s, h, i, w) == Err(Halt::Waits);
     }
-    checks::waits(checks::sent_check(s, h, i, d))
+    checks::sent_check(s, h, i, d) == Err(Halt::Waits)
 }
 
 fn recv_waits(s: &[u16], h: Here, i: u16) -> bool
     requires { (8192 ≤ length s.now) × Placed h }
     ensures { WaitsHere s.now h (bind (recv i)) result }
 {
-    checks::waits(checks::recv_check(s, h, i))
+    checks::recv_check(s, h, i) == Err(Halt::Waits)
 }
 
 // Whether thread t's turn would wait, or idle.

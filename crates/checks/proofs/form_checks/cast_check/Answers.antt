@@ -1,35 +1,29 @@
 -- `checks::form_checks::cast_check` meets its contract: an operand that does not pass ends the rule; past it, each way out is one of the rule's, with the slot's value as read.
-use mathlib.Core.Path.{refl, sym, ◌∙◌}
-use borrow.Author.Tests.{not-true, not-false}
+use Rattle.std.proofs.Common.{sym, ◌∙◌, refl, rules}
 use Rattle.table.proofs.StateReads.{object_in_table}
+use Rattle.checks.proofs.CheckLaws.{fault_handed}
 use Rattle.checks.proofs.OperandChecks.{cast_no_operand, cast_of_absent, cast_of_channel, cast_same, cast_other}
-use Rattle.std.proofs.Common.{rules}
 use Rattle.checks.proofs.form_checks.cast_check.Goals as goal
 
-pub returns-then-not-passes : goal.returns-then-not-passes
-returns-then-not-passes c = cast_no_operand _ c.args.k c.operand_check-first.ensures (sym c.passes.ensures ∙ not-true _ c.if-not-passes.true-raw)
+pub returns-in_err-operand_check : goal.returns-in_err-operand_check
+returns-in_err-operand_check c =
+    rw (fault_handed c.in_err-operand_check.field-0.0 c.from_residual.result c.from_residual.ensures.1) (cast_no_operand _ c.args.k c.in_err-operand_check.ensures refl)
 
 pub cap-requires : goal.cap-requires
 cap-requires c = (search rules, object_in_table _ _ c.in-Obj.is c.operand-v.ensures.in_table)
 
 pub returns-then-cap_rank : goal.returns-then-cap_rank
 returns-then-cap_rank c =
-    cast_same _ c.args.k c.operand_check-first.ensures (sym c.passes.ensures ∙ not-false _ c.if-not-passes.false-raw)
-    refl c.operand-v.ensures.sees c.in-Obj.is c.cap.ensures.sees
+    cast_same _ c.args.k c.in_ok-operand_check.ensures refl refl c.operand-v.ensures.sees c.in-Obj.is c.cap.ensures.sees
     (sym c.cap_rank.ensures.value ∙ c.if-cap_rank.true ∙ c.cap_rank-in-Obj.ensures.value)
 
 pub returns-in-Absent : goal.returns-in-Absent
-returns-in-Absent c =
-    cast_of_absent _ c.args.k c.operand_check-first.ensures (sym c.passes.ensures ∙ not-false _ c.if-not-passes.false-raw)
-    refl c.operand-v.ensures.sees c.in-Absent.is
+returns-in-Absent c = cast_of_absent _ c.args.k c.in_ok-operand_check.ensures refl refl c.operand-v.ensures.sees c.in-Absent.is
 
 pub returns-in-Chan : goal.returns-in-Chan
-returns-in-Chan c =
-    cast_of_channel _ c.args.k c.operand_check-first.ensures (sym c.passes.ensures ∙ not-false _ c.if-not-passes.false-raw)
-    refl c.operand-v.ensures.sees c.in-Chan.is
+returns-in-Chan c = cast_of_channel _ c.args.k c.in_ok-operand_check.ensures refl refl c.operand-v.ensures.sees c.in-Chan.is
 
 pub returns-else-cap_rank : goal.returns-else-cap_rank
 returns-else-cap_rank c =
-    cast_other _ c.args.k c.operand_check-first.ensures (sym c.passes.ensures ∙ not-false _ c.if-not-passes.false-raw)
-    refl c.operand-v.ensures.sees c.in-Obj.is c.cap.ensures.sees
+    cast_other _ c.args.k c.in_ok-operand_check.ensures refl refl c.operand-v.ensures.sees c.in-Obj.is c.cap.ensures.sees
     (λ e. c.if-cap_rank.false (c.cap_rank.ensures.value ∙ e ∙ sym c.cap_rank-in-Obj.ensures.value))

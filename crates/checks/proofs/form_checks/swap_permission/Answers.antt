@@ -10,6 +10,6 @@ returns c = record {
       let cap = c.cap-a.ensures.sees.sees S rest held made.0 in
       let value-cap = c.cap-b.ensures.sees.sees S rest held made.1 in
       let foreign = c.is_foreign_swap-foreign.ensures.sees S rest held made in
-      into_answered _ _ _ c.permission_check.result foreign (c.is_imm.ensures ∙ ap is_imm cap) (c.may_hold.ensures ∙ ap₂ may_hold cap value-cap)
+      into_answered _ _ _ _ foreign (c.is_imm.ensures ∙ ap is_imm cap) (c.may_hold.ensures ∙ ap₂ may_hold cap value-cap)
       c.permission_check.ensures;
 }

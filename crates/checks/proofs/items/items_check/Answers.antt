@@ -1,28 +1,24 @@
 -- `checks::items::items_check` meets its contract: the first item that does not pass ends the rule; where all pass, so do the operands.
-use mathlib.Core.Path.{sym, ◌∙◌}
-use borrow.Author.Tests.{not-true, not-false}
+use Rattle.std.proofs.Common.{refl}
+use Rattle.checks.proofs.CheckLaws.{fault_handed}
 use Rattle.checks.proofs.ItemChecks.{items_for_operands, first_ends, second_ends, third_ends, fourth_ends}
 use Rattle.checks.proofs.items.items_check.Goals as goal
 
-pub returns-then-not-passes : goal.returns-then-not-passes
-returns-then-not-passes c = items_for_operands (first_ends _ _ _ _ c.item_check-ka.ensures (sym c.passes.ensures ∙ not-true _ c.if-not-passes.true-raw))
+pub returns-in_err-item_check : goal.returns-in_err-item_check
+returns-in_err-item_check c =
+    rw (fault_handed c.in_err-item_check.field-0.0 c.from_residual.result c.from_residual.ensures.1) (items_for_operands (first_ends _ _ _ _ c.in_err-item_check.ensures refl))
 
-pub returns-then-not-passes-2 : goal.returns-then-not-passes-2
-returns-then-not-passes-2 c =
-    items_for_operands
-    (second_ends _ _ _ _ c.item_check-ka.ensures (sym c.passes.ensures ∙ not-false _ c.if-not-passes.false-raw)
-    c.item_check-kb.ensures (sym c.passes-2.ensures ∙ not-true _ c.if-not-passes-2.true-raw))
+pub returns-in_err-item_check-2 : goal.returns-in_err-item_check-2
+returns-in_err-item_check-2 c =
+    rw (fault_handed c.in_err-item_check-2.field-0.0 c.from_residual-in_err-item_check-2.result c.from_residual-in_err-item_check-2.ensures.1)
+    (items_for_operands (second_ends _ _ _ _ c.in_ok-item_check.ensures refl c.in_err-item_check-2.ensures refl))
 
-pub returns-then-not-passes-3 : goal.returns-then-not-passes-3
-returns-then-not-passes-3 c =
-    items_for_operands
-    (third_ends _ _ _ _ c.item_check-ka.ensures (sym c.passes.ensures ∙ not-false _ c.if-not-passes.false-raw)
-    c.item_check-kb.ensures (sym c.passes-2.ensures ∙ not-false _ c.if-not-passes-2.false-raw)
-    c.item_check-kc.ensures (sym c.passes-3.ensures ∙ not-true _ c.if-not-passes-3.true-raw))
+pub returns-in_err-item_check-3 : goal.returns-in_err-item_check-3
+returns-in_err-item_check-3 c =
+    rw (fault_handed c.in_err-item_check-3.field-0.0 c.from_residual-in_err-item_check-3.result c.from_residual-in_err-item_check-3.ensures.1)
+    (items_for_operands (third_ends _ _ _ _ c.in_ok-item_check.ensures refl c.in_ok-item_check-2.ensures refl c.in_err-item_check-3.ensures refl))
 
 pub returns : goal.returns
 returns c =
     items_for_operands
-    (fourth_ends _ _ _ _ c.item_check-ka.ensures (sym c.passes.ensures ∙ not-false _ c.if-not-passes.false-raw)
-    c.item_check-kb.ensures (sym c.passes-2.ensures ∙ not-false _ c.if-not-passes-2.false-raw)
-    c.item_check-kc.ensures (sym c.passes-3.ensures ∙ not-false _ c.if-not-passes-3.false-raw) c.item_check.ensures)
+    (fourth_ends _ _ _ _ c.in_ok-item_check.ensures refl c.in_ok-item_check-2.ensures refl c.in_ok-item_check-3.ensures refl c.item_check-4.ensures)

@@ -10,22 +10,22 @@ use Rattle.turn.proofs.copies.copy_from.Goals as goal
 pub walk-count-requires : goal.walk-count-requires
 walk-count-requires c = (search rules, search rules, search rules, c.requires.2, omega (arith, few_unmet 256 (replicate 256 0)))
 
-pub any_foreign_met-foreign-requires : goal.any_foreign_met-foreign-requires
-any_foreign_met-foreign-requires c =
+pub any_foreign_met-requires : goal.any_foreign_met-requires
+any_foreign_met-requires c =
     (search rules, omega (arith, met_few c.walk-count.ensures.grows))
 
-pub overflow_add-used_up : goal.overflow_add-used_up
-overflow_add-used_up c =
+pub overflow_add-first : goal.overflow_add-first
+overflow_add-first c =
     omega (arith, met_few c.walk-count.ensures.grows)
 
-pub returns-then-foreign : goal.returns-then-foreign
-returns-then-foreign c =
-    from_foreign c.walk-count.ensures.walks _ _ c.any_foreign_met-foreign.ensures c.object_count-first.ensures.sees c.if-foreign.true
+pub returns-then-any_foreign_met : goal.returns-then-any_foreign_met
+returns-then-any_foreign_met c =
+    from_foreign c.walk-count.ensures.walks _ _ c.any_foreign_met.ensures c.object_count-first.ensures.sees c.if-any_foreign_met.true
 
-pub returns-then-used_up : goal.returns-then-used_up
-returns-then-used_up c =
-    from_used_up c.walk-count.ensures.walks _ _ c.any_foreign_met-foreign.ensures c.object_count-first.ensures.sees c.if-foreign.false
-    c.if-used_up.true
+pub returns-then-first-count-gt256 : goal.returns-then-first-count-gt256
+returns-then-first-count-gt256 c =
+    from_used_up c.walk-count.ensures.walks _ _ c.any_foreign_met.ensures c.object_count-first.ensures.sees c.if-any_foreign_met.false
+    c.if-first-count-gt256.true
 
 pub add_copies-requires : goal.add_copies-requires
 add_copies-requires c =
@@ -33,5 +33,5 @@ add_copies-requires c =
 
 pub returns : goal.returns
 returns c =
-    from_copied c.walk-count.ensures.walks _ _ c.any_foreign_met-foreign.ensures c.object_count-first.ensures.sees c.if-foreign.false
-    c.if-used_up.false c.add_copies.ensures
+    from_copied c.walk-count.ensures.walks _ _ c.any_foreign_met.ensures c.object_count-first.ensures.sees c.if-any_foreign_met.false
+    c.if-first-count-gt256.false c.add_copies.ensures

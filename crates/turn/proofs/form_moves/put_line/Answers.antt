@@ -1,26 +1,26 @@
 -- `turn::form_moves::put_line` meets its contract: past its operand and its target the check is `put_into`'s; the operand's value is put as the message, then its slot is left.
-use borrow.Author.Tests.{not-true, not-false}
-use mathlib.Core.Path.{refl, sym, ◌∙◌}
+use Rattle.std.proofs.Common.{refl}
 use Rattle.table.proofs.StateReads.{channel_in_table}
 use Rattle.checks.proofs.ChannelChecks.{put_no_operand, put_no_target, put_of_object, put_to_channel}
-use Rattle.turn.proofs.TurnSteps.{line_halts, line_moves}
+use Rattle.checks.specs.declared.form_checks.Halt.TheVariants.{Stops}
+use Rattle.turn.proofs.TurnSteps.{line_halts, line_hands_on, line_moves}
 use Rattle.turn.proofs.SendLines.{put_answers, put_writes}
 use Rattle.std.proofs.Common.{rules}
 use Rattle.turn.proofs.form_moves.put_line.Goals as goal
 
-pub returns-then-not-passes : goal.returns-then-not-passes
-returns-then-not-passes c = let fails = sym c.passes.ensures ∙ not-true _ c.if-not-passes.true-raw in
-    line_halts (put_answers _ _ (put_no_operand _ _ c.operand_check-first.ensures fails)) fails
+pub returns-in_err-operand_check : goal.returns-in_err-operand_check
+returns-in_err-operand_check c =
+    line_hands_on (Stops c.in_err-operand_check.field-0.0) c.from_residual.ensures.1
+    (put_answers _ _ (put_no_operand _ _ c.in_err-operand_check.ensures refl))
 
-pub put_into-k-requires : goal.put_into-k-requires
-put_into-k-requires c =
+pub put_into-requires : goal.put_into-requires
+put_into-requires c =
     (search rules, channel_in_table _ _ c.in-Chan.is c.seen-x.ensures.in_table, c.operand-v.ensures.in_table)
 
-pub returns-then-not-passes-2 : goal.returns-then-not-passes-2
-returns-then-not-passes-2 c =
-    line_halts (put_answers _ _ (put_to_channel _ _ c.operand_check-first.ensures (sym c.passes.ensures ∙ not-false _ c.if-not-passes.false-raw)
-    c.seen-x.ensures.sees c.in-Chan.is refl c.operand-v.ensures.sees c.put_into-k.ensures))
-    (sym c.passes-in-Chan.ensures ∙ not-true _ c.if-not-passes-2.true-raw)
+pub returns-in_err-put_into-in-Chan : goal.returns-in_err-put_into-in-Chan
+returns-in_err-put_into-in-Chan c =
+    line_hands_on c.in_err-put_into-in-Chan.field-0.0 c.from_residual-in_err-put_into-in-Chan.ensures.1
+    (put_answers _ _ (put_to_channel _ _ c.in_ok-operand_check.ensures refl c.seen-x.ensures.sees c.in-Chan.is refl c.operand-v.ensures.sees c.in_err-put_into-in-Chan.ensures))
 
 pub put_message-requires : goal.put_message-requires
 put_message-requires c =
@@ -28,15 +28,14 @@ put_message-requires c =
 
 pub returns-in-Absent : goal.returns-in-Absent
 returns-in-Absent c =
-    line_halts (put_answers _ _ (put_no_target _ _ c.operand_check-first.ensures (sym c.passes.ensures ∙ not-false _ c.if-not-passes.false-raw) c.seen-x.ensures.sees c.in-Absent.is)) refl
+    line_halts (put_answers _ _ (put_no_target _ _ c.in_ok-operand_check.ensures refl c.seen-x.ensures.sees c.in-Absent.is))
 
 pub returns-in-Obj : goal.returns-in-Obj
 returns-in-Obj c =
-    line_halts (put_answers _ _ (put_of_object _ _ c.operand_check-first.ensures (sym c.passes.ensures ∙ not-false _ c.if-not-passes.false-raw) c.seen-x.ensures.sees c.in-Obj.is)) refl
+    line_halts (put_answers _ _ (put_of_object _ _ c.in_ok-operand_check.ensures refl c.seen-x.ensures.sees c.in-Obj.is))
 
-pub returns-else-not-passes-2 : goal.returns-else-not-passes-2
-returns-else-not-passes-2 c =
-    line_moves {k = c.put_into-k.result} (put_answers _ _ (put_to_channel _ _ c.operand_check-first.ensures (sym c.passes.ensures ∙ not-false _ c.if-not-passes.false-raw)
-    c.seen-x.ensures.sees c.in-Chan.is refl c.operand-v.ensures.sees c.put_into-k.ensures))
-    (sym c.passes-in-Chan.ensures ∙ not-false _ c.if-not-passes-2.false-raw)
+pub returns-in_ok-put_into-in-Chan : goal.returns-in_ok-put_into-in-Chan
+returns-in_ok-put_into-in-Chan c =
+    line_moves (put_answers _ _ (put_to_channel _ _ c.in_ok-operand_check.ensures refl c.seen-x.ensures.sees c.in-Chan.is refl c.operand-v.ensures.sees
+    c.in_ok-put_into-in-Chan.ensures))
     (put_writes _ _ c.seen-x.ensures.sees c.in-Chan.is c.operand-v.ensures.sees c.put_message.ensures c.leave.ensures)
