@@ -1,7 +1,8 @@
 #!/usr/bin/env python3
 """counted.py: no holder is counted afresh. In the source of the entry that tells a holder count and of all that it stands on, but for what reads the
-script before the first turn, there is no loop, nor a function that calls itself, but those of the two tables below: so that no turn, no run's end
-and no answer goes over the objects, the frames or the slots. Of the second table no turn and no run calls anything.
+script before the first turn, there is no loop, no call of the library that goes over a slice, nor a function that calls itself, but those of the
+two tables below: so that no turn, no run's end and no answer goes over the objects, the frames or the slots. Of the second table no turn and no
+run calls anything.
 
 The test is tried on sources that it must find, and on sources that it must pass. The last line is 'N passed, M failed'."""
 import glob
@@ -15,12 +16,12 @@ ROOT = os.path.dirname(os.path.dirname(os.path.abspath(__file__)))
 ENTRY = 'holders'
 READING = ['grammar', 'reader']
 
-# What may go round, by its function: the head of its loop, or that it calls itself; and what it goes over.
+# What may go round, by its function: the head of its loop, the call that goes over a slice, or that it calls itself; and what it goes over.
 ITSELF = 'calls itself'
 ALLOWED = [
-    ('table::release_slots', 'while i < n', 'the slots of the one frame that ends'),
-    ('table::clear_frame', 'while i < 19', 'the words of the one frame that ends'),
-    ('table::copy_table', 'while i < 8192', 'the words of a run that was made, handed out'),
+    ('table::release_slots', 'for i in 0..n', 'the slots of the one frame that ends'),
+    ('table::clear_frame', 's[at..at + 19].fill', 'the words of the one frame that ends'),
+    ('table::copy_table', 't[..8192].copy_from_slice', 'the words of a run that was made, handed out'),
     ('walk::walk', 'while j < 4', 'the fields of one object that a copy meets'),
     ('walk::walk', ITSELF, 'the objects that a copy meets, each once'),
     ('turn::any_foreign_met', 'while i < count', 'the objects that a copy has met'),
@@ -32,9 +33,9 @@ ALLOWED = [
 ]
 # What stands beside these and is for others: the writer, and the stripped script.
 ELSEWHERE = [
-    ('table::same_table', 'while i < 8192', 'the words of two tables'),
-    ('table::strip_program', 'while n < 672', 'the lines of a script'),
-    ('table::erase_state', 'while o < 256', 'the objects, each made unsafe'),
+    ('table::same_table', '&t[..8192] ==', 'the words of two tables'),
+    ('table::strip_program', 'for n in 0..672', 'the lines of a script'),
+    ('table::erase_state', 'for o in 0..256', 'the objects, each made unsafe'),
 ]
 
 # Each with the crate that it would stand in.
@@ -58,6 +59,10 @@ FOUND = [
     ('turn', 'use table::{clear_slot, same_table};\nfn same(s: &[u16]) -> bool {\n    same_table(s, s)\n}'),
     ('turn', 'use table::{\n    clear_slot,\n    erase_state as fresh,\n};\nfn count(s: &mut [u16]) {\n    fresh(s);\n}'),
     ('turn', 'fn count(s: &[u16])\n    ensures { result ≡ {s} }\n{\n    loop {\n    }\n}'),
+    ('turn', 'fn count(s: &[u16]) -> usize {\n    s.iter().filter(|w| **w == 1).count()\n}'),
+    ('turn', 'fn met(marks: &[bool; 256]) -> bool {\n    marks[1..].contains(&true)\n}'),
+    ('table', 'fn clear_frame(s: &mut [u16]) {\n    s[at..at + 8192].fill(0);\n}'),
+    ('turn', 'fn same(s: &[u16], t: &[u16]) -> bool {\n    &s[..8192] != t\n}'),
 ]
 PASSED = [
     ('turn', '// a while over all objects, or a loop\nfn put(s: &mut [u16]) {\n    table::put(s);\n}'),
@@ -71,16 +76,23 @@ PASSED = [
     ('rules', 'const WORD: [u8; 7] = *b"while (";'),
     ('run', 'fn all_finished(s: &[u16]) -> bool {\n    let mut t: usize = 0;\n    while t < 16 { // every thread\n        t += 1;\n    }\n    true\n}'),
     ('walk', 'pub fn walk(s: &[u16], v: Value) {\n    let mut j: u16 = 0;\n    while j < 4 {\n        walk(s, v);\n        j += 1;\n    }\n}'),
-    ('table', 'pub fn erase_state(s: &mut [u16]) {\n    let mut o: u16 = 0;\n    while o < 256 {\n        erase_object(s, o);\n        o += 1;\n    }\n}'),
+    ('table', 'pub fn erase_state(s: &mut [u16]) {\n    for o in 0..256 {\n        erase_object(s, o);\n    }\n}'),
+    ('table', 'fn clear_frame(s: &mut [u16]) {\n    s[at..at + 19].fill(0);\n}'),
+    ('rules', 'fn number(self) -> u16 {\n    self as u16\n}\n\nimpl From<u16> for Form {\n    fn from(n: u16) -> Form {\n        Form::Kind\n    }\n}'),
 ]
 
 
 BELOW = below()
 
 
+# The library's methods that go over a slice, each with what stands before it, and slices compared.
+OVER = (r'[\w.]+(?:\[[^\]]*\])?\.(?:iter|iter_mut|into_iter|chunks|windows|split|fill|copy_from_slice|clone_from_slice|copy_within|contains'
+        r'|starts_with|ends_with|reverse|rotate_left|rotate_right|sort|sort_unstable|binary_search|swap_with_slice|concat)(?=\()|&\w+\[[^\]]*\.\.[^\]]*\] [!=]=')
+
+
 def code(source):
-    """The source without its remarks, contracts and texts."""
-    return without_clauses(re.sub(r'//[^\n]*|^ghost use [^\n]*|b"(?:[^"\\]|\\.)*"', '', source, flags=re.S | re.M))
+    """The source without its remarks, contracts, texts and heads of impl blocks."""
+    return re.sub(r'^impl\b[^{]*', '', without_clauses(re.sub(r'//[^\n]*|^ghost use [^\n]*|b"(?:[^"\\]|\\.)*"', '', source, flags=re.S | re.M)), flags=re.M)
 
 
 def imported(source):
@@ -104,12 +116,12 @@ def called(crate, body, names):
 
 
 def rounds(crate, sources):
-    """What goes round in a crate: each loop, and each function that calls itself, also by way of others; and what each function calls."""
+    """What goes round in a crate: each loop, each call that goes over a slice, and each function that calls itself, also by way of others; and what each function calls."""
     found, calls = [], {}
     for source in map(code, sources):
         names = imported(source)
         for name, body in functions(source):
-            found += [('%s::%s' % (crate, name), ' '.join(head.split())) for head in re.findall(r'\b((?:while|for|loop)\b[^{]*)\{', body)]
+            found += [('%s::%s' % (crate, name), ' '.join(head.split())) for head in re.findall(r'\b((?:while|for|loop)\b[^{]*)\{', body) + re.findall(OVER, body)]
             calls.setdefault((crate, name), set()).update(called(crate, body, names))
     for function, reached in calls.items():
         met = list(reached)

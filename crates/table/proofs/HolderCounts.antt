@@ -33,20 +33,18 @@ module _ {l rest : List ℕ} {N : ℕ → ℕ} {S : State} (held : Counted l N S
 -- ---- On the words
 
 -- what is written, by the value
-pub absent_uncounted : (d : ℕ) {v : Value} (l : List ℕ) → v ≡ Absent → l ≡ counted_by d v l
+pub nothing_counted : (d : ℕ) (v : Value) (l : List ℕ) → ((n : ℕ) → v ≡ Obj n → ⊥) → l ≡ counted_by d v l
 unfolding counted_by
-absent_uncounted d l is = rw is refl
+nothing_counted d Absent l other = refl
+nothing_counted d (Obj n) l other = absurd (other n refl)
+nothing_counted d (Chan c) l other = refl
 
-pub channel_uncounted : (d : ℕ) {v : Value} {c : ℕ} (l : List ℕ) → v ≡ Chan c → l ≡ counted_by d v l
+pub object_counted : (d : ℕ) {v : Value} (n : ℕ) (l : List ℕ) → v ≡ Obj n → set l (11 + n * 8) ((get_or l (11 + n * 8) 0 + d) % 65536) ≡ counted_by d v l
 unfolding counted_by
-channel_uncounted d l is = rw is refl
+object_counted d n l is = rw is refl
 
-pub object_counted : (d : ℕ) {v : Value} {n x : ℕ} (l : List ℕ) → v ≡ Obj n → x ≡ (get_or l (11 + n * 8) 0 + d) % 65536 → set l (11 + n * 8) x ≡ counted_by d v l
-unfolding counted_by
-object_counted d {n = n} l is e = rw (is, e) refl
-
-pub counts_by : (d : ℕ) (v : Value) (l : List ℕ) {l₁ : List ℕ} → InTable v → l₁ ≡ counted_by d v l → (l₁ ≡ counted_by d v l) × Counts (recount d v) l l₁
-counts_by d v l in_table is = (is, record { counts = λ S rest held. held_by is (value_recounted held d v in_table) })
+pub counts_by : (d : ℕ) (v : Value) {l l₁ : List ℕ} → InTable v → l₁ ≡ counted_by d v l → Counts (recount d v) l l₁
+counts_by d v in_table is = record { counts = λ S rest held. held_by is (value_recounted held d v in_table) }
 
 -- ---- The slots of a frame
 

@@ -1,7 +1,7 @@
 -- Frames pushed and dropped, the fresh table, and the line where a thread stands: what the words written make of the state.
-use Rattle.std.proofs.Common.{◌≡◌, ℕ, suc, ◌+◌, ◌*◌, ◌%◌, ◌<◌, ◌≤◌, List, length, get_or, take, set, replicate, sym, refl, ap, ◌∙◌, append_assoc, append-nil, add-one, arith}
-use lib.ListN.{length-replicate, get_or-replicate, get_or-eq_default}
-use lib.Seq.{paste, paste-suc}
+use Rattle.std.proofs.Common.{◌≡◌, ℕ, suc, ◌+◌, ◌-◌, ◌*◌, ◌%◌, ◌<◌, ◌≤◌, List, length, get_or, take, drop, set, replicate, sym, refl, ap, ◌∙◌, append_assoc, append-nil, arith, length-drop, length-take-le}
+use lib.ListN.{length-replicate, get_or-eq_default}
+use lib.Seq.{paste}
 use Rattle.rules.specs.Lists.{pad, cells}
 use Rattle.rules.specs.declared.Value.{Value}
 use Rattle.rules.specs.Script.{Program, lines_of, block_at}
@@ -28,14 +28,11 @@ length_zeros : (n : ℕ) → length (zeros n) ≡ n
 unfolding zeros
 length_zeros n = length-replicate n 0
 
-get_zeros : (n i : ℕ) → i < n → get_or (zeros n) i 0 ≡ 0
+-- what is left of a part of k words that is filled with 0
+pub filled_with_zeros : (l m : List ℕ) (at k : ℕ) → at + k ≤ length l → m ≡ replicate (length (take (at + k - at) (drop at l))) 0 → m ≡ zeros k
 unfolding zeros
-get_zeros n i h = get_or-replicate n i 0 0 h
-
--- one more of n zeros is written
-pub zero_more : (l : List ℕ) (at n i p : ℕ) → p ≡ at + i → at + i < length l → i < n → set (paste l at (zeros n) i) p 0 ≡ paste l at (zeros n) (i + 1)
-zero_more l at n i p e h k =
-    rw (e, add-one i) (ap (set (paste l at (zeros n) i) (at + i)) (sym (get_zeros n i k)) ∙ paste-suc l at (zeros n) i 0 h (rw (length_zeros n) k))
+filled_with_zeros l m at k h e =
+    let whole = length-take-le (at + k - at) (drop at l) (omega (arith, length-drop at l)) in e ∙ ap (λ n. replicate n 0) (omega (arith, whole))
 
 -- the state at the start is zeros but for three words
 start_words : set (set (set fresh_table 1 1) 2056 1) 2060 1 ≡ state_words start

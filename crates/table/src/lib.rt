@@ -1,4 +1,5 @@
 // The two tables: the only code that knows where a word stands. Everything above it speaks of the abstract program and state.
+// A table is lent as a slice of 8,192 words or more: an array type would be narrower than what the public functions take (kept: it may not change).
 #![tactic(auto)]
 
 mod program;

@@ -2,7 +2,7 @@
 ghost use Rattle.std.specs.Prelude.{◌≡◌, ◌+◌, ◌*◌, ◌%◌, ◌<◌, ◌≤◌, [], ◌∷◌, ◌++◌, length, take, drop, if◌then◌else◌, nat_lt, slice_index, slice_set};
 ghost use Rattle.table.specs.ProgramTable.{LineAdded, OpenerAdded, Counted, Same, LineCount, UsedWords, EditionIs, LineWord, BlockForm, FirstLine, KindFields, KindMethod};
 
-// Line n of the text: the number of its form, and its parts.
+// Line n of the text: the number of its form, and its parts. (Kept apart: by tests/straight.py the crates that read have no array but the table.)
 pub fn add_line(t: &mut [u16], n: usize, form: u16, a: u16, b: u16, c: u16, d: u16, e: u16, f: u16)
     requires { (8192 ≤ length t.old) × (n < 672) }
     ensures t_after { t.new ≡ take (72 + n * 8) t.old ++ ((form ∷ a ∷ b ∷ c ∷ d ∷ e ∷ f ∷ 0 ∷ []) ++ drop (80 + n * 8) t.old) }
@@ -46,11 +46,7 @@ pub fn copy_table(t: &mut [u16], from: &[u16])
     requires { (8192 ≤ length t.old) × (length from.now ≡ 8192) }
     ensures { t.new ≡ from.now ++ drop 8192 t.old }
 {
-    let mut i: usize = 0; // from the first word
-    while i < 8192 { // to the last word
-        t[i] = from[i];
-        i += 1;
-    }
+    t[..8192].copy_from_slice(from);
 }
 
 // Whether the first words of a table are all the words of another.
@@ -58,14 +54,7 @@ pub fn same_table(t: &[u16], words: &[u16]) -> bool
     requires { (8192 ≤ length t.now) × (length words.now ≡ 8192) }
     ensures { Same t.now words.now result }
 {
-    let mut i: usize = 0;
-    while i < 8192 { // the rows past the last line too
-        if t[i] != words[i] {
-            return false;
-        }
-        i += 1;
-    }
-    true
+    &t[..8192] == words // the rows past the last line too
 }
 
 // How many lines the text has.

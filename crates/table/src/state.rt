@@ -5,12 +5,13 @@ ghost use Rattle.rules.specs.declared.Value.TheVariants.{Absent};
 ghost use Rattle.rules.specs.State.{object_at, thread_at, channel_at, slot_at};
 ghost use Rattle.rules.specs.Tables.{cap_of, word, sender_word};
 ghost use Rattle.rules.specs.Turn.{started};
-ghost use Rattle.table.specs.StateTable.{value_of, InTable, Starts, Sees, Becomes, Any, Stands, frame_at, given, cleared, HasRoom, HasSlot, FieldIn, HasField, stored, channelled, Puts, sending, Pushes, MadeOf, Makes, Next, Innermost, callee, called, left, raised, lowered, counted_by, Counts, Stores, Releases, Drops};
+ghost use Rattle.table.specs.StateTable.{value_of, InTable, Starts, Sees, Becomes, Any, Stands, frame_at, given, cleared, HasRoom, HasSlot, FieldIn, HasField, stored, channelled, Puts, sending, Pushes, MadeOf, Makes, Next, Innermost, callee, called, left, recount, raised, lowered, counted_by, Counts, Stores, Releases, Drops};
 
 use super::standing::Here;
 use rules::{Cap, Value};
 
 // 0 is absent, 1 + n object n, 257 + c channel c.
+// (Kept functions: `Value` is of rules, which knows no table, so no `From` of it can stand here; and `pack` has a `requires`, as no `From` may.)
 fn unpack(w: u16) -> Value
     ensures { (result ≡ value_of w) × InTable result }
 {
@@ -184,20 +185,25 @@ pub fn holder_count(s: &[u16], o: u16) -> u16
     s[11 + o as usize * 8]
 }
 
+// The count of an object's holders goes up by d; nothing else has one.
+fn recount(s: &mut [u16], v: Value, d: u16)
+    requires { (8192 ≤ length s.old) × InTable v }
+    ensures s_after { s.new ≡ counted_by d v s.old }
+    ensures counts { Counts (recount d v) s.old s.new }
+{
+    if let Value::Obj(n) = v {
+        let at = 11 + n as usize * 8;
+        s[at] = s[at].wrapping_add(d);
+    }
+}
+
 // The value gets a holder more.
 pub fn hold(s: &mut [u16], v: Value)
     requires { (8192 ≤ length s.old) × InTable v }
     ensures s_after { s.new ≡ counted_by 1 v s.old }
     ensures counts { Counts (raised v) s.old s.new }
 {
-    match v {
-        Value::Absent => {}
-        Value::Chan(_) => {}
-        Value::Obj(n) => {
-            let at = 11 + n as usize * 8;
-            s[at] = std::num::wrapping_add_u16(s[at], 1);
-        }
-    }
+    recount(s, v, 1);
 }
 
 // The value gets a holder less.
@@ -206,14 +212,7 @@ pub fn release(s: &mut [u16], v: Value)
     ensures s_after { s.new ≡ counted_by 65535 v s.old }
     ensures counts { Counts (lowered v) s.old s.new }
 {
-    match v {
-        Value::Absent => {}
-        Value::Chan(_) => {}
-        Value::Obj(n) => {
-            let at = 11 + n as usize * 8;
-            s[at] = std::num::wrapping_add_u16(s[at], 65535); // one less
-        }
-    }
+    recount(s, v, 65535); // one less
 }
 
 // ---- Where a thread stands
@@ -339,6 +338,7 @@ fn put_object(
 }
 
 // Object n is made, with these values as its fields: Absent for each that its kind does not have.
+// (Kept apart: by tests/straight.py the crates that read have no array but the table.)
 pub fn add_object(
     s: &mut [u16],
     creator: u16,
@@ -393,11 +393,7 @@ fn clear_frame(s: &mut [u16], h: Here)
 {
     let at = h.frame;
     let t = h.thread;
-    let mut i: usize = 0;
-    while i < 19 {
-        s[at + i] = 0;
-        i += 1;
-    }
+    s[at..at + 19].fill(0);
     s[2056 + t * 306] = h.depth as u16;
     s[2057 + t * 306] = 0;
 }
@@ -408,11 +404,9 @@ fn release_slots(s: &mut [u16], h: Here)
     ensures { Releases h.thread h.depth s.old s.new }
 {
     let n = slot_count(s, h.thread, h.depth) as usize % 17;
-    let mut i: usize = 0;
-    while i < n {
+    for i in 0..n {
         let v = slot(s, h, i);
         release(s, v);
-        i += 1;
     }
 }
 

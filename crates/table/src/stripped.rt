@@ -13,30 +13,14 @@ use rules::{Cap, Form};
 fn names_cap(form: Form) -> bool
     ensures { result ≡ names_cap form }
 {
-    match form {
-        Form::NoForm => false,
-        Form::Kind => false,
-        Form::Thread => false,
-        Form::Method => false,
-        Form::Give => false,
-        Form::Value => false,
-        Form::Field => false,
-        Form::Swap => false,
-        Form::Call => false,
-        Form::New => true,
-        Form::Cast => true,
-        Form::Spawn => false,
-        Form::Send => false,
-        Form::Recv => false,
-        Form::Copy => true,
-    }
+    matches!(form, Form::New | Form::Cast | Form::Copy)
 }
 
 // The word of unsafe.
 fn unsafe_word() -> u16
     ensures { result ≡ 3 }
 {
-    rules::cap_rank(Cap::Unsafe) as u16
+    Cap::Unsafe.rank() as u16
 }
 
 // Line n with unsafe for its capability; a row past the last line has no form.
@@ -44,7 +28,7 @@ fn strip_line(t: &mut [u16], n: usize)
     requires { (8192 ≤ length t.old) × (n < 672) }
     ensures { LineStripped n t.old t.new }
 {
-    if names_cap(rules::form_of(line_word(t, n, 0))) {
+    if names_cap(Form::from(line_word(t, n, 0))) {
         t[73 + n * 8] = unsafe_word();
     }
 }
@@ -54,10 +38,8 @@ pub fn strip_program(t: &mut [u16])
     requires { 8192 ≤ length t.old }
     ensures { Strips t.old t.new }
 {
-    let mut n: usize = 0;
-    while n < 672 { // as many lines as a table has room for
+    for n in 0..672 { // as many lines as a table has room for
         strip_line(t, n);
-        n += 1;
     }
 }
 
@@ -76,9 +58,7 @@ pub fn erase_state(s: &mut [u16])
     requires { 8192 ≤ length s.old }
     ensures { Becomes s.old (λ S. length S.objects ≤ mosts.objects) erase s.new }
 {
-    let mut o: u16 = 0;
-    while o < 256 { // as many objects as a table has room for
+    for o in 0..256 { // as many objects as a table has room for
         erase_object(s, o);
-        o += 1;
     }
 }

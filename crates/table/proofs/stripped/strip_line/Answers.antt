@@ -6,12 +6,12 @@ use Rattle.table.proofs.stripped.strip_line.Goals as goal
 
 pub returns-then-names_cap : goal.returns-then-names_cap
 returns-then-names_cap c =
-    let names = sym (c.names_cap.ensures ∙ ap names_cap c.form_of.ensures) ∙ c.if-names_cap.true in
+    let names = sym (c.names_cap.ensures ∙ ap names_cap c.from.ensures) ∙ c.if-names_cap.true in
     let a = c.args in
     rw c.unsafe_word.ensures (line_stripped a.n c.line_word.result (search rules) c.line_word.ensures.value _ refl names)
 
 pub returns-else-names_cap : goal.returns-else-names_cap
 returns-else-names_cap c =
-    let names = sym (c.names_cap.ensures ∙ ap names_cap c.form_of.ensures) ∙ c.if-names_cap.false in
+    let names = sym (c.names_cap.ensures ∙ ap names_cap c.from.ensures) ∙ c.if-names_cap.false in
     let a = c.args in
     line_kept a.n c.line_word.result (search rules) c.line_word.ensures.value names
