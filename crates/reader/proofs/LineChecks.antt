@@ -10,7 +10,9 @@ use lib.Dec.{T, ltb, leb, eqb}
 use lib.ListN.{get_or}
 use borrow.Author.Tests.{lt-ltb, le-ltb, leb-true, leb-false, ltb-true, ltb-false, eqb-true, ne_eqb, not-true}
 use mir.Val.{has_key}
+use Rattle.std.specs.Prelude.{Result}
 use Rattle.rules.specs.declared.Cap.{Cap}
+use Rattle.rules.specs.declared.faults.Fault.{Fault}
 use Rattle.rules.specs.declared.forms.Form.{Form as Name}
 use Rattle.rules.specs.declared.forms.Form.TheVariants as N
 use Rattle.rules.specs.declared.Mosts.{Mosts}
@@ -30,7 +32,7 @@ use Rattle.grammar.specs.Items.{past}
 use Rattle.grammar.specs.Decoded.{over_line, Tells}
 use Rattle.table.specs.ProgramTable.{sort_number}
 use Rattle.reader.specs.declared.faults.Sofar.{Sofar}
-use Rattle.reader.specs.Sofar.{place_of, edition_of, so_far, full_before, InPlace, Tidy, Full, fault_of, Faults}
+use Rattle.reader.specs.Sofar.{place_of, edition_of, so_far, full_before, InPlace, Tidy, Full, fault_of, found, Faults}
 
 -- ---- The number of a form
 
@@ -310,15 +312,15 @@ fault_by_lem m r l F tidy tells =
     (fault_of_lem (in_place (so_far r) F) (over_line F || full_before m (so_far r) F) (ltb r.filled (past (slots_in F))) (eqb r.opener 3 && any takes_first (operands_in F)) F (read_on (so_far r) F))
 
 module _ {m : Mosts} {r : Sofar} {l : Line} {placed : Bool} where
-  pub faults : {full : Bool} {k : ℕ} → InPlace r l.form l.a placed → Full m r l.form full
-      → fault_by placed l.over full (ltb r.filled l.need) (eqb r.opener 3) l.own ≡ k → Faults m r l k
+  pub faults : {full : Bool} {x : Result Unit Fault} → InPlace r l.form l.a placed → Full m r l.form full
+      → fault_by placed l.over full (ltb r.filled l.need) (eqb r.opener 3) l.own ≡ found x → Faults m r l x
   faults p f e = record {
     is = λ tidy F tells. sym e ∙ rw (p.is F tells.number tells.part, f.is tidy F tells.number) (sym (fault_by_lem m r l F tidy tells));
   }
 
   -- where it does not matter what was read before the line
-  pub faults_alone : {k : ℕ} → InPlace r l.form l.a placed
-      → ((full : Bool) → fault_by placed l.over full (ltb r.filled l.need) (eqb r.opener 3) l.own ≡ k) → Faults m r l k
+  pub faults_alone : {x : Result Unit Fault} → InPlace r l.form l.a placed
+      → ((full : Bool) → fault_by placed l.over full (ltb r.filled l.need) (eqb r.opener 3) l.own ≡ found x) → Faults m r l x
   faults_alone p e = record {
     is = λ tidy F tells. sym (e (full_before m (so_far r) F)) ∙ rw (p.is F tells.number tells.part) (sym (fault_by_lem m r l F tidy tells));
   }

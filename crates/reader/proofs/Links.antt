@@ -10,6 +10,11 @@ use lib.Dec.{ltb, eqb, leb-zero, leb-suc-zero, leb-suc-suc, eqb-suc-zero}
 use lib.ListN.{length, get_or, drop, drop_of_length-le}
 use lib.Seq.{drop-cons}
 use borrow.Author.Tests.{lt-ltb, le-ltb, ltb-false, eq-eqb, ne_eqb, eqb-true, eqb-false}
+use native.Mathlib.Nat.{zero-add}
+use Rattle.std.specs.List.{AllWithin, HoldsAt, range_with_len}
+use Rattle.std.specs.Option.{MatchOption}
+use Rattle.std.proofs.lemmas.List.FromFn.{length-range_with_len, get_or-range_with_len}
+use Rattle.std.specs.Prelude.{Option, Some, None}
 use Rattle.rules.specs.declared.Cap.{Cap}
 use Rattle.rules.specs.Mosts as Most
 use Rattle.rules.specs.Numbers as No
@@ -21,6 +26,7 @@ use Rattle.rules.proofs.ListLaws.{by_bool, or_false, every_get, every_at}
 use Rattle.table.specs.ProgramTable.{no_form, sort_number, LineWord}
 use Rattle.table.proofs.ProgramLines.{blocks_of_lines, kind_stands, kind_there}
 use Rattle.grammar.specs.Decoded.{over_line}
+use Rattle.reader.specs.declared.scanning.Counts.{Counts}
 use Rattle.reader.specs.Linking.{Table, form_at, Opened, LineDangles, FirstDangling}
 
 -- ---- Tests
@@ -281,11 +287,11 @@ pub record Reached (P : Program) (n : ℕ) : Type 0 where
   opened_so_far : Opened P n blocks
   links : link P 0 0 (lines_of P) ≡ link P blocks n (drop n (lines_of P))
 
-pub record LinkedTo (t : List ℕ) (kinds blocks lines n : ℕ) : Type 0 where
-  pub is : (P : Program) → Table t P → kinds ≡ length P.kinds → blocks ≡ length P.blocks → lines ≡ length (lines_of P) → Reached P n
+pub record LinkedTo (t : List ℕ) (c : Counts) (n : ℕ) : Type 0 where
+  pub is : (P : Program) → Table t P → c.kinds ≡ length P.kinds → c.blocks ≡ length P.blocks → c.lines ≡ length (lines_of P) → Reached P n
 
-pub at_first_line : (t : List ℕ) (kinds blocks lines : ℕ) → LinkedTo t kinds blocks lines 0
-at_first_line t kinds blocks lines = record {
+pub at_first_line : (t : List ℕ) (c : Counts) → LinkedTo t c 0
+at_first_line t c = record {
   is = λ P table k l m. record { blocks = 0; opened_so_far = record { none = λ h. refl; some = λ h. absurd (omega arith) }; links = refl };
 }
 
@@ -298,16 +304,16 @@ no_line : (P : Program) (b n : ℕ) → length (lines_of P) ≤ n → link P b n
 unfolding link
 no_line P b n h = ap (link P b n) (drop_of_length-le (lines_of P) h)
 
-module _ {t : List ℕ} {kinds blocks lines n : ℕ} (so_far : LinkedTo t kinds blocks lines n) where
-  pub line_found : {r : Bool} → LineDangles t kinds blocks n r → r ≡ true → n < lines → FirstDangling t kinds blocks lines n
+module _ {t : List ℕ} {c : Counts} {n : ℕ} (so_far : LinkedTo t c n) where
+  pub line_found : {r : Bool} → LineDangles t c.kinds c.blocks n r → r ≡ true → n < c.lines → FirstDangling t c (Some n)
   line_found tells e h = record {
     is = λ P table k l m.
         let s = so_far.is P table k l m in
         let there : n < length (lines_of P) = rw m at h in
-        s.links ∙ one_line P s.blocks n there ∙ rw (sym (tells.is P s.blocks table k l there s.opened_so_far) ∙ e, lt-ltb n lines h);
+        s.links ∙ one_line P s.blocks n there ∙ rw (sym (tells.is P s.blocks table k l there s.opened_so_far) ∙ e);
   }
 
-  pub line_passed : {r : Bool} → LineDangles t kinds blocks n r → r ≡ false → n < lines → LinkedTo t kinds blocks lines (n + 1)
+  pub line_passed : {r : Bool} → LineDangles t c.kinds c.blocks n r → r ≡ false → n < c.lines → LinkedTo t c (n + 1)
   line_passed tells e h = record {
     is = λ P table k l m.
         let s = so_far.is P table k l m in
@@ -319,9 +325,42 @@ module _ {t : List ℕ} {kinds blocks lines n : ℕ} (so_far : LinkedTo t kinds 
         };
   }
 
-  pub no_line_left : lines ≤ n → FirstDangling t kinds blocks lines n
+  pub no_line_left : c.lines ≤ n → FirstDangling t c None
   no_line_left h = record {
     is = λ P table k l m.
         let s = so_far.is P table k l m in
-        s.links ∙ no_line P s.blocks n (rw m at h) ∙ rw (le-ltb n lines h);
+        s.links ∙ no_line P s.blocks n (rw m at h);
   }
+
+-- before a line none dangled
+pub linked_to : (t : List ℕ) (c : Counts) (n : ℕ) → n ≤ c.lines → ((k : ℕ) → k < n → LineDangles t c.kinds c.blocks k false) → LinkedTo t c n
+linked_to t c zero h none = at_first_line t c
+linked_to t c (suc n) h none =
+    rw (← add-one n) (line_passed (linked_to t c n (omega arith) (λ k l. none k (omega arith))) (none n (omega arith)) refl (omega arith))
+
+-- the first of the numbers below n that passes a test, if one does
+abbrev Found : (Yes No : ℕ → Type 0) → (n : ℕ) → Option ℕ → Type 0
+Found Yes No n None = (k : ℕ) → k < n → No k
+Found Yes No n (Some x) = Yes x × (x < n) × ((k : ℕ) → k < x → No k)
+
+found_below : (Yes No : ℕ → Type 0) (n : ℕ) (r : Option ℕ)
+    → MatchOption r (AllWithin No (range_with_len 0 n) 0 (length (range_with_len 0 n)))
+    (λ x. Yes x × (i : ℕ) × (i < length (range_with_len 0 n)) × HoldsAt (λ y. y ≡ x) (range_with_len 0 n) i × AllWithin No (range_with_len 0 n) 0 i)
+    → Found Yes No n r
+found_below Yes No n None all = λ k h. subst No (get_or-range_with_len 0 n k 0 h ∙ zero-add k) (all k 0 (omega arith) (rw length-range_with_len h))
+found_below Yes No n (Some x) (passes, i, within, here, before) =
+    let low : i < n = rw length-range_with_len at within in
+    let same : i ≡ x = omega (arith, get_or-range_with_len 0 n i 0 low, here 0) in
+    (passes, omega arith, λ k h. subst No (get_or-range_with_len 0 n k 0 (omega arith) ∙ zero-add k) (before k 0 (omega arith) (omega arith)))
+
+-- the lines asked one after the other, up to the first that dangles
+pub first_found : (t : List ℕ) (c : Counts) (r : Option ℕ)
+    → MatchOption r (AllWithin (λ n. LineDangles t c.kinds c.blocks n false) (range_with_len 0 c.lines) 0 (length (range_with_len 0 c.lines)))
+    (λ x. LineDangles t c.kinds c.blocks x true × (i : ℕ) × (i < length (range_with_len 0 c.lines)) × HoldsAt (λ y. y ≡ x) (range_with_len 0 c.lines) i
+    × AllWithin (λ n. LineDangles t c.kinds c.blocks n false) (range_with_len 0 c.lines) 0 i)
+    → FirstDangling t c r
+first_found t c r m = go r (found_below (λ n. LineDangles t c.kinds c.blocks n true) (λ n. LineDangles t c.kinds c.blocks n false) c.lines r m)
+  where
+    go : (r : Option ℕ) → Found (λ n. LineDangles t c.kinds c.blocks n true) (λ n. LineDangles t c.kinds c.blocks n false) c.lines r → FirstDangling t c r
+    go None none = no_line_left (linked_to t c c.lines (omega arith) none) (omega arith)
+    go (Some n) (dangling, below, none) = line_found (linked_to t c n (omega arith) none) dangling refl below

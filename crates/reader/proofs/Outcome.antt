@@ -3,22 +3,27 @@ use Prim.Native.Nat.{ℕ, suc, ◌+◌, ◌-◌, ◌≤◌, ◌<◌}
 use native.Mathlib.Nat.{add_comm}
 use native.Mathlib.Omega.{arith}
 use mathlib.Core.Path.{◌≡◌, refl, sym, ap, ap₂, ◌∙◌, subst}
-use mathlib.Core.Bool.{Bool, true, false, not, ◌||◌, cond}
+use mathlib.Core.Bool.{Bool, true, false, not, cond}
 use mathlib.Core.List.{List, [], ◌∷◌, ◌++◌, append-nil}
 use lib.Dec.{ltb, eqb}
 use lib.ListN.{length, take, drop, replicate, length-replicate, replicate-append-replicate, length-drop}
 use lib.Seq.{take_at, take_all}
 use borrow.Author.Tests.{lt-ltb, le-ltb, ltb-false, eqb-true}
+use Rattle.std.specs.Prelude.{Option, Some, None, Result, Ok, Err}
+use Rattle.rules.specs.declared.faults.Fault.TheVariants as F
+use Rattle.rules.specs.declared.faults.Refusal.{Refusal}
 use Rattle.rules.specs.declared.Mosts.{Mosts}
 use Rattle.rules.specs.Mosts as Most
 use Rattle.rules.specs.Mosts.{mosts}
 use Rattle.rules.specs.Lists.{Every, pad, cells}
 use Rattle.rules.specs.Numbers as No
+use Rattle.rules.specs.Numbers.{number}
+use Rattle.rules.specs.Refusals.{Refuses}
 use Rattle.rules.specs.Text.{lines}
 use Rattle.rules.specs.Script.{Form, Edition, Program, program_of, kinds_of, blocks_of}
 use Rattle.rules.specs.Templates.{took, unfit, fit, script_t}
 use Rattle.rules.specs.Reading as R
-use Rattle.rules.specs.Reading.{Sofar, nothing, faulty, scanned, Reading, turned_away, accepted, link, lines_before, linked, script_of, script, reading}
+use Rattle.rules.specs.Reading.{Sofar, nothing, faulty, Reading, turned_away, accepted, link, lines_before, linked, script_of, script, reading}
 use Rattle.rules.specs.Tables.{first_lines, edition_word, program_words}
 use Rattle.rules.specs.Calls.{long_text, short_table, read_call, program_after}
 use Rattle.rules.proofs.ListLaws.{impossible, by_bool, or_false}
@@ -28,14 +33,11 @@ use Rattle.rules.proofs.Scanned.{Scanned, ended, passed, scan_passed, lines_scan
 use Rattle.grammar.specs.Decoded.{over_line}
 use Rattle.table.specs.ProgramTable.{fresh_table, line_table, Filled, Counted}
 use Rattle.table.proofs.ProgramTable.{fresh_length, program_words_by_lines}
-use Rattle.reader.specs.declared.Answer.{Answer}
-use Rattle.reader.specs.declared.Answer.TheVariants.{Read, Refused}
-use Rattle.reader.specs.ReadAnswers.{answer_of, Made, Makes}
+use Rattle.reader.specs.declared.scanning.Counts.{Counts}
+use Rattle.reader.specs.ReadAnswers.{Answers, Made, Makes}
 use Rattle.reader.specs.Sofar.{edition_of}
 use Rattle.reader.specs.Scanning.{DoneWith, ScansTo, Scans}
-use Rattle.reader.specs.declared.scanning.Scan.{Scan}
-use Rattle.reader.specs.declared.scanning.Scan.TheVariants.{Fault, Done}
-use Rattle.reader.specs.Linking.{Table, FirstDangling}
+use Rattle.reader.specs.Linking.{Table, FirstDangling, linked as linked_at}
 use Rattle.reader.proofs.LineChecks.{over_most_lem}
 
 -- ---- 1 and 9
@@ -52,15 +54,18 @@ too_short : (text : List ℕ) → length text ≤ Most.text → reading_of text 
 unfolding reading long_text
 too_short text h = rw (le-ltb _ _ h)
 
-module _ (text : List ℕ) {t t₁ : List ℕ} where
-  pub makes_long : (short : Bool) → Most.text < length text → Makes text short t (Refused No.overlong 0) t₁
-  makes_long short h = record { makes = λ fresh. rw (too_long text short h) }
+pub refuses : {A : Type 0} (e : Refusal) → Refuses {A = A} (Err e) (number e.fault) e.line
+refuses e = record { refusal = e; is = refl; number_is = refl; line_is = refl }
 
-  pub makes_short : {short : Bool} → length text ≤ Most.text → short ≡ true → Makes text short t (Refused No.short_table 0) t₁
-  makes_short h told = record { makes = λ fresh. rw (told, too_short text h) }
+module _ (text : List ℕ) {t t₁ : List ℕ} where
+  pub makes_long : (short : Bool) → Most.text < length text → Makes text short t (Err (record { fault = F.Overlong; line = 0 })) t₁
+  makes_long short h = record { makes = λ fresh. rw (too_long text short h) (refuses (record { fault = F.Overlong; line = 0 })) }
+
+  pub makes_short : {short : Bool} → length text ≤ Most.text → short ≡ true → Makes text short t (Err (record { fault = F.ShortTable; line = 0 })) t₁
+  makes_short h told = record { makes = λ fresh. rw (told, too_short text h) (refuses (record { fault = F.ShortTable; line = 0 })) }
 
   -- a fresh table has its length
-  pub makes_unfit : (short : Bool) → length t < Most.words → Makes text short t (Refused No.short_table 0) t₁
+  pub makes_unfit : {x : Result Unit Refusal} (short : Bool) → length t < Most.words → Makes text short t x t₁
   makes_unfit short h = record { makes = λ fresh. absurd (omega (arith, ap length fresh, fresh_length)) }
 
 -- ---- The table before the first line
@@ -86,12 +91,11 @@ no_lines = record { words = all_zero 8192; lines = omega arith; blocks = omega a
 
 -- ---- What the scan says, by its answer
 
-pub fault_of_lem : {d : Edition} {text t t₁ : List ℕ} {x : Scan} {k n : ℕ} → Scans mosts d text t x t₁ → x ≡ Fault k n
-    → R.scan mosts (nothing d) 0 (lines text) ≡ faulty k n
+pub fault_of_lem : {d : Edition} {text t t₁ : List ℕ} {x : Result Counts Refusal} {e : Refusal} → Scans mosts d text t x t₁ → x ≡ Err e
+    → R.scan mosts (nothing d) (lines_before d) (lines text) ≡ faulty (number e.fault) e.line
 fault_of_lem {d} {text} {t} {t₁} s e = subst (λ y. ScansTo mosts d text y t t₁) e s.is
 
-pub done_with : {d : Edition} {text t t₁ : List ℕ} {x : Scan} {kinds blocks count : ℕ} → Scans mosts d text t x t₁ → x ≡ Done kinds blocks count
-    → DoneWith mosts d text kinds blocks count t t₁
+pub done_with : {d : Edition} {text t t₁ : List ℕ} {x : Result Counts Refusal} {c : Counts} → Scans mosts d text t x t₁ → x ≡ Ok c → DoneWith mosts d text c t t₁
 done_with {d} {text} {t} {t₁} s e = subst (λ y. ScansTo mosts d text y t t₁) e s.is
 
 -- ---- The lines of a scan exceed no most by themselves
@@ -117,34 +121,11 @@ read_behind text head e =
     (λ t. rw (all, e, t))
 
 -- where it has one, every line's number is one more
-abbrev later_scan : ℕ → R.Scan → R.Scan
-later_scan b (faulty k n) = faulty k (n + b)
-later_scan b (scanned Fs) = scanned Fs
+abbrev later : ℕ → Reading → Reading
+later b (turned_away k n) = turned_away k (n + b)
+later b (accepted P) = accepted P
 
-abbrev later_reading : ℕ → Reading → Reading
-later_reading b (turned_away k n) = turned_away k (n + b)
-later_reading b (accepted P) = accepted P
-
-finish_later : (r : Sofar) (n b : ℕ) → R.finish r (n + b) ≡ later_scan b (R.finish r n)
-unfolding R.finish
-finish_later r n b = by_bool (eqb r.blocks 0 || not (R.is_outside r.place)) (λ t. rw t) (λ t. rw t)
-
-with_form_later : (F : Form) (b : ℕ) (x : R.Scan) → R.with_form F (later_scan b x) ≡ later_scan b (R.with_form F x)
-with_form_later F b (faulty k n) = refl
-with_form_later F b (scanned Fs) = refl
-
-step_later : (b n : ℕ) (s : R.Step) (go later : Sofar → R.Scan) → ((r : Sofar) → later r ≡ later_scan b (go r))
-    → R.on_step (n + b) s later ≡ later_scan b (R.on_step n s go)
-step_later b n (R.fault k) go later h = refl
-step_later b n (R.next F r) go later h = ap (R.with_form F) (h r) ∙ with_form_later F b (go r)
-
-scan_later : (m : Mosts) (b : ℕ) (ls : List (List ℕ)) (r : Sofar) (n : ℕ) → R.scan m r (n + b) ls ≡ later_scan b (R.scan m r n ls)
-unfolding R.scan
-scan_later m b [] r n = finish_later r n b
-scan_later m b (l ∷ ls) r n =
-    step_later b n (R.line_step m r l) _ _ (λ r₁. let one : suc (n + b) ≡ suc n + b = omega arith in ap (λ k. R.scan m r₁ k ls) one ∙ scan_later m b ls r₁ (suc n))
-
-link_later : (P : Program) (b : ℕ) (Fs : List Form) (c n : ℕ) → link P c (n + b) Fs ≡ later_reading b (link P c n Fs)
+link_later : (P : Program) (b : ℕ) (Fs : List Form) (c n : ℕ) → link P c (n + b) Fs ≡ later b (link P c n Fs)
 unfolding link
 link_later P b [] c n = refl
 link_later P b (F ∷ Fs) c n =
@@ -154,62 +135,60 @@ link_later P b (F ∷ Fs) c n =
 -- ---- What follows: a text that is not too long, by its lines behind the one that names the edition, where no slice is short
 
 module _ (text : List ℕ) (fits : length text ≤ Most.text) (d : Edition) (body : List ℕ) (reads : script mosts text ≡ script_of mosts d body) where
-  by_script : reading_of text false ≡ linked d (later_scan (lines_before d) (R.scan mosts (nothing d) 0 (lines body)))
+  by_script : reading_of text false ≡ linked d (R.scan mosts (nothing d) (lines_before d) (lines body))
   unfolding reading long_text script_of
-  by_script =
-      let none : lines_before d ≡ 0 + lines_before d = omega arith in
-      rw (le-ltb _ _ fits)
-      (reads ∙ ap (λ k. linked d (R.scan mosts (nothing d) k (lines body))) none ∙ ap (linked d) (scan_later mosts (lines_before d) (lines body) (nothing d) 0))
+  by_script = rw (le-ltb _ _ fits) reads
 
-  pub scan_faulty : (k n : ℕ) → R.scan mosts (nothing d) 0 (lines body) ≡ faulty k n → reading_of text false ≡ turned_away k (n + lines_before d)
-  scan_faulty k n e = by_script ∙ rw e
+  pub scan_faulty : (e : Refusal) → R.scan mosts (nothing d) (lines_before d) (lines body) ≡ faulty (number e.fault) e.line
+      → reading_of text false ≡ turned_away (number e.fault) e.line
+  scan_faulty x e = by_script ∙ rw e
 
   -- the program of a scan without fault in a fresh table, and where refusal 8 was looked for
-  module _ {kinds blocks count : ℕ} {t t₁ : List ℕ} (done : DoneWith mosts d body kinds blocks count t t₁) (fresh : t ≡ fresh_table) where
+  module _ {c : Counts} {t t₁ : List ℕ} (done : DoneWith mosts d body c t t₁) (fresh : t ≡ fresh_table) where
     lines_there : Filled t₁ [] done.forms []
     lines_there = done.filled [] (subst (λ (l : List ℕ). Filled l [] [] []) (sym fresh) no_lines)
 
-    module _ {place : ℕ} (l : FirstDangling t₁ kinds blocks count place) where
-      links : link (program_of d done.forms) 0 0 done.forms ≡ cond (ltb place count) (turned_away No.dangling place) (accepted (program_of d done.forms))
+    module _ {x : Option ℕ} (l : FirstDangling t₁ c x) where
+      links : link (program_of d done.forms) 0 0 done.forms ≡ linked_at (program_of d done.forms) x
       unfolding program_of
       links =
           let Fs = done.forms in
-          let passed-all = scan_passed mosts (lines body) (nothing d) 0 Fs done.scans in
+          let passed-all = scan_passed mosts (lines body) (nothing d) (lines_before d) Fs done.scans in
           let same = lines_scanned mosts d Fs passed-all in
           let holds : Table t₁ (program_of d Fs) = record { counts = []; rest = []; filled = rw same lines_there; small = rw same (all_small passed-all) } in
           rw same at (l.is (program_of d Fs) holds done.kinds_count done.blocks_count (done.line_count_is ∙ ap length (sym same)))
 
-      by_links : reading_of text false ≡ later_reading (lines_before d) (cond (ltb place count) (turned_away No.dangling place) (accepted (program_of d done.forms)))
+      by_links : reading_of text false ≡ later (lines_before d) (linked_at (program_of d done.forms) x)
       by_links =
           let none : lines_before d ≡ 0 + lines_before d = omega arith in
           by_script ∙ rw done.scans
           (ap (λ k. link (program_of d done.forms) 0 k done.forms) none ∙ link_later (program_of d done.forms) (lines_before d) done.forms 0 0
-          ∙ ap (later_reading (lines_before d)) links)
+          ∙ ap (later (lines_before d)) links)
 
-      pub dangling : place < count → reading_of text false ≡ turned_away No.dangling (place + lines_before d)
-      dangling h = by_links ∙ rw (lt-ltb _ _ h)
+      pub dangling : {place : ℕ} → x ≡ Some place → reading_of text false ≡ turned_away No.dangling (place + lines_before d)
+      dangling e = by_links ∙ rw e
 
-      all_there : count ≤ place → reading_of text false ≡ accepted (program_of d done.forms)
-      all_there h = by_links ∙ rw (le-ltb _ _ h)
+      all_there : x ≡ None → reading_of text false ≡ accepted (program_of d done.forms)
+      all_there e = by_links ∙ rw e
 
       -- and its words, once the counts and the edition are there
-      pub words_are : {t₂ : List ℕ} → count ≤ place → Counted kinds blocks count (edition_word d) t₁ t₂ → Made (reading_of text false) Read t₂
+      pub words_are : {t₂ : List ℕ} → x ≡ None → Counted c.kinds c.blocks c.lines (edition_word d) t₁ t₂ → Made (reading_of text false) (Ok tt) t₂
       unfolding program_of
-      words_are {t₂} h counted =
+      words_are {t₂} e counted =
           let Fs = done.forms in
           let f = counted.counted [] Fs lines_there in
-          let same = lines_scanned mosts d Fs (scan_passed mosts (lines body) (nothing d) 0 Fs done.scans) in
-          let full : t₂ ≡ line_table (kinds ∷ blocks ∷ count ∷ edition_word d ∷ []) Fs = f.words ∙ append-nil _ in
-          let counts : line_table (kinds ∷ blocks ∷ count ∷ edition_word d ∷ []) Fs ≡ line_table (length (kinds_of Fs) ∷ length (blocks_of Fs) ∷ length Fs ∷ edition_word d ∷ []) Fs = rw (done.kinds_count, done.blocks_count, done.line_count_is) in
-          rw (all_there h) (refl, full ∙ counts ∙ sym (rw same at (program_words_by_lines (program_of d Fs))))
+          let same = lines_scanned mosts d Fs (scan_passed mosts (lines body) (nothing d) (lines_before d) Fs done.scans) in
+          let full : t₂ ≡ line_table (c.kinds ∷ c.blocks ∷ c.lines ∷ edition_word d ∷ []) Fs = f.words ∙ append-nil _ in
+          let counts : line_table (c.kinds ∷ c.blocks ∷ c.lines ∷ edition_word d ∷ []) Fs ≡ line_table (length (kinds_of Fs) ∷ length (blocks_of Fs) ∷ length Fs ∷ edition_word d ∷ []) Fs = rw (done.kinds_count, done.blocks_count, done.line_count_is) in
+          rw (all_there e) (refl, full ∙ counts ∙ sym (rw same at (program_words_by_lines (program_of d Fs))))
 
 -- ---- What `make` promises, by what the text comes to where no slice is short
 
 module _ (text : List ℕ) {short : Bool} {t t₁ : List ℕ} (none : short ≡ false) where
-  pub makes_none : {k n : ℕ} → (t ≡ fresh_table → reading_of text false ≡ turned_away k n) → Makes text short t (Refused k n) t₁
-  makes_none away = record { makes = λ fresh. rw (none, away fresh) }
+  pub makes_none : {e : Refusal} → (t ≡ fresh_table → reading_of text false ≡ turned_away (number e.fault) e.line) → Makes text short t (Err e) t₁
+  makes_none {e} away = record { makes = λ fresh. rw (none, away fresh) (refuses e) }
 
-  pub makes_read : (t ≡ fresh_table → Made (reading_of text false) Read t₁) → Makes text short t Read t₁
+  pub makes_read : (t ≡ fresh_table → Made (reading_of text false) (Ok tt) t₁) → Makes text short t (Ok tt) t₁
   makes_read made = record { makes = λ fresh. rw none (made fresh) }
 
 -- ---- A lent table, by way of a fresh one
@@ -220,28 +199,26 @@ pub record IsRead (C : Reading) (w : List ℕ) : Type 0 where
   pub is : C ≡ accepted program
   pub words : w ≡ program_words program
 
-pub read_is : (C : Reading) {r : Answer} {w : List ℕ} → Made C r w → r ≡ Read → IsRead C w
-read_is (turned_away k n) made is = let both = sym is ∙ made in impossible cc
+pub read_is : (C : Reading) {r : Result Unit Refusal} {u : Unit {0}} {w : List ℕ} → Made C r w → r ≡ Ok u → IsRead C w
+read_is (turned_away k n) made is = let both = sym is ∙ made.is in impossible cc
 read_is (accepted P) made is = record { program = P; is = refl; words = made.1 }
 
-pub refused_is : (C : Reading) (w : List ℕ) {r : Answer} {k n : ℕ} → Made C r w → r ≡ Refused k n → C ≡ turned_away k n
-refused_is (turned_away i j) w {k = k} {n = n} made is =
-    let both = sym made ∙ is in
-    let number : i ≡ k = cc in
-    let line : j ≡ n = cc in
-    rw (number, line)
+pub refused_is : (C : Reading) (w : List ℕ) {r : Result Unit Refusal} {e : Refusal} → Made C r w → r ≡ Err e → C ≡ turned_away (number e.fault) e.line
+refused_is (turned_away i j) w {e = e} made is =
+    let both = sym made.is ∙ is in
+    let same : made.refusal ≡ e = cc in
+    rw (← made.number_is, ← made.line_is, same)
 refused_is (accepted P) w made is = let both = sym is ∙ made.0 in impossible cc
 
-module _ (text table : List ℕ) {r : Answer} {w : List ℕ} (made : Makes text (ltb (length table) Most.words) (replicate 8192 0) r w) where
+module _ (text table : List ℕ) {r : Result Unit Refusal} {w : List ℕ} (made : Makes text (ltb (length table) Most.words) (replicate 8192 0) r w) where
   by_call : Made (read_call mosts text table) r w
   unfolding read_call short_table fresh_table
   by_call = made.makes refl
 
-  pub read_away : {k n : ℕ} → r ≡ Refused k n
-      → (Refused k n ≡ answer_of (read_call mosts text table)) × (table ≡ program_after (read_call mosts text table) table)
-  read_away is = rw (refused_is (read_call mosts text table) w by_call is) (refl, refl)
+  pub read_away : {e : Refusal} → r ≡ Err e → Answers (read_call mosts text table) (Err e) × (table ≡ program_after (read_call mosts text table) table)
+  read_away {e} is = rw (refused_is (read_call mosts text table) w by_call is) (refuses e, refl)
 
-  module _ (is : r ≡ Read) where
+  module _ {u : Unit {0}} (is : r ≡ Ok u) where
     read_one : IsRead (read_call mosts text table) w
     read_one = read_is (read_call mosts text table) by_call is
 
@@ -253,5 +230,5 @@ module _ (text table : List ℕ) {r : Answer} {w : List ℕ} (made : Makes text 
     )
 
     pub read_done : {t₁ : List ℕ} → t₁ ≡ w ++ drop 8192 table
-        → (Read ≡ answer_of (read_call mosts text table)) × (t₁ ≡ program_after (read_call mosts text table) table)
+        → Answers (read_call mosts text table) (Ok tt) × (t₁ ≡ program_after (read_call mosts text table) table)
     read_done copied = rw read_one.is (refl, copied ∙ ap (λ (ws : List ℕ). ws ++ drop 8192 table) read_one.words)

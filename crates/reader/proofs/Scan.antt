@@ -1,31 +1,34 @@
 -- All lines of a text, one after the other: what the definition still has to scan, put after the forms that were read.
 use Prim.Native.Nat.{ℕ, suc, ◌+◌, ◌-◌, ◌*◌, ◌≤◌, ◌<◌}
 use native.Mathlib.Omega.{arith}
-use native.Mathlib.Numerals.{add-one}
 use mathlib.Core.Path.{◌≡◌, refl, sym, ap, ap₂, ◌∙◌, subst}
 use mathlib.Core.Bool.{Bool, true, false, cond, false≢true}
 use mathlib.Core.List.{List, [], ◌∷◌, ◌++◌, append-nil}
 use lib.Dec.{ltb, leb, eqb}
 use lib.ListN.{length, drop, get_or, length-append, length-drop, drop_of_length-le}
 use borrow.Author.Tests.{leb-false}
+use Rattle.std.specs.Prelude.{Result, Ok, Err}
+use Rattle.rules.specs.declared.faults.Fault.{Fault}
+use Rattle.rules.specs.declared.faults.Fault.TheVariants as F
+use Rattle.rules.specs.declared.faults.Refusal.{Refusal}
 use Rattle.rules.specs.declared.Mosts.{Mosts}
 use Rattle.rules.specs.Mosts as Most
 use Rattle.rules.specs.Mosts.{mosts}
 use Rattle.rules.specs.Numbers as No
+use Rattle.rules.specs.Numbers.{number}
 use Rattle.rules.specs.Text.{lf, stray, lines, on_line}
 use Rattle.rules.specs.Script.{bind, give, Sort, thread, method, Form, kind, opens, line, Edition, kinds_of, blocks_of}
 use Rattle.rules.specs.Templates.{took, unfit, show}
 use Rattle.rules.specs.Tables.{first_lines}
 use Rattle.rules.specs.Reading as R
-use Rattle.rules.specs.Reading.{operands_in, Place, outside, within, slots_filled, is_outside, in_place, over_most, one_more, read_on, Step, fault, next, form_step, line_step, faulty, scanned, with_form, on_step}
+use Rattle.rules.specs.Reading.{operands_in, Place, outside, within, slots_filled, is_outside, in_place, over_most, one_more, read_on, Step, fault, next, form_step, line_step, lines_before, faulty, scanned, with_form, on_step}
 use Rattle.rules.proofs.ListLaws.{or_false, or_false₃, length_snoc}
 use Rattle.rules.proofs.Scanned.{Passed, form_passed}
 use Rattle.grammar.specs.declared.forms.Line.{Line}
 use Rattle.grammar.specs.Decoded.{over_line, front, line_row, Tells, LineAt}
 use Rattle.table.specs.ProgramTable.{Filled, LineAdded, OpenerAdded}
 use Rattle.reader.specs.declared.faults.Sofar.{Sofar}
-use Rattle.reader.specs.declared.scanning.Scan.{Scan}
-use Rattle.reader.specs.declared.scanning.Scan.TheVariants.{Fault, Done}
+use Rattle.reader.specs.declared.scanning.Counts.{Counts}
 use Rattle.reader.specs.Sofar.{edition_of, so_far, full_before, Tidy, fault_of, Faults, GoesOn}
 use Rattle.reader.specs.Scanning.{Put, Finished, Finishes, ScansTo, Scans}
 use Rattle.grammar.proofs.Fronts.{front_fits, front_unfit}
@@ -177,6 +180,30 @@ scan_end : (m : Mosts) (r : R.Sofar) (n : ℕ) → R.scan m r n (lines []) ≡ R
 unfolding R.scan lines
 scan_end m r n = refl
 
+-- a fault has a number
+some_number : (f : Fault) → 1 ≤ number f
+some_number F.Overlong = omega arith
+some_number F.StrayByte = omega arith
+some_number F.Malformed = omega arith
+some_number F.OverCount = omega arith
+some_number F.Unbound = omega arith
+some_number F.SelfTaken = omega arith
+some_number F.Unfinished = omega arith
+some_number F.Dangling = omega arith
+some_number F.ShortTable = omega arith
+some_number F.Absent = omega arith
+some_number F.NoField = omega arith
+some_number F.NoMethod = omega arith
+some_number F.WrongThing = omega arith
+some_number F.Permission = omega arith
+some_number F.Cast = omega arith
+some_number F.UsedUp = omega arith
+some_number F.NoThread = omega arith
+some_number F.NoScript = omega arith
+some_number F.Alias = omega arith
+some_number F.Foreign = omega arith
+some_number F.NoObject = omega arith
+
 -- a step with a fault stops
 step_stops : (s : Step) → (fault_of s ≡ 0 → ⊥) → s ≡ fault (fault_of s)
 step_stops (fault k) h = refl
@@ -209,7 +236,7 @@ pub record Bounded (m : Mosts) : Type 0 where
 pub record Scanning (m : Mosts) (d : Edition) (text t₀ t : List ℕ) (r : Sofar) (n at : ℕ) : Type 0 where
   bounded : Bounded m
   pub forms : List Form
-  scans : R.scan m (R.nothing d) 0 (lines text) ≡ onto forms (R.scan m (so_far r) n (lines (drop at text)))
+  scans : R.scan m (R.nothing d) (lines_before d) (lines text) ≡ onto forms (R.scan m (so_far r) (n + lines_before d) (lines (drop at text)))
   filled : (rest : List ℕ) → Filled t₀ [] [] rest → Filled t [] forms rest
   number : n ≡ length forms
   tally : Tally m (so_far r) forms
@@ -230,7 +257,7 @@ unfolding onto slots_filled
 at_start {m} second text t b = record {
   bounded = b;
   forms = [];
-  scans = refl;
+  scans = let none : lines_before (edition_of second) ≡ 0 + lines_before (edition_of second) = omega arith in ap (λ k. R.scan m (R.nothing (edition_of second)) k (lines text)) none;
   filled = λ rest h. h;
   number = refl;
   tally = tally_none m (edition_of second);
@@ -240,8 +267,8 @@ at_start {m} second text t b = record {
 
 module _ {m : Mosts} {d : Edition} {text t₀ t : List ℕ} {r : Sofar} {n at : ℕ} (s : Scanning m d text t₀ t r n at) where
   -- where the rest of the scan is faulty, so is the whole
-  stops : {k : ℕ} → R.scan m (so_far r) n (lines (drop at text)) ≡ faulty k n → Scans m d text t₀ (Fault k n) t
-  stops {k} e = record { is = s.scans ∙ ap (onto s.forms) e ∙ onto_faulty s.forms k n }
+  stops : {x : Refusal} → R.scan m (so_far r) (n + lines_before d) (lines (drop at text)) ≡ faulty (number x.fault) x.line → Scans m d text t₀ (Err x) t
+  stops {x} e = record { is = s.scans ∙ ap (onto s.forms) e ∙ onto_faulty s.forms (number x.fault) x.line }
 
   -- every line so far has a place in the table
   pub few_lines : n ≤ 672
@@ -251,15 +278,15 @@ module _ {m : Mosts} {d : Edition} {text t₀ t : List ℕ} {r : Sofar} {n at : 
       omega (arith, s.number, c.lines, c.few_kinds, c.few_blocks, c.few_lets, b.kinds, b.blocks, b.lets)
 
   -- no line is left
-  pub at_end : {x : Scan} → length text ≤ at → Finishes r n x → Scans m d text t₀ x t
+  pub at_end : {x : Result Counts Refusal} → length text ≤ at → Finishes r n (n + lines_before d) x → Scans m d text t₀ x t
   at_end {x} h f = record { is = go x f.is }
     where
-      ended : R.scan m (so_far r) n (lines (drop at text)) ≡ R.finish (so_far r) n
-      ended = rw (drop_of_length-le text h) (scan_end m (so_far r) n)
+      ended : R.scan m (so_far r) (n + lines_before d) (lines (drop at text)) ≡ R.finish (so_far r) (n + lines_before d)
+      ended = rw (drop_of_length-le text h) (scan_end m (so_far r) (n + lines_before d))
 
-      go : (y : Scan) → Finished (so_far r) n y → ScansTo m d text y t₀ t
-      go (Fault k l) e = s.scans ∙ ap (onto s.forms) (ended ∙ e) ∙ onto_faulty s.forms k l
-      go (Done kinds blocks l) (e, k, b, c) = record {
+      go : (y : Result Counts Refusal) → Finished (so_far r) n (n + lines_before d) y → ScansTo m d text y t₀ t
+      go (Err x) e = s.scans ∙ ap (onto s.forms) (ended ∙ e) ∙ onto_faulty s.forms (number x.fault) x.line
+      go (Ok _) (e, k, b, c) = record {
         forms = s.forms;
         scans = s.scans ∙ ap (onto s.forms) (ended ∙ e) ∙ onto_scanned s.forms [] ∙ ap scanned (append-nil s.forms);
         kinds_count = k ∙ s.tally.kinds;
@@ -273,29 +300,29 @@ module _ {m : Mosts} {d : Edition} {text t₀ t : List ℕ} {r : Sofar} {n at : 
 
   module _ {l : Line} (a : LineAt text at l) where
     -- the line fits no form; a check refuses it; it passes
-    pub unfit_line : {k : ℕ} → at < length text → l.ok ≡ false → k ≡ cond (stray (get_or (lines (drop at text)) 0 [])) No.stray_byte No.malformed
-        → Scans m d text t₀ (Fault k n) t
-    unfit_line {k} h ok e =
+    pub unfit_line : {f : Fault} → at < length text → l.ok ≡ false → number f ≡ cond (stray (get_or (lines (drop at text)) 0 [])) No.stray_byte No.malformed
+        → Scans m d text t₀ (Err (record { fault = f; line = n + lines_before d })) t
+    unfit_line {f = found} h ok e =
         let f = first_line (drop at text) (simp length-drop (omega arith)) in
         let x = f.byte ∷ f.others in
         let none : front (drop at text) ≡ unfit = a.fits ∙ rw ok in
-        let same : k ≡ cond (stray x) No.stray_byte No.malformed = e ∙ rw f.is in
-        stops (rw (f.is, same) (scan_line_lem m (so_far r) n x f.rest _ (front_unfit (drop at text) x f.rest none f.is m (so_far r))))
+        let same : number found ≡ cond (stray x) No.stray_byte No.malformed = e ∙ rw f.is in
+        stops (rw (f.is, same) (scan_line_lem m (so_far r) (n + lines_before d) x f.rest _ (front_unfit (drop at text) x f.rest none f.is m (so_far r))))
 
     fitted : l.ok ≡ true → front (drop at text) ≡ took a.form (drop l.end text)
     fitted ok = a.fits ∙ rw ok
 
-    pub refused_line : {k : ℕ} → l.ok ≡ true → Faults m r l k → (k ≡ 0 → ⊥) → Scans m d text t₀ (Fault k n) t
-    refused_line {k} ok f some =
+    pub refused_line : {x : Fault} → l.ok ≡ true → Faults m r l (Err x) → Scans m d text t₀ (Err (record { fault = x; line = n + lines_before d })) t
+    refused_line {x} ok f =
         let b = front_fits (drop at text) a.form (drop l.end text) (fitted ok) in
         let e = f.is s.tidy a.form (a.tells ok) in
-        let step = b.step m (so_far r) ∙ step_stops (form_step m (so_far r) (took a.form [])) (λ z. some (e ∙ z)) ∙ ap fault (sym e) in
-        stops (rw b.first (scan_line_lem m (so_far r) n (show a.form) (lines (drop l.end text)) (fault k) step))
+        let step = b.step m (so_far r) ∙ step_stops (form_step m (so_far r) (took a.form [])) (λ z. omega (arith, some_number x, e, z)) ∙ ap fault (sym e) in
+        stops (rw b.first (scan_line_lem m (so_far r) (n + lines_before d) (show a.form) (lines (drop l.end text)) (fault (number x)) step))
 
-    pub passes : {k : ℕ} → l.ok ≡ true → Faults m r l k → k ≡ 0 → Passes m text r at l s.forms a.form
-    passes ok f none =
+    pub passes : {u : Unit {0}} → l.ok ≡ true → Faults m r l (Ok u) → Passes m text r at l s.forms a.form
+    passes ok f =
         let b = front_fits (drop at text) a.form (drop l.end text) (fitted ok) in
-        let go = step_goes_on m (so_far r) a.form (sym (f.is s.tidy a.form (a.tells ok)) ∙ none) in
+        let go = step_goes_on m (so_far r) a.form (sym (f.is s.tidy a.form (a.tells ok))) in
         let p = (form_passed m (so_far r) (took a.form []) a.form _ go).0 in
         record {
           begins = b.text;
@@ -335,14 +362,15 @@ module _ {m : Mosts} {d : Edition} {text t₀ t : List ℕ} {r : Sofar} {n at : 
         let Gs = s.forms ++ (F ∷ []) in
         let after : so_far r₁ ≡ read_on (so_far r) F = goes.is F p.tells.number in
         let rest_lines = lines (drop l.end text) in
-        let one_line : R.scan m (so_far r) n (lines (drop at text)) ≡ with_form F (R.scan m (so_far r₁) (n + 1) rest_lines)
-        = ap (R.scan m (so_far r) n) p.splits ∙ scan_line_lem m (so_far r) n (show F) rest_lines _ p.step
-        ∙ ap₂ (λ (x : R.Sofar) (k : ℕ). with_form F (R.scan m x k rest_lines)) (sym after) (sym (add-one n)) in
+        let next_number : suc (n + lines_before d) ≡ n + 1 + lines_before d = omega arith in
+        let one_line : R.scan m (so_far r) (n + lines_before d) (lines (drop at text)) ≡ with_form F (R.scan m (so_far r₁) (n + 1 + lines_before d) rest_lines)
+        = ap (R.scan m (so_far r) (n + lines_before d)) p.splits ∙ scan_line_lem m (so_far r) (n + lines_before d) (show F) rest_lines _ p.step
+        ∙ ap₂ (λ (x : R.Sofar) (k : ℕ). with_form F (R.scan m x k rest_lines)) (sym after) next_number in
         let mosts-kept = or_false (over_line F) (full_before m (so_far r) F) (sym (over_most_lem m (so_far r) F) ∙ rw (p.passed.in_mosts, p.passed.in_255)) in
         record {
           bounded = b;
           forms = Gs;
-          scans = s.scans ∙ ap (onto s.forms) one_line ∙ sym (onto_snoc s.forms F (R.scan m (so_far r₁) (n + 1) rest_lines));
+          scans = s.scans ∙ ap (onto s.forms) one_line ∙ sym (onto_snoc s.forms F (R.scan m (so_far r₁) (n + 1 + lines_before d) rest_lines));
           filled = λ rest h. put.added [] rest s.forms F (s.filled rest h) s.number s.tally.blocks p.tells (p.tells.over ∙ mosts-kept.0) (omega arith);
           number = omega (arith, s.number, length_snoc s.forms F);
           tally = subst (λ (x : R.Sofar). Tally m x Gs) (sym after) c;

@@ -1,14 +1,15 @@
 -- Refusal 8 on the table of a program: which line dangles.
-use Rattle.std.specs.Prelude.{ℕ, ◌≤◌, ◌<◌, ◌≡◌, Bool, false, not, cond, List, ltb, length, get_or}
+use Rattle.std.specs.Prelude.{ℕ, Option, Some, None, ◌≤◌, ◌<◌, ◌≡◌, Bool, false, not, cond, List, ltb, length, get_or}
 use Rattle.rules.specs.declared.forms.Form.TheVariants as N
 use Rattle.rules.specs.Lists.{any, Every}
 use Rattle.rules.specs.Numbers as No
 use Rattle.rules.specs.Script.{Sort, method, Form, Program, lines_of, kind_at}
-use Rattle.rules.specs.Reading.{is_sort, dangles, turned_away, accepted, link}
+use Rattle.rules.specs.Reading.{Reading, is_sort, dangles, turned_away, accepted, link}
 use Rattle.rules.specs.Forms.{form_number}
 use Rattle.rules.specs.Tables.{row}
 use Rattle.grammar.specs.Decoded.{over_line}
 use Rattle.table.specs.ProgramTable.{Filled, no_form, sort_number}
+use Rattle.reader.specs.declared.scanning.Counts.{Counts}
 
 -- a table that holds a program whose lines exceed no most
 pub record Table (t : List ℕ) (P : Program) : Type 0 where
@@ -46,6 +47,10 @@ pub record LineDangles (t : List ℕ) (kinds blocks n : ℕ) (r : Bool) : Type 0
   pub is : (P : Program) (b : ℕ) → Table t P → kinds ≡ length P.kinds → blocks ≡ length P.blocks → n < length (lines_of P) → Opened P n b
       → r ≡ dangles P b (form_at P n)
 
-pub record FirstDangling (t : List ℕ) (kinds blocks lines r : ℕ) : Type 0 where
-  pub is : (P : Program) → Table t P → kinds ≡ length P.kinds → blocks ≡ length P.blocks → lines ≡ length (lines_of P)
-      → link P 0 0 (lines_of P) ≡ cond (ltb r lines) (turned_away No.dangling r) (accepted P)
+-- refusal 8 at the first line that dangles, if one does
+abbrev pub linked : Program → Option ℕ → Reading
+linked P (Some n) = turned_away No.dangling n
+linked P None = accepted P
+
+pub record FirstDangling (t : List ℕ) (c : Counts) (r : Option ℕ) : Type 0 where
+  pub is : (P : Program) → Table t P → c.kinds ≡ length P.kinds → c.blocks ≡ length P.blocks → c.lines ≡ length (lines_of P) → link P 0 0 (lines_of P) ≡ linked P r

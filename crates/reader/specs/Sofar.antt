@@ -1,8 +1,10 @@
 -- What has been read so far, as the code keeps it, and the checks of a line on it.
-use Rattle.std.specs.Prelude.{ℕ, ◌≤◌, ◌≡◌, Bool, true, false, ◌||◌, cond, [], eqb, leb, get_or}
+use Rattle.std.specs.Prelude.{ℕ, Result, Ok, Err, ◌≤◌, ◌≡◌, Bool, true, false, ◌||◌, cond, [], eqb, leb, get_or}
 use Rattle.rules.specs.declared.Mosts.{Mosts}
+use Rattle.rules.specs.declared.faults.Fault.{Fault}
 use Rattle.rules.specs.declared.forms.Form.TheVariants as N
 use Rattle.rules.specs.Mosts as Most
+use Rattle.rules.specs.Numbers.{number}
 use Rattle.rules.specs.Script.{bind, give, thread, method, Form, kind, opens, line, Edition, edition1, edition2}
 use Rattle.rules.specs.Templates.{took}
 use Rattle.rules.specs.Forms.{form_number}
@@ -47,8 +49,13 @@ abbrev pub fault_of : Step → ℕ
 fault_of (fault k) = k
 fault_of (next F r) = 0
 
-pub record Faults (m : Mosts) (r : Sofar) (l : Line) (k : ℕ) : Type 0 where
-  pub is : Tidy r → (F : Form) → Tells l F → k ≡ fault_of (form_step m (so_far r) (took F []))
+-- the number of a check's answer, or 0
+abbrev pub found : Result Unit Fault → ℕ
+found (Ok u) = 0
+found (Err f) = number f
+
+pub record Faults (m : Mosts) (r : Sofar) (l : Line) (x : Result Unit Fault) : Type 0 where
+  pub is : Tidy r → (F : Form) → Tells l F → found x ≡ fault_of (form_step m (so_far r) (took F []))
 
 pub record GoesOn (r : Sofar) (form : ℕ) (r₁ : Sofar) : Type 0 where
   pub is : (F : Form) → form ≡ get_or (row F) 0 0 → so_far r₁ ≡ read_on (so_far r) F

@@ -4,7 +4,7 @@ ghost use Rattle.rules.specs.Reading.{may_copy};
 ghost use Rattle.rules.specs.Tables.{cap_of};
 ghost use Rattle.reader.specs.Sofar.{edition_of, InPlace, Full, Faults, GoesOn};
 
-use rules::Form;
+use rules::{Fault, Form};
 
 // What has been read so far: whether the first line names the second edition; the counts; the number of the form that opened
 // the block which is open, or 0; and how many slots that block has filled.
@@ -80,28 +80,28 @@ fn is_full(m: rules::Mosts, r: Sofar, form: u16) -> bool
     }
 }
 
-// The lowest of 3 to 6 that a line which fits its form meets, or 0.
-pub fn fault(m: rules::Mosts, r: Sofar, l: grammar::Line) -> u16
+// The lowest of 3 to 6 that a line which fits its form meets, if it meets one.
+pub fn fault(m: rules::Mosts, r: Sofar, l: grammar::Line) -> Result<(), Fault>
     ensures { Faults m r l result }
 {
     if !in_place(r, l.form, l.a) {
-        return rules::numbers::MALFORMED;
+        return Err(Fault::Malformed);
     }
     if l.over {
-        return rules::numbers::OVER_COUNT;
+        return Err(Fault::OverCount);
     }
     if is_full(m, r, l.form) {
-        return rules::numbers::OVER_COUNT;
+        return Err(Fault::OverCount);
     }
     if r.filled < l.need {
-        return rules::numbers::UNBOUND;
+        return Err(Fault::Unbound);
     }
     if r.opener == rules::forms::METHOD {
         if l.own {
-            return rules::numbers::SELF_TAKEN;
+            return Err(Fault::SelfTaken);
         }
     }
-    0
+    Ok(())
 }
 
 // What has been read after the line; "Each let fills the next slot."

@@ -1,7 +1,8 @@
 // "then 8 in line order": what the lines name is there, and of its sort.
-ghost use Rattle.std.specs.Prelude.{◌≡◌, cond, ◌≤◌, ◌<◌, eqb, length};
+ghost use Rattle.std.specs.Prelude.{ℕ, Some, ◌≡◌, cond, ◌≤◌, ◌<◌, eqb, length};
 ghost use Rattle.reader.specs.Linking.{IsSort, MethodDangles, KindDangles, NewDangles, LineDangles, FirstDangling};
 
+use super::scanning::Counts;
 use rules::Form;
 
 // Whether block b is there, and opened by the form with this number.
@@ -96,18 +97,11 @@ fn line_dangles(t: &[u16], kinds: usize, blocks: usize, n: usize) -> bool
     }
 }
 
-// The first line that dangles, or the number of lines.
-pub fn first_dangling(t: &[u16], kinds: usize, blocks: usize, lines: usize) -> usize
-    requires { (8192 ≤ length t.now) × (kinds ≤ 32) × (blocks ≤ 64) × (lines ≤ 672) }
-    ensures first_dangling { FirstDangling t.now kinds blocks lines result }
-    ensures upper_bound { result ≤ lines }
+// The first line that dangles, if one does.
+pub fn first_dangling(t: &[u16], counts: Counts) -> Option<usize>
+    requires { (8192 ≤ length t.now) × (counts.kinds ≤ 32) × (counts.blocks ≤ 64) × (counts.lines ≤ 672) }
+    ensures first_dangling { FirstDangling t.now counts result }
+    ensures upper_bound { (n : ℕ) → result ≡ Some n → n < counts.lines }
 {
-    let mut n: usize = 0;
-    while n < lines {
-        if line_dangles(t, kinds, blocks, n) {
-            return n;
-        }
-        n += 1;
-    }
-    n
+    (0..counts.lines).find(|n| line_dangles(t, counts.kinds, counts.blocks, *n))
 }

@@ -1,19 +1,30 @@
 // All lines of a text, one after the other, each written to the table once it has passed.
 ghost use Rattle.std.specs.Prelude.{◌≡◌, cond, [], ◌≤◌, ◌<◌, length, drop, get_or};
 ghost use Rattle.rules.specs.Numbers as No;
+ghost use Rattle.rules.specs.Numbers.{number};
+ghost use Rattle.rules.specs.Reading.{lines_before};
 ghost use Rattle.rules.specs.Text.{allowed, stray, lines};
 ghost use Rattle.reader.specs.Sofar.{edition_of};
-ghost use Rattle.reader.specs.Scanning.{Put, Finishes, scan_line, Scans};
+ghost use Rattle.reader.specs.Scanning.{Put, Finishes, Scans};
 
 use super::faults::{Sofar, after_line, fault};
 use super::finder::find_lf;
-use rules::Form;
+use rules::{Fault, Form, Refusal};
 
-// What the lines come to: a refusal with its line; or the number of kinds, of blocks and of lines.
+// How many kinds, blocks and lines a text has.
 #[derive(Clone, Copy)]
-pub enum Scan {
-    Fault(u16, usize),
-    Done(usize, usize, usize),
+pub struct Counts {
+    pub kinds: usize,
+    pub blocks: usize,
+    pub lines: usize,
+}
+
+// How many lines stand before those that are read: the one that names the edition.
+pub fn lines_before(second: bool) -> usize
+    ensures value { result ≡ lines_before (edition_of second) }
+    ensures upper_bound { result ≤ 1 }
+{
+    if second { 1 } else { 0 }
 }
 
 // "Bytes are a to z, 0 to 9, brackets, space and LF."
@@ -32,26 +43,19 @@ pub fn is_allowed(b: u8) -> bool
 fn is_stray(s: &[u8]) -> bool
     ensures { result ≡ stray s.now }
 {
-    let mut i: usize = 0;
-    while i < s.len() {
-        if !is_allowed(s[i]) {
-            return true;
-        }
-        i += 1;
-    }
-    false
+    s.iter().any(|b| !is_allowed(*b))
 }
 
-// Why the line at a place is no form: 2 for a stray byte in it, else 3.
-fn unfit_fault(s: &[u8], at: usize) -> u16
+// Why the line at a place is no form: a stray byte in it, or what it says.
+fn unfit_fault(s: &[u8], at: usize) -> Fault
     requires { at ≤ length s.now }
-    ensures { result ≡ cond (stray (get_or (lines (drop at s.now)) 0 [])) No.stray_byte No.malformed }
+    ensures { number result ≡ cond (stray (get_or (lines (drop at s.now)) 0 [])) No.stray_byte No.malformed }
 {
     let end = find_lf(s, at);
     if is_stray(&s[at..end]) {
-        return rules::numbers::STRAY_BYTE;
+        return Fault::StrayByte;
     }
-    rules::numbers::MALFORMED
+    Fault::Malformed
 }
 
 // Line n of the text goes into the table, after b blocks.
@@ -85,26 +89,35 @@ fn put_line(words: &mut [u16], n: usize, b: usize, l: grammar::Line)
     }
 }
 
-// After the last line: 7, "no block, or the last one open", or the counts.
-fn finish(r: Sofar, n: usize) -> Scan
-    ensures finishes { Finishes r n result }
-    ensures result_value { scan_line result ≡ n }
+// After the last line, whose number is told: 7, "no block, or the last one open", or the counts.
+fn finish(r: Sofar, lines: usize, line: usize) -> Result<Counts, Refusal>
+    ensures { Finishes r lines line result }
 {
-    if r.blocks == 0 {
-        return Scan::Fault(rules::numbers::UNFINISHED, n);
+    let is_open = r.opener != 0;
+    if r.blocks == 0 || is_open {
+        return Err(Refusal {
+            fault: Fault::Unfinished,
+            line: line,
+        });
     }
-    if r.opener != 0 {
-        return Scan::Fault(rules::numbers::UNFINISHED, n);
-    }
-    Scan::Done(r.kinds, r.blocks, n)
+    Ok(Counts {
+        kinds: r.kinds,
+        blocks: r.blocks,
+        lines: lines,
+    })
 }
 
 // All lines of a text of this edition into a table that holds none yet.
-pub fn scan_lines(m: rules::Mosts, second: bool, text: &[u8], words: &mut [u16]) -> Scan
+pub fn scan_lines(
+    m: rules::Mosts,
+    second: bool,
+    text: &[u8],
+    words: &mut [u16],
+) -> Result<Counts, Refusal>
     requires { (m.kinds ≤ 32) × (m.blocks ≤ 64) × (m.lets ≤ 512) × (length text.now ≤ 16384) × (8192 ≤ length words.old) }
-    ensures scans { Scans m (edition_of second) text.now words.old result words.new }
-    ensures result_bound { scan_line result ≤ 672 }
+    ensures { Scans m (edition_of second) text.now words.old result words.new }
 {
+    let before = lines_before(second);
     let mut r = Sofar {
         second: second,
         kinds: 0,
@@ -116,19 +129,24 @@ pub fn scan_lines(m: rules::Mosts, second: bool, text: &[u8], words: &mut [u16])
     let mut n: usize = 0;
     let mut at: usize = 0;
     while at < text.len() {
+        let line = n + before;
         let l = grammar::line_at(text, at);
         if !l.ok {
-            return Scan::Fault(unfit_fault(text, at), n);
+            return Err(Refusal {
+                fault: unfit_fault(text, at),
+                line: line,
+            });
         }
-        let k = fault(m, r, l);
-        if k != 0 {
-            return Scan::Fault(k, n);
+        if let Err(found) = fault(m, r, l) {
+            return Err(Refusal {
+                fault: found,
+                line: line,
+            });
         }
         put_line(words, n, r.blocks, l);
-        let next = after_line(r, l.form);
-        r = next;
+        r = after_line(r, l.form);
         n += 1;
         at = l.end;
     }
-    finish(r, n)
+    finish(r, n, n + before)
 }

@@ -1,19 +1,17 @@
--- Before line n no line dangled, and linking goes on from there.
-use native.Mathlib.Omega.{arith}
-use Rattle.reader.proofs.Links.{at_first_line, line_found, line_passed, no_line_left}
+-- Before the line that is found none dangled, and linking goes on from there.
+use mathlib.Core.Path.{refl}
+use mathlib.Core.Bool.{true, false}
+use native.Mathlib.Nat.{sub-zero}
+use Rattle.std.proofs.Common.{rules, tests}
+use Rattle.std.proofs.lemmas.Iterator.{YieldsList-from_range, first_from_find}
+use Rattle.reader.specs.Linking.{LineDangles}
+use Rattle.reader.proofs.Links.{first_found}
 use Rattle.reader.proofs.linking.first_dangling.Goals as goal
 
-pub loop-n-init : goal.loop-n-init
-loop-n-init c =
+pub returns-clause-first_dangling : goal.returns-clause-first_dangling
+returns-clause-first_dangling c =
     let a = c.args in
-    (omega arith, at_first_line a.t.now a.kinds a.blocks a.lines)
-
-pub returns-then-line_dangles : goal.returns-then-line_dangles
-returns-then-line_dangles c = record { first_dangling = line_found c.loop-n.invariant.1 c.line_dangles.ensures c.if-line_dangles.true c.loop-n-test.true; upper_bound = omega arith }
-
-pub loop-n-preserved : goal.loop-n-preserved
-loop-n-preserved c =
-    (omega arith, line_passed c.loop-n.invariant.1 c.line_dangles.ensures c.if-line_dangles.false c.loop-n-test.true)
-
-pub returns : goal.returns
-returns c = record { first_dangling = no_line_left c.loop-n.invariant.1 c.loop-n-test.false; upper_bound = omega arith }
+    first_found a.t.now a.counts c.find.result
+    (first_from_find _ _ c.find.result (λ n. LineDangles a.t.now a.counts.kinds a.counts.blocks n true) (λ n. LineDangles a.t.now a.counts.kinds a.counts.blocks n false)
+    c.find.ensures.ran (YieldsList-from_range 0 a.counts.lines a.counts.lines refl (sub-zero a.counts.lines))
+    (λ n q k. search (rules, tests)) (λ n q k. search (rules, tests)))
