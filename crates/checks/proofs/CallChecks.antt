@@ -17,7 +17,7 @@ use Rattle.rules.specs.Tables.{operand_of}
 use Rattle.rules.specs.Turn.{Res, stop, ok, ◌>>=◌, ◌>>◌, check, permit, is_foreign, as_object, object, call_line}
 use Rattle.rules.proofs.ListLaws.{impossible}
 use Rattle.rules.proofs.Keeps.{kind_ok}
-use Rattle.table.specs.declared.state.Here.{Here}
+use Rattle.table.specs.declared.standing.Here.{Here}
 use Rattle.table.specs.ProgramTable.{Filled, KindMethod}
 use Rattle.table.specs.StateTable.{Sees, Any}
 use Rattle.checks.specs.Checked.{outcome_of, passed, Made, Few, Stand, here_at, Named, MethodItem}

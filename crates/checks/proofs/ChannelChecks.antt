@@ -12,7 +12,7 @@ use Rattle.rules.specs.declared.Value.TheVariants.{Absent, Obj, Chan}
 use Rattle.rules.specs.State.{State, object_at, channel_at}
 use Rattle.rules.specs.Tables.{operand_of}
 use Rattle.rules.specs.Turn.{Res, wait, stop, ok, ◌>>=◌, ◌>>◌, wait_unless, permit, is_local, is_absent, as_object, as_channel, object, recv_line, sent_line, put_line}
-use Rattle.table.specs.declared.state.Here.{Here}
+use Rattle.table.specs.declared.standing.Here.{Here}
 use Rattle.table.specs.StateTable.{InTable, Counted, Sees, Any}
 use Rattle.table.proofs.Places.{message_in_table}
 use Rattle.checks.specs.Checked.{outcome_of, passed, InObjects, put_into, Checks}

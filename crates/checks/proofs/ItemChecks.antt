@@ -18,7 +18,7 @@ use Rattle.rules.specs.Tables.{operand_item, operand_of}
 use Rattle.rules.specs.Turn.{stop, Res, ok, ◌>>=◌, ◌>>◌, permit, is_iso_object, present, operand, operands, left_by}
 use Rattle.rules.proofs.ListLaws.{impossible, by_bool, every_pad, every_image, every_mapped, every_map}
 use Rattle.rules.proofs.TableWords.{operand_of_word, half_of_word, slot_of_word}
-use Rattle.table.specs.declared.state.Here.{Here}
+use Rattle.table.specs.declared.standing.Here.{Here}
 use Rattle.checks.specs.Checked.{outcome_of, passed, Stand, Named, Checks}
 use Rattle.checks.specs.NewItems.{left_by_item, item_slots, item_operand, takes_slot, ChecksItems}
 use Rattle.checks.proofs.CheckLaws.{stays, goes_on, then_ok, then_gives, same_after, given}

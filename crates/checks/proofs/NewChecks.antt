@@ -19,7 +19,7 @@ use Rattle.rules.specs.Turn.{Res, ok, ◌>>=◌, ◌>>◌, check, permit, is_abs
 use Rattle.rules.proofs.ListLaws.{by_bool, every_map, every_image, every_mapped, map_pad}
 use Rattle.rules.proofs.TableWords.{half_of_word}
 use Rattle.rules.proofs.Moves.{left_was_there}
-use Rattle.table.specs.declared.state.Here.{Here}
+use Rattle.table.specs.declared.standing.Here.{Here}
 use Rattle.table.specs.StateTable.{InTable, Sees, frame_at}
 use Rattle.checks.specs.Checked.{outcome_of, passed, InObjects, here_at, Stand, Named}
 use Rattle.checks.specs.NewItems.{hold_all, item_slots, item_value, AllInObjects, ChecksItems, ChecksHeld, ChecksNew}

@@ -19,7 +19,7 @@ use Rattle.rules.specs.Tables.{operand_of}
 use Rattle.rules.specs.Turn.{Res, stop, ◌>>=◌, ◌>>◌, check, permit, is_imm, is_local, may_hold, is_foreign, is_absent, is_iso_object, as_object, object, field_line, are_apart, permit_swap, swap_line}
 use Rattle.rules.specs.Fits.{IsObject}
 use Rattle.rules.proofs.ListLaws.{by_bool, below, every_at}
-use Rattle.table.specs.declared.state.Here.{Here}
+use Rattle.table.specs.declared.standing.Here.{Here}
 use Rattle.table.specs.StateTable.{Sees, FieldIn}
 use Rattle.checks.specs.Checked.{outcome_of, passed, Made, Fielded, InObjects, swap_into, here_at, Stand, Named, Checks}
 use Rattle.checks.proofs.CheckLaws.{stays, as_outcome, then_ok, same_after}

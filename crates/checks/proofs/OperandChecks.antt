@@ -18,7 +18,7 @@ use Rattle.rules.specs.State.{Frame, State, object_at, slot_at}
 use Rattle.rules.specs.Tables.{operand_of}
 use Rattle.rules.specs.Turn.{Res, ok, stop, ◌>>=◌, ◌>>◌, check, permit, is_iso, is_local, same_cap, is_foreign, is_iso_object, present, as_object, operand, left_by, object, cast_line}
 use Rattle.rules.proofs.ListLaws.{by_bool}
-use Rattle.table.specs.declared.state.Here.{Here}
+use Rattle.table.specs.declared.standing.Here.{Here}
 use Rattle.table.specs.StateTable.{InTable, Sees, frame_at}
 use Rattle.checks.specs.Checked.{passed, Made, InObjects, Stand, Checks}
 use Rattle.checks.proofs.CheckLaws.{stays, as_outcome, then_ok}

@@ -18,7 +18,7 @@ use Rattle.rules.specs.Fits.{InRange, IsObject, Fits}
 use Rattle.rules.proofs.ListLaws.{every_map, every_get}
 use Rattle.rules.proofs.Keeps.{HereFits, here_fits, is_object_more, object_in_range, slot_range, object_fits, channel_fits}
 use Rattle.rules.proofs.Moves.{left_was_there}
-use Rattle.table.specs.declared.state.Here.{Here}
+use Rattle.table.specs.declared.standing.Here.{Here}
 use Rattle.table.specs.StateTable.{InTable, Sees, FieldIn, frame_at}
 use Rattle.table.proofs.StateEdits.{innermost_frame}
 use Rattle.table.proofs.Places.{in_table, has_place, message_in_table}

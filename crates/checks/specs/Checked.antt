@@ -13,7 +13,7 @@ use Rattle.rules.specs.State.{Object, Frame, State, object_at, thread_at, channe
 use Rattle.rules.specs.Turn as R
 use Rattle.rules.specs.Turn.{Res, ok, wait, stop, ◌>>=◌, ◌>>◌, check, wait_unless, permit, is_local, is_absent, as_object, permit_swap}
 use Rattle.rules.specs.Fits.{IsObject, Fits}
-use Rattle.table.specs.declared.state.Here.{Here}
+use Rattle.table.specs.declared.standing.Here.{Here}
 use Rattle.table.specs.ProgramTable.{Filled}
 use Rattle.table.specs.StateTable.{Held}
 use Rattle.checks.specs.declared.form_checks.Halt.{Halt}

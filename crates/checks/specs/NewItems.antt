@@ -13,7 +13,7 @@ use Rattle.rules.specs.State.{Object, State, object_at, slot_at}
 use Rattle.rules.specs.Tables.{operand_item, operand_of}
 use Rattle.rules.specs.Turn as R
 use Rattle.rules.specs.Turn.{Res, ok, ◌>>=◌, ◌>>◌, check, permit, may_hold, is_foreign, is_absent, operand, left_by, operands, all_objects}
-use Rattle.table.specs.declared.state.Here.{Here}
+use Rattle.table.specs.declared.standing.Here.{Here}
 use Rattle.table.specs.StateTable.{Sees}
 use Rattle.checks.specs.Checked.{outcome_of, InObjects, Checks}
 

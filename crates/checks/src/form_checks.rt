@@ -5,7 +5,7 @@ ghost use Rattle.rules.specs.Numbers as No;
 ghost use Rattle.rules.specs.State.{object_at, channel_at, slot_at};
 ghost use Rattle.rules.specs.Tables.{operand_of};
 ghost use Rattle.rules.specs.Turn.{check, is_imm, is_iso, is_local, is_foreign, is_absent, is_iso_object, permit, operand, left_by, are_apart, permit_swap, cast_line, put_line, sent_line, recv_line};
-ghost use Rattle.table.specs.StateTable.{InTable, Sees, Placed, frame_at};
+ghost use Rattle.table.specs.StateTable.{InTable, Sees, frame_at};
 ghost use Rattle.checks.specs.declared.form_checks.Halt.TheVariants.{Stops};
 ghost use Rattle.checks.specs.Checked.{result_of, outcome_of, checked, Made, Fielded, InObjects, Few, swap_into, put_into, MethodItem, Checks};
 
@@ -122,7 +122,7 @@ pub fn permission_check(foreign: bool, alias: bool, other: bool) -> Result<(), F
 
 // The value of the operand's slot: what it gives, where its check passes.
 pub fn operand(s: &[u16], h: Here, w: u16) -> Value
-    requires { (8192 ≤ length s.now) × Placed h }
+    requires { 8192 ≤ length s.now }
     ensures in_table { InTable result }
     ensures sees { Sees s.now (λ S. InTable (slot_at (frame_at S h.thread h.depth).slots (w / 2 % 16))) (λ S. slot_at (frame_at S h.thread h.depth).slots (w / 2 % 16)) result }
 {
@@ -131,7 +131,7 @@ pub fn operand(s: &[u16], h: Here, w: u16) -> Value
 
 // "operand: absent 10; a read of an iso object 19."
 pub fn operand_check(s: &[u16], h: Here, w: u16) -> Result<(), Fault>
-    requires { (8192 ≤ length s.now) × Placed h }
+    requires { 8192 ≤ length s.now }
     ensures { Checks s.now h (w / 2 ∷ []) (λ P H. operand H.state.objects H.frame.slots (operand_of w)) (checked result) }
 {
     let v = operand(s, h, w);
@@ -149,7 +149,7 @@ pub fn operand_check(s: &[u16], h: Here, w: u16) -> Result<(), Fault>
 
 // Slot i as the operand leaves it.
 pub fn seen(s: &[u16], h: Here, i: u16, w: u16) -> Value
-    requires { (8192 ≤ length s.now) × Placed h × (i < 256) }
+    requires { (8192 ≤ length s.now) × (i < 256) }
     ensures in_table { InTable result }
     ensures sees { Sees s.now (λ S. (i < 16) × InTable (slot_at (frame_at S h.thread h.depth).slots i)) (λ S. slot_at (left_by (frame_at S h.thread h.depth).slots (operand_of w)) i) result }
 {
@@ -163,7 +163,7 @@ pub fn seen(s: &[u16], h: Here, i: u16, w: u16) -> Value
 
 // "cast: a channel 13; capability not K 15; else gives the value."
 pub fn cast_check(s: &[u16], h: Here, k: Cap, w: u16) -> Result<(), Fault>
-    requires { (8192 ≤ length s.now) × Placed h }
+    requires { 8192 ≤ length s.now }
     ensures { Checks s.now h (w / 2 ∷ []) (λ P H. cast_line H k (operand_of w)) (checked result) }
 {
     operand_check(s, h, w)?;
@@ -255,7 +255,7 @@ pub fn spawn_check(s: &[u16]) -> Result<(), Fault>
 
 // "recv: target absent 10; an object 13; empty: waits."
 pub fn recv_check(s: &[u16], h: Here, i: u16) -> Result<(), Halt>
-    requires { (8192 ≤ length s.now) × Placed h }
+    requires { 8192 ≤ length s.now }
     ensures { Checks s.now h (i ∷ []) (λ P H. recv_line H i) (result_of result) }
 {
     let x = table::slot(s, h, i as usize % 16);
@@ -273,7 +273,7 @@ pub fn recv_check(s: &[u16], h: Here, i: u16) -> Result<(), Halt>
 
 // "waits while the channel still holds the message with that number": the sender's word is d.
 pub fn sent_check(s: &[u16], h: Here, i: u16, d: u16) -> Result<(), Halt>
-    requires { (8192 ≤ length s.now) × Placed h × (1 ≤ d) }
+    requires { (8192 ≤ length s.now) × (1 ≤ d) }
     ensures { Checks s.now h (i ∷ []) (λ P H. sent_line H i (d - 1)) (result_of result) }
 {
     let x = table::slot(s, h, i as usize % 16);
@@ -312,7 +312,7 @@ pub fn put_into(s: &[u16], c: u16, v: Value) -> Result<(), Halt>
 
 // "send: target absent 10; an object 13; value a channel 13; value local 14; channel full: waits."
 pub fn put_check(s: &[u16], h: Here, i: u16, w: u16) -> Result<(), Halt>
-    requires { (8192 ≤ length s.now) × Placed h × (i < 256) }
+    requires { (8192 ≤ length s.now) × (i < 256) }
     ensures { Checks s.now h (i ∷ w / 2 ∷ []) (λ P H. put_line H i (operand_of w)) (result_of result) }
 {
     operand_check(s, h, w)?;

@@ -2,7 +2,7 @@
 ghost use Rattle.std.specs.Prelude.{◌≡◌, ◌||◌, [], ◌∷◌, ◌≤◌, ◌<◌, length};
 ghost use Rattle.rules.specs.Lists.{any, Every};
 ghost use Rattle.rules.specs.State.{slot_at};
-ghost use Rattle.table.specs.StateTable.{InTable, Sees, Placed, frame_at};
+ghost use Rattle.table.specs.StateTable.{InTable, Sees, frame_at};
 ghost use Rattle.checks.specs.Checked.{checked, InObjects, Checks};
 ghost use Rattle.checks.specs.NewItems.{left_by_item, item_slots, item_operand, item_value, takes_slot, foreign_to, above, is_channel, AllInObjects, ChecksItems, ChecksHeld};
 
@@ -22,7 +22,7 @@ fn takes_slot(a: u16, e: u16) -> bool
 
 // The operand of item e, which sees what the items a, b and c before it took.
 fn item_check(s: &[u16], h: Here, a: u16, b: u16, c: u16, e: u16) -> Result<(), Fault>
-    requires { (8192 ≤ length s.now) × Placed h }
+    requires { 8192 ≤ length s.now }
     ensures { Checks s.now h (item_slots e) (λ P H. item_operand H.state.objects (left_by_item (left_by_item (left_by_item H.frame.slots a) b) c) e) (checked result) }
 {
     if e == 0 {
@@ -42,7 +42,7 @@ fn item_check(s: &[u16], h: Here, a: u16, b: u16, c: u16, e: u16) -> Result<(), 
 
 // "All operands come first, left to right, each seeing what the earlier ones took."
 pub fn items_check(s: &[u16], h: Here, a: u16, b: u16, c: u16, d: u16) -> Result<(), Fault>
-    requires { (8192 ≤ length s.now) × Placed h }
+    requires { 8192 ≤ length s.now }
     ensures { ChecksItems s.now h (a ∷ b ∷ c ∷ d ∷ []) (checked result) }
 {
     item_check(s, h, 0, 0, 0, a)?;
@@ -53,7 +53,7 @@ pub fn items_check(s: &[u16], h: Here, a: u16, b: u16, c: u16, d: u16) -> Result
 
 // The value of an item's slot; absent where there is no item.
 pub fn item_value(s: &[u16], h: Here, e: u16) -> Value
-    requires { (8192 ≤ length s.now) × Placed h }
+    requires { 8192 ≤ length s.now }
     ensures in_table { InTable result }
     ensures sees { Sees s.now (λ S. Every (λ i. (i < 16) × InTable (slot_at (frame_at S h.thread h.depth).slots i)) (item_slots e)) (λ S. item_value (frame_at S h.thread h.depth).slots e) result }
 {

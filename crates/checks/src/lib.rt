@@ -1,5 +1,5 @@
 // What the checks of a line answer, read off the tables. None of them writes.
-#![tactic(auto)]
+#![tactic(auto, using(table::proofs::StateReads::object_in_table, table::proofs::StateReads::channel_in_table))]
 
 mod form_checks;
 mod items;

@@ -23,7 +23,7 @@ use Rattle.rules.proofs.ListLaws.{get_there, every_map}
 use Rattle.rules.proofs.Moves.{left_was_there, MethodCalled, Step, by_call, by_return, by_finish}
 use Rattle.rules.proofs.Keeps.{block_ok}
 use Rattle.rules.proofs.TableWords.{length_outermost}
-use Rattle.table.specs.declared.state.Here.{Here}
+use Rattle.table.specs.declared.standing.Here.{Here}
 use Rattle.table.specs.StateTable.{InTable, Counted, Becomes, frame_at, on_frame, edit_frame, HasFrame, HasRoom, HasSlot, Innermost, given, callee, called, left, raised, all_raised, all_lowered, Counts, Drops}
 use Rattle.table.proofs.StateEdits.{thread_put, put_put}
 use Rattle.table.proofs.Places.{has_place}

@@ -17,7 +17,7 @@ use Rattle.rules.specs.State.{Frame, ready, Thread, no_thread, State, thread_at,
 use Rattle.rules.specs.Turn.{Res, check, put_thread, put_channel, filled, gives, started, spawn_line, recv_line, let_line, perform}
 use Rattle.rules.proofs.ListLaws.{length_snoc}
 use Rattle.rules.proofs.Moves.{Step, by_spawn, by_recv}
-use Rattle.table.specs.declared.state.Here.{Here}
+use Rattle.table.specs.declared.standing.Here.{Here}
 use Rattle.table.specs.StateTable as T
 use Rattle.table.specs.StateTable.{Counted, Sees, Becomes, Any, HasRoom, given, channelled}
 use Rattle.checks.specs.Checked.{outcome_of, Few, here_at, Stand, Checks}

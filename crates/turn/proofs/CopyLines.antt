@@ -29,7 +29,7 @@ use Rattle.rules.proofs.Counts.{object_self, every_time, among_times, place_ther
 use Rattle.rules.proofs.Walks.{walked_values, walked_fields, walked_range, met_walked}
 use Rattle.rules.proofs.Moves.{met_here, Step, by_copy, with_copies}
 use Rattle.rules.proofs.Keeps.{fields_in_range}
-use Rattle.table.specs.declared.state.Here.{Here}
+use Rattle.table.specs.declared.standing.Here.{Here}
 use Rattle.table.specs.StateTable.{Counted, Held, Sees, Any, Becomes, HasRoom, given, raised, all_raised, Counts}
 use Rattle.walk.specs.Walking.{tally, Numbered, Walks, Of}
 use Rattle.walk.proofs.Numbers.{number_at}

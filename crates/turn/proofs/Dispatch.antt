@@ -19,7 +19,7 @@ use Rattle.rules.specs.Tables.{operand_word, operand_item, operand_of, cap_of, l
 use Rattle.rules.proofs.ListLaws.{get_pad, all_below, below_true}
 use Rattle.rules.proofs.FormNumbers.{place}
 use Rattle.rules.proofs.TableWords.{cap_of_rank, operand_of_word}
-use Rattle.table.specs.declared.state.Here.{Here}
+use Rattle.table.specs.declared.standing.Here.{Here}
 use Rattle.table.specs.StateTable.{OnLine}
 use Rattle.checks.specs.Checked.{Stand}
 use Rattle.checks.proofs.Standing.{slot_place}

@@ -13,7 +13,7 @@ use Rattle.rules.specs.Script.{Operand, reads, takes, Program}
 use Rattle.rules.specs.Reading.{slot_of}
 use Rattle.rules.specs.State.{Object, Frame, Sender, ready, Thread, State, thread_at}
 use Rattle.rules.specs.Turn.{left_by, put_thread, put_objects, filled, with_slots}
-use Rattle.table.specs.declared.state.Here.{Here}
+use Rattle.table.specs.declared.standing.Here.{Here}
 use Rattle.table.specs.StateTable.{frame_at, on_frame, edit_frame, HasFrame, HasRoom, HasSlot, Innermost, given, inner_less, left}
 use Rattle.table.proofs.StateEdits.{thread_put, put_put, length_put, innermost_frame}
 use Rattle.checks.specs.Checked.{Stand}

@@ -14,7 +14,7 @@ use Rattle.rules.specs.Fits.{Fits}
 use Rattle.rules.specs.Tables.{program_words}
 use Rattle.rules.proofs.Accepted.{table_lines}
 use Rattle.rules.proofs.Keeps.{here_fits}
-use Rattle.table.specs.declared.state.Here.{Here}
+use Rattle.table.specs.declared.standing.Here.{Here}
 use Rattle.table.specs.StateTable.{Held, Sees, Any, OnLine, Stands}
 use Rattle.table.proofs.ProgramTable.{program_words_by_lines}
 use Rattle.table.proofs.ProgramLines.{blocks_of_lines}

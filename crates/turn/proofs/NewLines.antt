@@ -23,7 +23,7 @@ use Rattle.rules.proofs.ListLaws.{every_map, every_image, length_snoc}
 use Rattle.rules.proofs.Moves.{GaveAll, no_more, one_more, Step, by_new}
 use Rattle.rules.proofs.Keeps.{kind_ok}
 use Rattle.rules.proofs.TableWords.{operand_of_word, half_of_word}
-use Rattle.table.specs.declared.state.Here.{Here}
+use Rattle.table.specs.declared.standing.Here.{Here}
 use Rattle.table.specs.StateTable.{Counted, Sees, Any, Becomes, HasSlot, HasRoom, Makes, given, made, raised, all_raised, Counts}
 use Rattle.std.specs.Prelude.{Result, Ok}
 use Rattle.std.specs.Result.{IsErrAnd}

@@ -19,7 +19,7 @@ use Rattle.rules.specs.Turn.{Res, is_absent, left_by, object, put_thread, put_ob
 use Rattle.rules.proofs.ListLaws.{length_snoc}
 use Rattle.rules.proofs.Moves.{Step, by_field, by_swap}
 use Rattle.rules.proofs.TableWords.{slot_of_word}
-use Rattle.table.specs.declared.state.Here.{Here}
+use Rattle.table.specs.declared.standing.Here.{Here}
 use Rattle.table.specs.StateTable.{Counted, Sees, Becomes, HasRoom, HasField, FieldIn, edit_frame, given, stored, raised, all_raised, Counts}
 use Rattle.checks.specs.Checked.{here_at, Stand, Checks}
 use Rattle.checks.proofs.CheckLaws.{number_of}

@@ -16,7 +16,7 @@ use Rattle.rules.specs.Turn.{Res, is_absent, left_by, put_thread, put_channel, f
 use Rattle.rules.proofs.ListLaws.{impossible}
 use Rattle.rules.proofs.Moves.{left_was_there, Step, by_put, by_sent}
 use Rattle.rules.proofs.TableWords.{sender_tells}
-use Rattle.table.specs.declared.state.Here.{Here}
+use Rattle.table.specs.declared.standing.Here.{Here}
 use Rattle.table.specs.StateTable.{Counted, Held, Sees, Becomes, Any, HasRoom, given, channelled, sending, Puts}
 use Rattle.table.proofs.StateEdits.{thread_put, put_put}
 use Rattle.checks.specs.Checked.{outcome_of, here_at, Stand, Checks}

@@ -21,7 +21,7 @@ use Rattle.rules.proofs.ListLaws.{by_bool, length_snoc}
 use Rattle.rules.specs.HolderChanges.{operand_gained, let_gained, line_gained, line_lost}
 use Rattle.rules.proofs.Moves.{Gave, Step, by_value, by_cast}
 use Rattle.rules.proofs.TableWords.{slot_of_word}
-use Rattle.table.specs.declared.state.Here.{Here}
+use Rattle.table.specs.declared.standing.Here.{Here}
 use Rattle.table.specs.StateTable.{Becomes, HasSlot, HasRoom, on_frame, edit_frame, cleared, given, raised, all_raised, Counts}
 use Rattle.checks.specs.Checked.{here_at, Stand, Checks}
 use Rattle.checks.proofs.CheckLaws.{then_gives}

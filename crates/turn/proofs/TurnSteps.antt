@@ -22,7 +22,7 @@ use Rattle.rules.specs.HolderChanges.{line_gained, line_lost}
 use Rattle.rules.proofs.Keeps.{let_below, let_ok, give_ok, block_ok, step_fits}
 use Rattle.rules.proofs.HolderLaws.{step_changes, holders_few}
 use Rattle.rules.proofs.TableWords.{slot_of_word}
-use Rattle.table.specs.declared.state.Here.{Here}
+use Rattle.table.specs.declared.standing.Here.{Here}
 use Rattle.table.specs.StateTable.{Held}
 use Rattle.std.specs.Prelude.{Result, Ok, Err}
 use Rattle.std.specs.Result.{IsErrAnd}

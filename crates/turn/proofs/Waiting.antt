@@ -15,7 +15,7 @@ use Rattle.rules.specs.Tables.{operand_of, sender_word, line_words, row}
 use Rattle.rules.specs.Turn as R
 use Rattle.rules.specs.Turn.{Res, ok, wait, stop, ◌>>=◌, ◌>>◌, check, permit, present, as_object, operand, operands, all_objects, permit_swap, value_line, field_line, swap_line, call_line, new_line, cast_line, spawn_line, put_line, sent_line, recv_line, copy_line, give_line, let_line, perform}
 use Rattle.rules.specs.Run.{waits}
-use Rattle.table.specs.declared.state.Here.{Here}
+use Rattle.table.specs.declared.standing.Here.{Here}
 use Rattle.table.specs.StateTable.{Held, Sees, Any}
 use Rattle.std.specs.Prelude.{Result, Ok, Err}
 use Rattle.std.specs.Result.{result_eq}

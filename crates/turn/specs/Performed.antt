@@ -15,7 +15,7 @@ use Rattle.rules.specs.Turn as R
 use Rattle.rules.specs.Turn.{Res, ok, wait, stop, left_by, with_slots}
 use Rattle.rules.specs.Run.{waits}
 use Rattle.rules.specs.Fits.{Fits}
-use Rattle.table.specs.declared.state.Here.{Here}
+use Rattle.table.specs.declared.standing.Here.{Here}
 use Rattle.table.specs.ProgramTable.{Filled}
 use Rattle.table.specs.StateTable.{Counted, Held, OnLine, HasSlot, edit_frame, all_raised}
 use Rattle.checks.specs.declared.form_checks.Halt.{Halt}

@@ -5,7 +5,7 @@ ghost use Rattle.rules.specs.Lists.{any};
 ghost use Rattle.rules.specs.Script.{copy, bind};
 ghost use Rattle.rules.specs.State.{object_at, slot_at};
 ghost use Rattle.rules.specs.Turn.{is_foreign};
-ghost use Rattle.table.specs.StateTable.{InTable, Sees, Placed, FieldIn, all_raised, Counts};
+ghost use Rattle.table.specs.StateTable.{InTable, Sees, FieldIn, all_raised, Counts};
 ghost use Rattle.checks.specs.Checked.{checked};
 ghost use Rattle.turn.specs.Performed.{Always, Performs};
 ghost use Rattle.turn.specs.Copied.{AllMade, renamed_by, CopiesOne, CopiesAll, CopiesFrom};
@@ -122,7 +122,7 @@ fn copy_from(s: &mut [u16], t: usize, cap: u16, n: u16) -> Result<(), Fault>
 
 // "slot absent 10, a channel 13, .. The slot keeps its value, even an iso."
 pub fn copy_line(s: &mut [u16], h: Here, k: Cap, i: u16) -> Result<Move, Halt>
-    requires { (8192 ≤ length s.old) × Placed h }
+    requires { 8192 ≤ length s.old }
     ensures { Performs Always s.old h (bind (copy k i)) result s.new }
 {
     let x = table::slot(s, h, i as usize % 16);

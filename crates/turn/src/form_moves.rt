@@ -4,7 +4,7 @@ ghost use Rattle.std.specs.Prelude.{◌≡◌, [], ◌∷◌, ◌≤◌, ◌<◌
 ghost use Rattle.rules.specs.Script.{value, field, swap, call, cast, spawn, send, recv, bind, give};
 ghost use Rattle.rules.specs.State.{ready, thread_at};
 ghost use Rattle.rules.specs.Tables.{operand_of};
-ghost use Rattle.table.specs.StateTable.{InTable, Placed};
+ghost use Rattle.table.specs.StateTable.{InTable};
 ghost use Rattle.turn.specs.Performed.{Leaves, LeavesItem, Always, Loaded, Performs, PerformsNew, PerformsSent};
 
 use super::Move;
@@ -17,7 +17,7 @@ use table::Here;
 // What an operand does to its slot, once its value v stands elsewhere too: a take makes the slot absent, so that v has moved; a read leaves v there, held
 // once more.
 fn leave(s: &mut [u16], h: Here, w: u16, v: Value)
-    requires { (8192 ≤ length s.old) × Placed h × InTable v }
+    requires { (8192 ≤ length s.old) × InTable v }
     ensures { Leaves h.thread h.depth w v s.old s.new }
 {
     if w % 2 == 1 {
@@ -29,7 +29,7 @@ fn leave(s: &mut [u16], h: Here, w: u16, v: Value)
 
 // The same of an item of a new.
 fn leave_item(s: &mut [u16], h: Here, e: u16, v: Value)
-    requires { (8192 ≤ length s.old) × Placed h × InTable v }
+    requires { (8192 ≤ length s.old) × InTable v }
     ensures { LeavesItem h.thread h.depth e v s.old s.new }
 {
     if e != 0 {
@@ -40,7 +40,7 @@ fn leave_item(s: &mut [u16], h: Here, e: u16, v: Value)
 // ---- The forms
 
 pub fn value_line(s: &mut [u16], h: Here, w: u16) -> Result<Move, Halt>
-    requires { (8192 ≤ length s.old) × Placed h }
+    requires { 8192 ≤ length s.old }
     ensures { Performs Always s.old h (bind (value (operand_of w))) result s.new }
 {
     checks::operand_check(s, h, w)?;
@@ -52,7 +52,7 @@ pub fn value_line(s: &mut [u16], h: Here, w: u16) -> Result<Move, Halt>
 
 // "field: target slot absent 10; a channel 13; no such field 11; target local to another thread 20; field holds an iso 19."
 pub fn field_line(s: &mut [u16], h: Here, i: u16, j: u16) -> Result<Move, Halt>
-    requires { (8192 ≤ length s.old) × Placed h }
+    requires { 8192 ≤ length s.old }
     ensures { Performs Always s.old h (bind (field i j)) result s.new }
 {
     let x = table::slot(s, h, i as usize % 16);
@@ -76,7 +76,7 @@ pub fn field_line(s: &mut [u16], h: Here, i: u16, j: u16) -> Result<Move, Halt>
 
 // "swap: target absent 10; target a channel 13; .. It stores the value and gives the old one."
 pub fn swap_line(s: &mut [u16], h: Here, i: u16, j: u16, w: u16) -> Result<Move, Halt>
-    requires { (8192 ≤ length s.old) × Placed h × (i < 256) }
+    requires { (8192 ≤ length s.old) × (i < 256) }
     ensures { Performs Always s.old h (bind (swap i j (operand_of w))) result s.new }
 {
     checks::operand_check(s, h, w)?;
@@ -99,7 +99,7 @@ pub fn swap_line(s: &mut [u16], h: Here, i: u16, j: u16, w: u16) -> Result<Move,
 // "call: target absent 10; a channel 13; no such method 12; target local to another thread 20; frames used up 16. The new frame holds target and
 // value; the caller's slot keeps the target."
 pub fn call_line(p: &[u16], s: &mut [u16], h: Here, i: u16, j: u16, w: u16) -> Result<Move, Halt>
-    requires { (8192 ≤ length p.now) × (8192 ≤ length s.old) × Placed h × (i < 256) }
+    requires { (8192 ≤ length p.now) × (8192 ≤ length s.old) × (i < 256) }
     ensures { Performs (λ P S. Loaded p.now P) s.old h (bind (call i j (operand_of w))) result s.new }
 {
     checks::operand_check(s, h, w)?;
@@ -135,7 +135,7 @@ pub fn new_line(
     c: u16,
     d: u16,
 ) -> Result<Move, Halt>
-    requires { (8192 ≤ length s.old) × Placed h }
+    requires { 8192 ≤ length s.old }
     ensures { PerformsNew s.old h k kind (a ∷ b ∷ c ∷ d ∷ []) result s.new }
 {
     checks::items_check(s, h, a, b, c, d)?;
@@ -156,7 +156,7 @@ pub fn new_line(
 }
 
 pub fn cast_line(s: &mut [u16], h: Here, k: Cap, w: u16) -> Result<Move, Halt>
-    requires { (8192 ≤ length s.old) × Placed h }
+    requires { 8192 ≤ length s.old }
     ensures { Performs Always s.old h (bind (cast k (operand_of w))) result s.new }
 {
     checks::cast_check(s, h, k, w)?;
@@ -168,7 +168,7 @@ pub fn cast_line(s: &mut [u16], h: Here, k: Cap, w: u16) -> Result<Move, Halt>
 
 // "A spawn makes the next thread, with an empty channel of the same number."
 pub fn spawn_line(s: &mut [u16], h: Here, b: u16) -> Result<Move, Halt>
-    requires { (8192 ≤ length s.old) × Placed h }
+    requires { 8192 ≤ length s.old }
     ensures { Performs Always s.old h (bind (spawn b)) result s.new }
 {
     checks::spawn_check(s)?;
@@ -180,7 +180,7 @@ pub fn spawn_line(s: &mut [u16], h: Here, b: u16) -> Result<Move, Halt>
 
 // A send by a thread that is ready: "target absent 10; an object 13; ..".
 fn put_line(s: &mut [u16], h: Here, i: u16, w: u16) -> Result<Move, Halt>
-    requires { (8192 ≤ length s.old) × Placed h × (i < 256) }
+    requires { (8192 ≤ length s.old) × (i < 256) }
     ensures { Performs (λ P S. (thread_at S h.thread).sender ≡ ready) s.old h (bind (send i (operand_of w))) result s.new }
 {
     checks::operand_check(s, h, w)?;
@@ -200,7 +200,7 @@ fn put_line(s: &mut [u16], h: Here, i: u16, w: u16) -> Result<Move, Halt>
 
 // A send by a thread that waits as a sender, whose word is d.
 fn sent_line(s: &mut [u16], h: Here, i: u16, d: u16) -> Result<Move, Halt>
-    requires { (8192 ≤ length s.old) × Placed h × (1 ≤ d) }
+    requires { (8192 ≤ length s.old) × (1 ≤ d) }
     ensures { PerformsSent s.old h i d result s.new }
 {
     checks::sent_check(s, h, i, d)?;
@@ -210,7 +210,7 @@ fn sent_line(s: &mut [u16], h: Here, i: u16, d: u16) -> Result<Move, Halt>
 }
 
 pub fn send_line(s: &mut [u16], h: Here, i: u16, w: u16) -> Result<Move, Halt>
-    requires { (8192 ≤ length s.old) × Placed h × (i < 256) }
+    requires { (8192 ≤ length s.old) × (i < 256) }
     ensures { Performs Always s.old h (bind (send i (operand_of w))) result s.new }
 {
     let d = table::sender(s, h.thread);
@@ -222,7 +222,7 @@ pub fn send_line(s: &mut [u16], h: Here, i: u16, w: u16) -> Result<Move, Halt>
 
 // "recv: target absent 10; an object 13; empty: waits. Otherwise it gives the value and empties the channel."
 pub fn recv_line(s: &mut [u16], h: Here, i: u16) -> Result<Move, Halt>
-    requires { (8192 ≤ length s.old) × Placed h }
+    requires { 8192 ≤ length s.old }
     ensures { Performs Always s.old h (bind (recv i)) result s.new }
 {
     let x = table::slot(s, h, i as usize % 16);
@@ -243,7 +243,7 @@ pub fn recv_line(s: &mut [u16], h: Here, i: u16) -> Result<Move, Halt>
 
 // "A give ends the frame and fills the caller's slot. From the outermost frame it finishes the thread."
 pub fn give_line(s: &mut [u16], h: Here, w: u16) -> Result<Move, Halt>
-    requires { (8192 ≤ length s.old) × Placed h }
+    requires { 8192 ≤ length s.old }
     ensures { Performs Always s.old h (give (operand_of w)) result s.new }
 {
     checks::operand_check(s, h, w)?;

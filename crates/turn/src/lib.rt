@@ -1,5 +1,5 @@
 // One turn of one thread on the tables.
-#![tactic(auto)]
+#![tactic(auto, using(table::proofs::StateReads::object_in_table, table::proofs::StateReads::channel_in_table))]
 
 mod copies;
 mod form_moves;

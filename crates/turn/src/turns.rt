@@ -4,77 +4,66 @@ ghost use Rattle.rules.specs.declared.forms.Form.TheVariants.{Copy};
 ghost use Rattle.rules.specs.Forms.{form_number};
 ghost use Rattle.rules.specs.Script.{send, recv, bind};
 ghost use Rattle.rules.specs.Tables.{operand_of};
-ghost use Rattle.table.specs.StateTable.{Placed};
 ghost use Rattle.turn.specs.Performed.{PerformsHere, TakesTurn, WouldWait, WaitsHere};
 
 use super::Move;
 use checks::Halt;
-use rules::Form;
+use rules::{Cap, Form};
 use table::Here;
 
 // Performs the line where the thread stands, a copy.
 pub fn perform_copy(p: &[u16], s: &mut [u16], h: Here) -> Result<Move, Halt>
-    requires { (8192 ≤ length p.now) × (8192 ≤ length s.old) × Placed h × (get_or p.now (h.row + 0) 0 ≡ form_number Copy) }
+    requires { (8192 ≤ length p.now) × (8192 ≤ length s.old) × (get_or p.now (h.row + 0) 0 ≡ form_number Copy) }
     ensures { PerformsHere p.now s.old h result s.new }
 {
-    let k = table::cap_of(table::part(p, h, 1));
-    super::copies::copy_line(s, h, k, table::part(p, h, 2))
+    let k = Cap::from(h.part(p, 1));
+    super::copies::copy_line(s, h, k, h.part(p, 2))
 }
 
 // Performs the line where the thread stands.
 pub fn perform(p: &[u16], s: &mut [u16], h: Here) -> Result<Move, Halt>
-    requires { (8192 ≤ length p.now) × (8192 ≤ length s.old) × Placed h }
+    requires { (8192 ≤ length p.now) × (8192 ≤ length s.old) }
     ensures { PerformsHere p.now s.old h result s.new }
 {
-    let form = rules::form_of(table::part(p, h, 0));
+    let form = Form::from(h.part(p, 0));
     match form {
-        Form::Give => super::form_moves::give_line(s, h, table::part(p, h, 1)),
-        Form::Value => super::form_moves::value_line(s, h, table::part(p, h, 1)),
+        Form::Give => super::form_moves::give_line(s, h, h.part(p, 1)),
+        Form::Value => super::form_moves::value_line(s, h, h.part(p, 1)),
         Form::Field => super::form_moves::field_line(
             s,
             h,
-            table::part(p, h, 1), // target
-            table::part(p, h, 2), // field
+            h.part(p, 1), // target
+            h.part(p, 2), // field
         ),
         Form::Swap => super::form_moves::swap_line(
             s,
             h,
-            table::part(p, h, 1) % 16,
-            table::part(p, h, 2),
-            table::part(p, h, 3),
+            h.part(p, 1) % 16,
+            h.part(p, 2),
+            h.part(p, 3),
         ),
         Form::Call => super::form_moves::call_line(
             p,
             s,
             h,
-            table::part(p, h, 1) % 16,
-            table::part(p, h, 2),
-            table::part(p, h, 3),
+            h.part(p, 1) % 16,
+            h.part(p, 2),
+            h.part(p, 3),
         ),
         Form::New => super::form_moves::new_line(
             s,
             h,
-            table::cap_of(table::part(p, h, 1)),
-            table::part(p, h, 2),
-            table::part(p, h, 3),
-            table::part(p, h, 4),
-            table::part(p, h, 5),
-            table::part(p, h, 6),
+            Cap::from(h.part(p, 1)),
+            h.part(p, 2),
+            h.part(p, 3),
+            h.part(p, 4),
+            h.part(p, 5),
+            h.part(p, 6),
         ),
-        Form::Cast => super::form_moves::cast_line(
-            s,
-            h,
-            table::cap_of(table::part(p, h, 1)),
-            table::part(p, h, 2),
-        ),
-        Form::Spawn => super::form_moves::spawn_line(s, h, table::part(p, h, 1)),
-        Form::Send => super::form_moves::send_line(
-            s,
-            h,
-            table::part(p, h, 1) % 16,
-            table::part(p, h, 2),
-        ),
-        Form::Recv => super::form_moves::recv_line(s, h, table::part(p, h, 1)),
+        Form::Cast => super::form_moves::cast_line(s, h, Cap::from(h.part(p, 1)), h.part(p, 2)),
+        Form::Spawn => super::form_moves::spawn_line(s, h, h.part(p, 1)),
+        Form::Send => super::form_moves::send_line(s, h, h.part(p, 1) % 16, h.part(p, 2)),
+        Form::Recv => super::form_moves::recv_line(s, h, h.part(p, 1)),
         Form::Copy => perform_copy(p, s, h),
         Form::NoForm | Form::Kind | Form::Thread | Form::Method => Err(Halt::Waits),
     }
@@ -99,7 +88,7 @@ pub fn turn(p: &[u16], s: &mut [u16], t: usize) -> Result<Move, Halt>
 // ---- Whether a turn would wait: only a send and a recv can.
 
 fn send_waits(s: &[u16], h: Here, i: u16, w: u16) -> bool
-    requires { (8192 ≤ length s.now) × Placed h × (i < 256) }
+    requires { (8192 ≤ length s.now) × (i < 256) }
     ensures { WaitsHere s.now h (bind (send i (operand_of w))) result }
 {
     let d = table::sender(s, h.thread);
@@ -110,7 +99,7 @@ fn send_waits(s: &[u16], h: Here, i: u16, w: u16) -> bool
 }
 
 fn recv_waits(s: &[u16], h: Here, i: u16) -> bool
-    requires { (8192 ≤ length s.now) × Placed h }
+    requires { 8192 ≤ length s.now }
     ensures { WaitsHere s.now h (bind (recv i)) result }
 {
     checks::recv_check(s, h, i) == Err(Halt::Waits)
@@ -129,10 +118,10 @@ pub fn would_wait(p: &[u16], s: &[u16], t: usize) -> bool
         return true;
     }
     let h = table::locate(p, s, t, d);
-    let form = rules::form_of(table::part(p, h, 0));
-    let a = table::part(p, h, 1);
+    let form = Form::from(h.part(p, 0));
+    let a = h.part(p, 1);
     match form {
-        Form::Send => send_waits(s, h, a % 16, table::part(p, h, 2)),
+        Form::Send => send_waits(s, h, a % 16, h.part(p, 2)),
         Form::Recv => recv_waits(s, h, a),
         Form::NoForm
         | Form::Kind

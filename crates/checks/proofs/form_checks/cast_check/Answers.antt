@@ -1,6 +1,5 @@
 -- `checks::form_checks::cast_check` meets its contract: an operand that does not pass ends the rule; past it, each way out is one of the rule's, with the slot's value as read.
-use Rattle.std.proofs.Common.{sym, ◌∙◌, refl, rules}
-use Rattle.table.proofs.StateReads.{object_in_table}
+use Rattle.std.proofs.Common.{sym, ◌∙◌, refl}
 use Rattle.checks.proofs.CheckLaws.{fault_handed}
 use Rattle.checks.proofs.OperandChecks.{cast_no_operand, cast_of_absent, cast_of_channel, cast_same, cast_other}
 use Rattle.checks.proofs.form_checks.cast_check.Goals as goal
@@ -8,9 +7,6 @@ use Rattle.checks.proofs.form_checks.cast_check.Goals as goal
 pub returns-in_err-operand_check : goal.returns-in_err-operand_check
 returns-in_err-operand_check c =
     rw (fault_handed c.in_err-operand_check.field-0.0 c.from_residual.result c.from_residual.ensures.1) (cast_no_operand _ c.args.k c.in_err-operand_check.ensures refl)
-
-pub cap-requires : goal.cap-requires
-cap-requires c = (search rules, object_in_table _ _ c.in-Obj.is c.operand-v.ensures.in_table)
 
 pub returns-then-cap_rank : goal.returns-then-cap_rank
 returns-then-cap_rank c =

@@ -1,12 +1,7 @@
 -- `checks::form_checks::is_iso_object` meets its contract: only an object has a capability, and it is read of the table.
 use Rattle.checks.proofs.OperandChecks.{object_iso}
-use Rattle.table.proofs.StateReads.{object_in_table}
 use Rattle.rules.specs.Turn.{is_iso_object}
-use Rattle.std.proofs.Common.{rules}
 use Rattle.checks.proofs.form_checks.is_iso_object.Goals as goal
-
-pub cap-requires : goal.cap-requires
-cap-requires c = (search rules, object_in_table _ _ c.in-Obj.is c.requires.1)
 
 pub returns-in-Absent : goal.returns-in-Absent
 unfolding is_iso_object

@@ -1,16 +1,11 @@
 -- `checks::form_checks::operand_check` meets its contract: each way out is one of the rule's, with the slot's value as read.
 use mathlib.Core.Path.{refl}
-use Rattle.table.proofs.StateReads.{object_in_table}
 use Rattle.checks.proofs.OperandChecks.{operand_absent, operand_channel, operand_taken, operand_read}
-use Rattle.std.proofs.Common.{rules}
 use Rattle.checks.proofs.form_checks.operand_check.Goals as goal
 
 pub returns-then-w-eq1 : goal.returns-then-w-eq1
 returns-then-w-eq1 c =
     operand_taken _ refl c.operand-v.ensures.sees c.in-Obj.is c.if-w-eq1.true
-
-pub cap-requires : goal.cap-requires
-cap-requires c = (search rules, object_in_table _ _ c.in-Obj.is c.operand-v.ensures.in_table)
 
 pub returns-in-Absent : goal.returns-in-Absent
 returns-in-Absent c = operand_absent _ refl c.operand-v.ensures.sees c.in-Absent.is

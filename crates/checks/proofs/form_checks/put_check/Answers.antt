@@ -1,6 +1,5 @@
 -- `checks::form_checks::put_check` meets its contract: an operand that does not pass ends the rule; past the target the answer is `put_into`'s.
-use Rattle.std.proofs.Common.{refl, rules}
-use Rattle.table.proofs.StateReads.{channel_in_table}
+use Rattle.std.proofs.Common.{refl}
 use Rattle.checks.proofs.CheckLaws.{stop_handed}
 use Rattle.checks.proofs.ChannelChecks.{put_no_operand, put_no_target, put_of_object, put_to_channel}
 use Rattle.checks.proofs.form_checks.put_check.Goals as goal
@@ -8,9 +7,6 @@ use Rattle.checks.proofs.form_checks.put_check.Goals as goal
 pub returns-in_err-operand_check : goal.returns-in_err-operand_check
 returns-in_err-operand_check c =
     rw (stop_handed c.in_err-operand_check.field-0.0 c.from_residual.result c.from_residual.ensures.1) (put_no_operand _ _ c.in_err-operand_check.ensures refl)
-
-pub put_into-requires : goal.put_into-requires
-put_into-requires c = (search rules, channel_in_table _ _ c.in-Chan.is c.seen-x.ensures.in_table, c.operand-v.ensures.in_table)
 
 pub returns-in-Absent : goal.returns-in-Absent
 returns-in-Absent c = put_no_target _ _ c.in_ok-operand_check.ensures refl c.seen-x.ensures.sees c.in-Absent.is

@@ -1,12 +1,8 @@
 -- `checks::form_checks::put_into` meets its contract: each way out is one of the rule's past its target, with the value's capability and the message as read.
-use Rattle.std.proofs.Common.{sym, ◌∙◌, refl, rules}
-use Rattle.table.proofs.StateReads.{object_in_table}
+use Rattle.std.proofs.Common.{sym, ◌∙◌, refl}
 use Rattle.checks.proofs.CheckLaws.{stop_handed}
 use Rattle.checks.proofs.ChannelChecks.{put_nothing, put_channel_lem, put_forbidden, put_empty, put_full}
 use Rattle.checks.proofs.form_checks.put_into.Goals as goal
-
-pub cap-requires : goal.cap-requires
-cap-requires c = (search rules, object_in_table _ _ c.in-Obj.is c.requires.2)
 
 pub returns-in_err-permission_check-in-Obj : goal.returns-in_err-permission_check-in-Obj
 returns-in_err-permission_check-in-Obj c =

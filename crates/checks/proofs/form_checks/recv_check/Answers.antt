@@ -1,12 +1,7 @@
 -- `checks::form_checks::recv_check` meets its contract: each way out is one of the rule's, with the target and its message as read.
 use mathlib.Core.Path.{sym, ◌∙◌}
-use Rattle.table.proofs.StateReads.{channel_in_table}
 use Rattle.checks.proofs.ChannelChecks.{recv_no_target, recv_of_object, recv_empty, recv_full}
-use Rattle.std.proofs.Common.{rules}
 use Rattle.checks.proofs.form_checks.recv_check.Goals as goal
-
-pub message-requires : goal.message-requires
-message-requires c = (search rules, channel_in_table _ _ c.in-Chan.is c.slot-x.ensures.value.1)
 
 pub returns-then-is_absent : goal.returns-then-is_absent
 returns-then-is_absent c =

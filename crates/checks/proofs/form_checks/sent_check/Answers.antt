@@ -1,19 +1,11 @@
 -- `checks::form_checks::sent_check` meets its contract: each way out is one of the rule's, with the target, its message and its number as read.
 use mathlib.Core.Path.{sym, ◌∙◌}
-use Rattle.table.proofs.StateReads.{channel_in_table}
 use Rattle.checks.proofs.ChannelChecks.{sent_no_target, sent_of_object, sent_empty, sent_still_there, sent_taken}
-use Rattle.std.proofs.Common.{rules}
 use Rattle.checks.proofs.form_checks.sent_check.Goals as goal
-
-pub message-requires : goal.message-requires
-message-requires c = (search rules, channel_in_table _ _ c.in-Chan.is c.slot-x.ensures.value.1)
 
 pub returns-then-is_absent : goal.returns-then-is_absent
 returns-then-is_absent c =
     sent_empty _ c.slot-x.ensures.sees c.in-Chan.is c.message.ensures.sees _ (sym c.is_absent.ensures ∙ c.if-is_absent.true)
-
-pub message_number-requires : goal.message_number-requires
-message_number-requires c = (search rules, channel_in_table _ _ c.in-Chan.is c.slot-x.ensures.value.1)
 
 pub returns-then-message_number-d : goal.returns-then-message_number-d
 returns-then-message_number-d c =

@@ -1,7 +1,6 @@
 -- `checks::form_checks::swap_into` meets its contract: the value is an object, the field is there, and then the answer is the permission's.
 use mathlib.Core.Path.{sym, ap, ◌∙◌}
 use Rattle.rules.specs.Turn.{is_absent}
-use Rattle.table.proofs.StateReads.{object_in_table}
 use Rattle.checks.proofs.Standing.{field_in}
 use Rattle.checks.proofs.ObjectChecks.{into_absent, into_channel, into_missing, into_field}
 use Rattle.checks.proofs.form_checks.swap_into.Goals as goal
@@ -12,9 +11,6 @@ returns-then-is_absent c = record {
       let field = c.field.ensures.sees.sees S rest held (field_in _ _ asked.0) in
       rw c.in-Obj.is (into_missing _ _ _ _ _ asked.0.fields (sym (c.is_absent.ensures ∙ ap is_absent field) ∙ c.if-is_absent.true));
 }
-
-pub swap_permission-requires : goal.swap_permission-requires
-swap_permission-requires c = (c.requires.0, c.requires.1, object_in_table _ _ c.in-Obj.is c.requires.2)
 
 pub returns-in-Absent : goal.returns-in-Absent
 returns-in-Absent c = record { sees = λ S rest held asked. rw c.in-Absent.is (into_absent _ _ _ _) }

@@ -1,11 +1,6 @@
 -- `checks::items::is_above` meets its contract: only an object has a capability, and it is read of the table.
-use Rattle.table.proofs.StateReads.{object_in_table}
 use Rattle.checks.proofs.HeldChecks.{above_seen}
-use Rattle.std.proofs.Common.{rules}
 use Rattle.checks.proofs.items.is_above.Goals as goal
-
-pub cap-requires : goal.cap-requires
-cap-requires c = (search rules, object_in_table _ _ c.in-Obj.is c.requires.1)
 
 pub returns-in-Absent : goal.returns-in-Absent
 returns-in-Absent c = record { sees = λ S rest held there. rw c.in-Absent.is }

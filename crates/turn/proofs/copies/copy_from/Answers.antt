@@ -11,8 +11,7 @@ pub walk-count-requires : goal.walk-count-requires
 walk-count-requires c = (search rules, search rules, search rules, c.requires.2, omega (arith, few_unmet 256 (replicate 256 0)))
 
 pub any_foreign_met-requires : goal.any_foreign_met-requires
-any_foreign_met-requires c =
-    (search rules, omega (arith, met_few c.walk-count.ensures.grows))
+any_foreign_met-requires c = (search rules, omega (arith, met_few c.walk-count.ensures.grows))
 
 pub overflow_add-first : goal.overflow_add-first
 overflow_add-first c =
@@ -26,10 +25,6 @@ pub returns-then-first-count-gt256 : goal.returns-then-first-count-gt256
 returns-then-first-count-gt256 c =
     from_used_up c.walk-count.ensures.walks _ _ c.any_foreign_met.ensures c.object_count-first.ensures.sees c.if-any_foreign_met.false
     c.if-first-count-gt256.true
-
-pub add_copies-requires : goal.add_copies-requires
-add_copies-requires c =
-    (search rules, search rules, omega (arith, met_few c.walk-count.ensures.grows), omega arith)
 
 pub returns : goal.returns
 returns c =

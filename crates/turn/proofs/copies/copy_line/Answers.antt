@@ -1,14 +1,8 @@
 -- `turn::copies::copy_line` meets its contract: each way out is one of the rule's, by what the slot holds and by what the copies answer.
 use mathlib.Core.Path.{refl}
-use Rattle.table.proofs.StateReads.{object_in_table}
 use Rattle.checks.specs.declared.form_checks.Halt.TheVariants.{Stops}
 use Rattle.turn.proofs.CopyLines.{copy_no_source, copy_of_channel, copy_hands_on, copy_moves}
-use Rattle.std.proofs.Common.{rules}
 use Rattle.turn.proofs.copies.copy_line.Goals as goal
-
-pub copy_from-requires : goal.copy_from-requires
-copy_from-requires c =
-    (search rules, search rules, object_in_table _ _ c.in-Obj.is c.slot-x.ensures.value.1)
 
 pub returns-in_err-copy_from-in-Obj : goal.returns-in_err-copy_from-in-Obj
 returns-in_err-copy_from-in-Obj c =

@@ -1,13 +1,10 @@
 -- `turn::form_moves::call_line` meets its contract: past its operand and its target the method, the permission and the room are looked at in turn; a frame is pushed, its target is held, then the
 -- operand's slot is left.
-use Rattle.std.proofs.Common.{arith}
 use Rattle.std.proofs.Common.{refl, sym}
-use Rattle.table.proofs.StateReads.{object_in_table}
 use Rattle.checks.proofs.CallChecks.{call_no_operand, call_no_target, call_of_channel, call_no_method, call_forbidden, call_used_up, call_passes}
 use Rattle.checks.specs.declared.form_checks.Halt.TheVariants.{Stops}
 use Rattle.turn.proofs.TurnSteps.{line_halts, line_hands_on, line_moves}
 use Rattle.turn.proofs.CallLines.{call_answers, call_writes}
-use Rattle.std.proofs.Common.{rules}
 use Rattle.turn.proofs.form_moves.call_line.Goals as goal
 
 pub returns-in_err-operand_check : goal.returns-in_err-operand_check
@@ -15,18 +12,10 @@ returns-in_err-operand_check c =
     line_hands_on (Stops c.in_err-operand_check.field-0.0) c.from_residual.ensures.1
     (call_answers _ _ _ (call_no_operand _ _ _ c.in_err-operand_check.ensures refl))
 
-pub method_item-m-requires : goal.method_item-m-requires
-method_item-m-requires c =
-    (search rules, search rules, object_in_table _ _ c.in-Obj.is c.seen-x.ensures.in_table)
-
 pub returns-then-m-eq0 : goal.returns-then-m-eq0
 returns-then-m-eq0 c =
     line_halts (call_answers _ _ _ (call_no_method _ _ _ c.in_ok-operand_check.ensures refl
     c.seen-x.ensures.sees c.in-Obj.is c.method_item-m.ensures c.if-m-eq0.true))
-
-pub is_foreign-requires : goal.is_foreign-requires
-is_foreign-requires c =
-    (search rules, object_in_table _ _ c.in-Obj.is c.seen-x.ensures.in_table)
 
 pub returns-in_err-permission_check-in-Obj : goal.returns-in_err-permission_check-in-Obj
 returns-in_err-permission_check-in-Obj c =
@@ -39,18 +28,6 @@ returns-then-h-ge15 c =
     line_halts (call_answers _ _ _ (call_used_up _ _ _ c.in_ok-operand_check.ensures refl
     c.seen-x.ensures.sees c.in-Obj.is c.method_item-m.ensures c.if-m-eq0.false c.is_foreign.ensures
     (sym c.in_ok-permission_check-in-Obj.ensures) c.if-h-ge15.true))
-
-pub push_frame-requires : goal.push_frame-requires
-push_frame-requires c =
-    (c.requires.1, c.requires.2, omega (arith, c.if-h-ge15.false), object_in_table _ _ c.in-Obj.is c.seen-x.ensures.in_table, c.operand-v.ensures.in_table)
-
-pub hold-requires : goal.hold-requires
-hold-requires c =
-    (omega arith, object_in_table _ _ c.in-Obj.is c.seen-x.ensures.in_table)
-
-pub leave-requires : goal.leave-requires
-leave-requires c =
-    (omega arith, c.requires.2, c.operand-v.ensures.in_table)
 
 pub returns-in-Absent : goal.returns-in-Absent
 returns-in-Absent c =

@@ -1,21 +1,11 @@
 -- `turn::form_moves::field_line` meets its contract: each way out is one of the rule's, with the target, its field and its object as read; where it passes the field's value is
 -- given, and held once more.
 use Rattle.std.proofs.Common.{sym, ◌∙◌}
-use Rattle.table.proofs.StateReads.{object_in_table}
 use Rattle.checks.proofs.ObjectChecks.{field_no_target, field_of_channel, field_missing, field_answered}
 use Rattle.checks.specs.declared.form_checks.Halt.TheVariants.{Stops}
 use Rattle.turn.proofs.TurnSteps.{line_halts, line_hands_on, line_moves}
 use Rattle.turn.proofs.ObjectLines.{field_answers, field_writes}
-use Rattle.std.proofs.Common.{rules}
 use Rattle.turn.proofs.form_moves.field_line.Goals as goal
-
-pub field-v-requires : goal.field-v-requires
-field-v-requires c =
-    (search rules, object_in_table _ _ c.in-Obj.is c.slot-x.ensures.value.1)
-
-pub is_foreign-foreign-requires : goal.is_foreign-foreign-requires
-is_foreign-foreign-requires c =
-    (search rules, object_in_table _ _ c.in-Obj.is c.slot-x.ensures.value.1)
 
 pub returns-in_err-permission_check-in-Obj : goal.returns-in_err-permission_check-in-Obj
 returns-in_err-permission_check-in-Obj c =

@@ -18,52 +18,7 @@ returns-in_err-hold_check c =
     c.item_value-va.ensures.sees c.item_value-vb.ensures.sees c.item_value-vc.ensures.sees c.item_value-vd.ensures.sees c.in_err-hold_check.ensures)
 
 pub overflow_cast-h : goal.overflow_cast-h
-overflow_cast-h c = omega (arith, c.requires.1)
-
-pub add_object-requires : goal.add_object-requires
-add_object-requires c =
-    (c.requires.0, omega arith, c.item_value-va.ensures.in_table, c.item_value-vb.ensures.in_table, c.item_value-vc.ensures.in_table, c.item_value-vd.ensures.in_table)
-
-pub give_value-requires : goal.give_value-requires
-give_value-requires c = (
-  omega arith,
-  c.requires.1,
-  omega arith,
-)
-
-pub hold-requires : goal.hold-requires
-hold-requires c = (
-  omega arith,
-  omega arith,
-)
-
-pub leave_item-requires : goal.leave_item-requires
-leave_item-requires c = (
-  omega arith,
-  c.requires.1,
-  c.item_value-va.ensures.in_table,
-)
-
-pub leave_item-requires-2 : goal.leave_item-requires-2
-leave_item-requires-2 c = (
-  omega arith,
-  c.requires.1,
-  c.item_value-vb.ensures.in_table,
-)
-
-pub leave_item-requires-3 : goal.leave_item-requires-3
-leave_item-requires-3 c = (
-  omega arith,
-  c.requires.1,
-  c.item_value-vc.ensures.in_table,
-)
-
-pub leave_item-requires-4 : goal.leave_item-requires-4
-leave_item-requires-4 c = (
-  omega arith,
-  c.requires.1,
-  c.item_value-vd.ensures.in_table,
-)
+overflow_cast-h c = omega (arith, c.args.h.placed.thread)
 
 pub returns : goal.returns
 returns c =

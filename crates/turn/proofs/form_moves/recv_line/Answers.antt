@@ -1,24 +1,14 @@
 -- `turn::form_moves::recv_line` meets its contract: each way out is one of the rule's, with the target and its message as read; the message is given, then the channel is emptied.
 use Rattle.std.proofs.Common.{sym, ◌∙◌}
-use Rattle.table.proofs.StateReads.{channel_in_table}
 use Rattle.checks.proofs.ChannelChecks.{recv_no_target, recv_of_object, recv_empty, recv_full}
 use Rattle.turn.proofs.TurnSteps.{line_halts, line_moves}
 use Rattle.turn.proofs.ChannelLines.{recv_answers, recv_writes}
-use Rattle.std.proofs.Common.{rules}
 use Rattle.turn.proofs.form_moves.recv_line.Goals as goal
-
-pub message-v-requires : goal.message-v-requires
-message-v-requires c =
-    (search rules, channel_in_table _ _ c.in-Chan.is c.slot-x.ensures.value.1)
 
 pub returns-then-is_absent : goal.returns-then-is_absent
 returns-then-is_absent c =
     line_halts (recv_answers _ (recv_empty _ c.slot-x.ensures.sees c.in-Chan.is c.message-v.ensures.sees
     (sym c.is_absent.ensures ∙ c.if-is_absent.true)))
-
-pub empty_channel-requires : goal.empty_channel-requires
-empty_channel-requires c =
-    (search rules, channel_in_table _ _ c.in-Chan.is c.slot-x.ensures.value.1)
 
 pub returns-in-Absent : goal.returns-in-Absent
 returns-in-Absent c = line_halts (recv_answers _ (recv_no_target _ c.slot-x.ensures.sees c.in-Absent.is))

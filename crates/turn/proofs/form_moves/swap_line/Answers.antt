@@ -1,12 +1,9 @@
 -- `turn::form_moves::swap_line` meets its contract: past its operand and its target the check is `swap_into`'s; the field's value is given, the operand's is stored there, then its slot is left.
-use Rattle.std.proofs.Common.{arith}
 use Rattle.std.proofs.Common.{refl}
-use Rattle.table.proofs.StateReads.{object_in_table}
 use Rattle.checks.proofs.ObjectChecks.{swap_no_operand, swap_no_target, swap_of_channel, swap_of_object}
 use Rattle.checks.specs.declared.form_checks.Halt.TheVariants.{Stops}
 use Rattle.turn.proofs.TurnSteps.{line_halts, line_hands_on, line_moves}
 use Rattle.turn.proofs.ObjectLines.{swap_answers, swap_writes}
-use Rattle.std.proofs.Common.{rules}
 use Rattle.turn.proofs.form_moves.swap_line.Goals as goal
 
 pub returns-in_err-operand_check : goal.returns-in_err-operand_check
@@ -14,27 +11,11 @@ returns-in_err-operand_check c =
     line_hands_on (Stops c.in_err-operand_check.field-0.0) c.from_residual.ensures.1
     (swap_answers _ _ _ (swap_no_operand _ _ _ c.in_err-operand_check.ensures refl))
 
-pub swap_into-requires : goal.swap_into-requires
-swap_into-requires c =
-    (search rules, object_in_table _ _ c.in-Obj.is c.seen-x.ensures.in_table, c.operand-v.ensures.in_table)
-
 pub returns-in_err-swap_into-in-Obj : goal.returns-in_err-swap_into-in-Obj
 returns-in_err-swap_into-in-Obj c =
     line_hands_on (Stops c.in_err-swap_into-in-Obj.field-0.0) c.from_residual-in_err-swap_into-in-Obj.ensures.1
     (swap_answers _ _ _ (swap_of_object _ _ _ c.in_ok-operand_check.ensures refl c.seen-x.ensures.sees c.in-Obj.is refl c.operand-v.ensures.sees
     c.in_err-swap_into-in-Obj.ensures))
-
-pub field-old-requires : goal.field-old-requires
-field-old-requires c =
-    (c.requires.0, object_in_table _ _ c.in-Obj.is c.seen-x.ensures.in_table)
-
-pub store_field-requires : goal.store_field-requires
-store_field-requires c =
-    (omega arith, object_in_table _ _ c.in-Obj.is c.seen-x.ensures.in_table, search rules, c.operand-v.ensures.in_table)
-
-pub leave-requires : goal.leave-requires
-leave-requires c =
-    (omega arith, c.requires.1, c.operand-v.ensures.in_table)
 
 pub returns-in-Absent : goal.returns-in-Absent
 returns-in-Absent c =

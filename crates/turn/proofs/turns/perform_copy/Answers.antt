@@ -5,4 +5,4 @@ use Rattle.turn.proofs.turns.perform_copy.Goals as goal
 
 pub returns : goal.returns
 returns c =
-    performs_here (tells_copy refl c.part.ensures c.part-2.ensures c.cap_of-k.ensures c.requires.3) c.copy_line.ensures
+    performs_here (tells_copy refl c.part.ensures c.part-2.ensures c.from-k.ensures c.requires.2) c.copy_line.ensures

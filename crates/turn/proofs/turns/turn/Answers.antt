@@ -10,5 +10,5 @@ returns-then-d-eq0 c = idle_takes (frameless_idles c.frame_count-d.ensures.sees 
 
 pub returns : goal.returns
 returns c =
-    found_takes (locates c.frame_count-d.ensures.sees c.if-d-eq0.false c.locate-h.ensures.placed.1 c.locate-h.ensures.stands)
+    found_takes (locates c.frame_count-d.ensures.sees c.if-d-eq0.false c.locate-h.ensures.thread c.locate-h.ensures.stands)
     c.perform.ensures

@@ -17,16 +17,16 @@ returns-then-d-eq0 c = idle_waits (frameless_idles c.frame_count-d.ensures.sees 
 
 pub returns-in-Send : goal.returns-in-Send
 returns-in-Send c =
-    line_would_wait (locates c.frame_count-d.ensures.sees c.if-d-eq0.false c.locate-h.ensures.placed.1 c.locate-h.ensures.stands)
-    (tells_send c.part.ensures c.part-a.ensures c.part-in-Send.ensures (number_told c.form_of-form.ensures c.in-Send.is (omega arith))) c.send_waits.ensures
+    line_would_wait (locates c.frame_count-d.ensures.sees c.if-d-eq0.false c.locate-h.ensures.thread c.locate-h.ensures.stands)
+    (tells_send c.part.ensures c.part-a.ensures c.part-in-Send.ensures (number_told c.from-form.ensures c.in-Send.is (omega arith))) c.send_waits.ensures
 
 pub returns-in-Recv : goal.returns-in-Recv
 returns-in-Recv c =
-    line_would_wait (locates c.frame_count-d.ensures.sees c.if-d-eq0.false c.locate-h.ensures.placed.1 c.locate-h.ensures.stands)
-    (tells_recv c.part.ensures c.part-a.ensures (number_told c.form_of-form.ensures c.in-Recv.is (omega arith))) c.recv_waits.ensures
+    line_would_wait (locates c.frame_count-d.ensures.sees c.if-d-eq0.false c.locate-h.ensures.thread c.locate-h.ensures.stands)
+    (tells_recv c.part.ensures c.part-a.ensures (number_told c.from-form.ensures c.in-Recv.is (omega arith))) c.recv_waits.ensures
 
 pub returns-in-NoForm : goal.returns-in-NoForm
 returns-in-NoForm c =
-    others_would_not (locates c.frame_count-d.ensures.sees c.if-d-eq0.false c.locate-h.ensures.placed.1 c.locate-h.ensures.stands) c.part.ensures
-    (λ e. let told : c.form_of-form.result ≡ Send = c.form_of-form.ensures ∙ ap form_of e in grind arith)
-    (λ e. let told : c.form_of-form.result ≡ Recv = c.form_of-form.ensures ∙ ap form_of e in grind arith)
+    others_would_not (locates c.frame_count-d.ensures.sees c.if-d-eq0.false c.locate-h.ensures.thread c.locate-h.ensures.stands) c.part.ensures
+    (λ e. let told : c.from-form.result ≡ Send = c.from-form.ensures ∙ ap form_of e in grind arith)
+    (λ e. let told : c.from-form.result ≡ Recv = c.from-form.ensures ∙ ap form_of e in grind arith)
