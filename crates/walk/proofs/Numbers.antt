@@ -17,7 +17,9 @@ use Rattle.rules.specs.Lists.{among, place_of}
 use Rattle.rules.proofs.ListLaws.{by_bool, length_snoc}
 use Rattle.table.specs.StateTable.{InTable}
 use Rattle.table.proofs.StateReads.{object_in_table}
+use Rattle.walk.specs.declared.Met.{Met}
 use Rattle.walk.specs.Walking.{Tally, tally, Numbered, unmet, Grows}
+use Rattle.walk.specs.Walked.{SameLists}
 
 -- ---- One number more in a list
 
@@ -66,13 +68,13 @@ pub record Unmet (places order : List ℕ) (n o : ℕ) : Type 0 where
   pub next : n < 256
   pub room : n < length order
 
-pub unmet_fits : (places order : List ℕ) (n : ℕ) {v : Value} {o : ℕ} → v ≡ Obj o → InTable v → 256 ≤ length places → 256 ≤ length order → n + unmet 256 places ≤ 256
-    → get_or places o 0 ≡ 0 → Unmet places order n o
-unmet_fits places order n {v} {o} is in_table long long_order few none =
+pub unmet_fits : (m : Met) {v : Value} {o : ℕ} → v ≡ Obj o → InTable v → get_or m.places.now o 0 ≡ 0 → Unmet m.places.now m.order.now m.count o
+unmet_fits m {v} {o} is in_table none =
+    let places = m.places.now in
     let low : o < 256 = object_in_table v o is in_table in
-    let there : o < length places = omega arith in
-    let next : n < 256 = omega (arith, one_less_unmet 256 places o n low there none) in
-    record { low = low; there = there; next = next; room = omega arith }
+    let there : o < length places = omega (arith, m.places_long) in
+    let next : m.count < 256 = omega (arith, m.room, one_less_unmet 256 places o m.count low there none) in
+    record { low = low; there = there; next = next; room = omega (arith, m.order_long) }
 
 -- ---- Numbers and objects met
 
@@ -127,6 +129,12 @@ one_met {places} {order} {n} {o} at none =
       room = omega (arith, one_less_unmet 256 places o n at.low at.there none);
       past = drop-set-lt (n + 1) order n o (omega arith);
     }
+
+pub same_lists : {m : Met} → SameLists m m
+same_lists = record { places = refl; order = refl }
+
+pub lists_then : {m m₁ m₂ : Met} → SameLists m m₁ → SameLists m₁ m₂ → SameLists m m₂
+lists_then a b = record { places = b.places ∙ a.places; order = b.order ∙ a.order }
 
 drop_more : (m n : ℕ) (l k : List ℕ) → m ≤ n → drop m l ≡ drop m k → drop n l ≡ drop n k
 drop_more m n l k h e =

@@ -15,7 +15,7 @@ use Rattle.rules.specs.Mosts.{mosts}
 use Rattle.rules.specs.Script.{Program}
 use Rattle.rules.specs.State.{Object, State, object_at, slot_at}
 use Rattle.rules.specs.Fits.{Fits}
-use Rattle.rules.specs.Reach.{Walked, done, skip, meet}
+use Rattle.rules.specs.Reach.{count_one, Walked, done, skip, meet}
 use Rattle.rules.proofs.ListLaws.{impossible, by_bool, below}
 use Rattle.rules.proofs.Counts.{object_met, times_among, times_not_among}
 use Rattle.rules.proofs.Keeps.{object_fits}
@@ -95,17 +95,16 @@ module _ {s : List ℕ} {w : Tally} {Q : State → Type 0} (row : State → List
 
 -- ---- One value
 
+-- what is no object is none of them
+no_object : (v : Value) → ((o : ℕ) → v ≡ Obj o → ⊥) → (x k : ℕ) → count_one x v ≤ k
+no_object Absent other x k = zero-le
+no_object (Obj o) other x k = absurd (other o refl)
+no_object (Chan c) other x k = zero-le
+
 module _ {s : List ℕ} {w : Tally} {v : Value} where
   -- nothing to meet
-  pub absent_stays : v ≡ Absent → Walks s w (Of v) (λ S. v ∷ []) w
-  absent_stays e =
-      subst (λ (x : Value). Walks s w (Of x) (λ S. x ∷ []) w) (sym e)
-      (record { walks = λ P n S rest met held fits q numbered. record { out = met; walked = skip (λ x. zero-le) done; numbered = numbered } })
-
-  pub channel_stays : (c : ℕ) → v ≡ Chan c → Walks s w (Of v) (λ S. v ∷ []) w
-  channel_stays c e =
-      subst (λ (x : Value). Walks s w (Of x) (λ S. x ∷ []) w) (sym e)
-      (record { walks = λ P n S rest met held fits q numbered. record { out = met; walked = skip (λ x. zero-le) done; numbered = numbered } })
+  pub other_stays : ((o : ℕ) → v ≡ Obj o → ⊥) → Walks s w (Of v) (λ S. v ∷ []) w
+  other_stays other = record { walks = λ P n S rest met held fits q numbered. record { out = met; walked = skip (λ x. no_object v other x _) done; numbered = numbered } }
 
   -- an object that is met
   pub met_stays : (o : ℕ) → v ≡ Obj o → (get_or w.places o 0 ≡ 0 → ⊥) → Walks s w (Of v) (λ S. v ∷ []) w
