@@ -13,7 +13,9 @@ use Rattle.listing.specs.Outputs.{output_bytes, printed_in, output_in, printed_o
 use Rattle.stripping.specs.StrippedTexts.{Prints}
 use Rattle.save.specs.Saved.{saved_bytes, saved_in, saved_after}
 use Rattle.box_tool.specs.declared.commands.Job.{Job}
-use Rattle.box_tool.specs.Status.{failed, status_of, Unless}
+use Rattle.box_tool.specs.declared.Status.{Status}
+use Rattle.box_tool.specs.declared.Status.TheVariants.{Fault}
+use Rattle.box_tool.specs.Status.{status_of, Unless}
 use Rattle.box_tool.specs.Jobs.{IsText, Finishes}
 
 module _ {Q : List ℕ → Type 0} (text : List ℕ) (such : Q text) (output : List ℕ) {r : Printed} {after : List ℕ} where
@@ -43,9 +45,9 @@ module _ {Q : List ℕ → Type 0} {l : List ℕ} {r : Printed} {l₁ : List ℕ
   front_is = rw (p.leaves, count) (take-append_seam p.text (drop (length p.text) l))
 
 -- the status of what was printed, unless writing it failed
-module _ (job : Job) (input : List ℕ) {output : List ℕ} {r : Printed} {after : List ℕ} (p : Prints (IsText job input) output r after) (status : ℕ) where
-  pub finishes : {right : ℕ} → right ≡ status_of p.text → Unless status right → Finishes job input status
+module _ (job : Job) (input : List ℕ) {output : List ℕ} {r : Printed} {after : List ℕ} (p : Prints (IsText job input) output r after) (status : Status) where
+  pub finishes : {right : Status} → right ≡ status_of p.text → Unless status right → Finishes job input status
   finishes same told = record { text = p.text; such = p.such; told = subst (Unless status) same told }
 
-  pub finishes_failed : status ≡ failed → Finishes job input status
+  pub finishes_failed : status ≡ Fault → Finishes job input status
   finishes_failed is = record { text = p.text; such = p.such; told = inl is }

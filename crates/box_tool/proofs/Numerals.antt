@@ -7,7 +7,7 @@ use lib.ListN.{length, drop, drop_of_length-le}
 use lib.Seq.{drop-cons}
 use Rattle.rules.specs.Templates.{took, unfit, number, whole}
 use Rattle.rules.proofs.ListLaws.{impossible}
-use Rattle.box_tool.specs.declared.words.Number.TheVariants.{Of, None}
+use Rattle.std.specs.Prelude.{Some, None}
 use Rattle.box_tool.specs.Numerals.{number_by, number_of}
 
 module _ (word : List ℕ) (ok : Bool) (n end : ℕ) (fits : number (drop 0 word) ≡ cond ok (took n (drop end word)) unfit) where
@@ -29,10 +29,10 @@ module _ (word : List ℕ) (ok : Bool) (n end : ℕ) (fits : number (drop 0 word
       go false e = impossible cc
 
   -- a number and nothing else
-  pub a_number : not ok ≡ false → length word ≤ end → Of n ≡ number_of word
+  pub a_number : not ok ≡ false → length word ≤ end → Some n ≡ number_of word
   unfolding number_of
   a_number read all = rw fits (go ok read)
     where
-      go : (b : Bool) → not b ≡ false → Of n ≡ number_by (whole (cond b (took n (drop end word)) unfit))
+      go : (b : Bool) → not b ≡ false → Some n ≡ number_by (whole (cond b (took n (drop end word)) unfit))
       go true e = rw (drop_of_length-le word {i = end} all) refl
       go false e = impossible cc

@@ -10,6 +10,7 @@ use Rattle.listing.specs.Outputs.{output_bytes, output_after}
 use Rattle.sheet.specs.declared.Checked.{Checked}
 use Rattle.sheet.specs.declared.Checked.TheVariants.{Sheet}
 use Rattle.sheet.specs.SheetText.{sheet_of, holds_of, checked_of}
+use Rattle.box_tool.specs.declared.Status.{Status}
 use Rattle.box_tool.specs.Status.{status_of_sheet, Unless}
 
 module _ (input output : List ℕ) {after : List ℕ} {r : Checked} {n : ℕ} {holds : Bool} (room : output_bytes ≤ length output)
@@ -23,7 +24,7 @@ module _ (input output : List ℕ) {after : List ℕ} {r : Checked} {n : ℕ} {h
       let count : n ≡ length (sheet_of input) = let e = whole.0 in cc in
       omega (arith, count, ap length whole.1, length-append (sheet_of input) (drop (length (sheet_of input)) output))
 
-  pub sheet_status : {status right : ℕ} → right ≡ status_of_sheet holds → Unless status right → Unless status (status_of_sheet (holds_of input))
+  pub sheet_status : {status right : Status} → right ≡ status_of_sheet holds → Unless status right → Unless status (status_of_sheet (holds_of input))
   sheet_status {status} same unless =
       let verdict : holds ≡ holds_of input = let e = whole.0 in cc in
       subst (Unless status) (same ∙ ap status_of_sheet verdict) unless

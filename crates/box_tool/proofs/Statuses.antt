@@ -23,8 +23,8 @@ use Rattle.rules.proofs.Printing.{join_lines}
 use Rattle.rules.proofs.Accepted.{accepted_valid, accepted_prints, reading_accepted}
 use Rattle.grammar.specs.Words.{begins}
 use Rattle.save.specs.Saved.{saved_as, saved}
-use Rattle.box_tool.specs.Status.{well, status_by, status_of}
-use Rattle.box_tool.specs.Status as Status
+use Rattle.box_tool.specs.declared.Status.TheVariants.{Well, Refused}
+use Rattle.box_tool.specs.Status.{status_by, status_of}
 
 -- ---- What an input comes to
 
@@ -53,23 +53,23 @@ by_outcome input Q away runs = go (ltb Most.input (length input)) (turns_of (las
 
 -- ---- What is printed of it
 
-refusal_told : (k n : ℕ) → status_of (answer_line (refused k n)) ≡ Status.turned_away
+refusal_told : (k n : ℕ) → status_of (answer_line (refused k n)) ≡ Refused
 unfolding status_of begins answer_line a_line bracket
 refusal_told k n = refl
 
-run_told : (P : Program) (r : Run) → status_of (listing (answer mosts P r) r.state) ≡ well
+run_told : (P : Program) (r : Run) → status_of (listing (answer mosts P r) r.state) ≡ Well
 unfolding status_of begins listing answer answer_of answer_line a_line bracket
 run_told P r = go r.stop
   where
-    go : (s : Stop) → status_of (listing (answer_of mosts P r.state r.moves s) r.state) ≡ well
+    go : (s : Stop) → status_of (listing (answer_of mosts P r.state r.moves s) r.state) ≡ Well
     go none = refl
     go (stopped k t b l) = refl
 
-head_told : (rest : List ℕ) → status_of (head_of edition2 ++ rest) ≡ well
+head_told : (rest : List ℕ) → status_of (head_of edition2 ++ rest) ≡ Well
 unfolding status_of begins print
 head_told rest = refl
 
-form_told : (F : Form) (rest : List ℕ) → status_of (show F ++ rest) ≡ well
+form_told : (F : Form) (rest : List ℕ) → status_of (show F ++ rest) ≡ Well
 unfolding status_of begins show print
 form_told (kind K) rest = refl
 form_told (opens thread) rest = refl
@@ -87,17 +87,17 @@ form_told (line (bind (recv s))) rest = refl
 form_told (line (bind (copy k s))) rest = refl
 
 -- a script that is accepted has a first line
-first_told : (Ks : List Kind) (Bs : List Block) → 0 < length Bs → (rest : List ℕ) → status_of (join (map show (kind_lines Ks (block_lines Bs))) ++ rest) ≡ well
+first_told : (Ks : List Kind) (Bs : List Block) → 0 < length Bs → (rest : List ℕ) → status_of (join (map show (kind_lines Ks (block_lines Bs))) ++ rest) ≡ Well
 unfolding kind_lines block_lines join
 first_told [] [] some rest = absurd (omega arith)
 first_told [] (B ∷ Bs) some rest = rw append_assoc (form_told (opens B.sort) _)
 first_told (K ∷ Ks) Bs some rest = rw append_assoc (form_told (kind K) _)
 
-script_told : (P : Program) (text rest : List ℕ) → script mosts text ≡ accepted P → status_of (text ++ rest) ≡ well
+script_told : (P : Program) (text rest : List ℕ) → script mosts text ≡ accepted P → status_of (text ++ rest) ≡ Well
 unfolding lines_of
 script_told P text rest is = rw (accepted_prints mosts text P is) (go P.edition)
   where
-    go : (e : Edition) → status_of ((head_of e ++ join (map show (lines_of P))) ++ rest) ≡ well
+    go : (e : Edition) → status_of ((head_of e ++ join (map show (lines_of P))) ++ rest) ≡ Well
     go edition1 = first_told P.kinds P.blocks (accepted_valid mosts text P is).first.there rest
     go edition2 = rw append_assoc (head_told _)
 

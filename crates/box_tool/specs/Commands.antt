@@ -1,14 +1,14 @@
 -- What the first word after the program's name commands, and how many words must and may follow it.
-use Rattle.std.specs.Prelude.{ℕ, Bool, ◌&&◌, cond, List, leb, length}
+use Rattle.std.specs.Prelude.{ℕ, Bool, cond, List}
 use Rattle.rules.specs.Text.{bytes}
-use Rattle.grammar.specs.Words.{begins}
+use Rattle.std.specs.Str.{bytes_eq}
 use Rattle.box_tool.specs.declared.commands.Command.{Command}
 use Rattle.box_tool.specs.declared.commands.Command.TheVariants.{Print, Check, Reach, Explain, Version, Help, Unknown}
 use Rattle.box_tool.specs.declared.commands.Job.TheVariants.{Run, Save, Strip, Draw}
 
 -- the text is the word
-unfoldable pub is : (word text : List ℕ) → Bool
-is word text = begins word text && leb (length text) (length word)
+abbrev pub is : (word text : List ℕ) → Bool
+is word text = bytes_eq text word
 
 -- on an input
 unfoldable pub input_command_of : List ℕ → Command

@@ -1,8 +1,6 @@
 // What the words after the program's name command.
 ghost use Rattle.std.specs.Prelude.{◌≡◌, ◌&&◌, leb};
-ghost use Rattle.box_tool.specs.Commands.{input_command_of, command_of, least, most};
-
-use super::words::is;
+ghost use Rattle.box_tool.specs.Commands.{command_of, least, most};
 
 // What is printed of an input; of a thread, by its number.
 #[derive(Clone, Copy)]
@@ -25,54 +23,42 @@ pub enum Command {
     Unknown,
 }
 
-// A command on an input.
-fn input_command_of(word: &[u8]) -> Command
-    ensures { result ≡ input_command_of word.now }
-{
-    if is(b"run", word) {
-        return Command::Print(Job::Run);
-    }
-    if is(b"save", word) {
-        return Command::Print(Job::Save);
-    }
-    if is(b"strip", word) {
-        return Command::Print(Job::Strip);
-    }
-    if is(b"draw", word) {
-        return Command::Print(Job::Draw);
-    }
-    if is(b"reach", word) {
-        return Command::Reach;
-    }
-    Command::Unknown
-}
-
+#[tactic(auto, unfolding(crate::specs::Commands::command_of, crate::specs::Commands::input_command_of))]
 pub fn command_of(word: &[u8]) -> Command
     ensures { result ≡ command_of word.now }
 {
-    if is(b"explain", word) {
+    let is = |name: &[u8]| word == name;
+    if is(b"explain") {
         return Command::Explain;
     }
-    if is(b"--version", word) {
+    if is(b"--version") {
         return Command::Version;
     }
-    if is(b"--help", word) {
+    if is(b"--help") {
         return Command::Help;
     }
-    if is(b"help", word) {
+    if is(b"help") {
         return Command::Help;
     }
-    if is(b"check", word) {
+    if is(b"check") {
         return Command::Check;
     }
-    input_command_of(word)
-}
-
-// Whether a number lies between two.
-fn between(least: usize, n: usize, most: usize) -> bool
-    ensures { result ≡ (leb least n && leb n most) }
-{
-    if least <= n { n <= most } else { false }
+    if is(b"run") {
+        return Command::Print(Job::Run);
+    }
+    if is(b"save") {
+        return Command::Print(Job::Save);
+    }
+    if is(b"strip") {
+        return Command::Print(Job::Strip);
+    }
+    if is(b"draw") {
+        return Command::Print(Job::Draw);
+    }
+    if is(b"reach") {
+        return Command::Reach;
+    }
+    Command::Unknown
 }
 
 // Whether so many words may follow the command.
@@ -80,12 +66,8 @@ pub fn takes(command: Command, words: usize) -> bool
     ensures { result ≡ (leb (least command) words && leb words (most command)) }
 {
     match command {
-        Command::Print(_) => between(0, words, 1),
-        Command::Check => between(0, words, 1),
-        Command::Reach => between(2, words, 2),
-        Command::Explain => between(0, words, 1),
-        Command::Version => between(0, words, 0),
-        Command::Help => between(0, words, 0),
-        Command::Unknown => between(0, words, 0),
+        Command::Print(_) | Command::Check | Command::Explain => (0..=1).contains(&words),
+        Command::Reach => (2..=2).contains(&words),
+        Command::Version | Command::Help | Command::Unknown => (0..=0).contains(&words),
     }
 }

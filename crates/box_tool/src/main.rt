@@ -9,8 +9,7 @@ mod words;
 ghost use Rattle.std.specs.Prelude.{◌≡◌, ◌≤◌, length};
 ghost use Rattle.stripping.specs.StrippedTexts.{Prints};
 ghost use Rattle.sheet.specs.SheetText.{holds_of};
-ghost use Rattle.streams.specs.Counted.{IsPrefixLen};
-ghost use Rattle.box_tool.specs.Status.{status_of, status_of_sheet, Unless};
+ghost use Rattle.box_tool.specs.Status.{digit, status_of, status_of_sheet, Unless};
 ghost use Rattle.box_tool.specs.Jobs.{IsText, Finishes};
 
 use commands::{Command, Job, command_of, takes};
@@ -20,16 +19,28 @@ use sheet::Checked;
 use std::env::FillError;
 use std::fs::OpenOptions;
 use std::rt::Env;
-use streams::Reading;
-use words::{Number, begins, is, number_of};
+use words::number_of;
 
-const WELL: u8 = b'0';
+// How a command ended.
+#[derive(Clone, Copy, PartialEq, Eq, Debug)]
+pub enum Status {
+    Well,
+    Refused, // or a failed tick; or no such number
+    Fault, // an error of the system, or of usage
+}
 
-// A refusal, or a failed tick; or no such number.
-const REFUSED: u8 = b'1';
-
-// An error of the system, or of usage.
-const FAULT: u8 = b'2';
+impl Status {
+    // The digit that is written on descriptor 3.
+    pub fn digit(self) -> u8
+        ensures { result ≡ digit self }
+    {
+        match self {
+            Status::Well => b'0',
+            Status::Refused => b'1',
+            Status::Fault => b'2',
+        }
+    }
+}
 
 const USAGE: [u8; 705] = *b"\
 usage: one of\n\
@@ -46,25 +57,27 @@ FILE is an input as boxrun reads it; with none, or -, it is standard input.\n\
 ";
 
 // The status of what was printed.
-fn status_of(text: &[u8]) -> u8
+fn status_of(text: &[u8]) -> Status
     ensures { result ≡ status_of text.now }
 {
-    if begins(b"(refused", text) {
-        return REFUSED;
+    if text.starts_with(b"(refused") {
+        Status::Refused
+    } else {
+        Status::Well
     }
-    WELL
 }
 
 // Writes a text, and answers the status that it has where that does not fail.
-fn write_out(rt: &HostRuntime, text: &[u8], status: u8) -> u8
+fn write_out(rt: &HostRuntime, text: &[u8], status: Status) -> Status
     ensures { Unless result status }
 {
-    let written = streams::write_all(&mut rt.stdout(), text);
-    if let Err(error) = written {
-        let _ = streams::tell(&mut rt.stderr(), b"box: standard output", error);
-        return FAULT;
+    match streams::write_all(&mut rt.stdout(), text) {
+        Ok(()) => status,
+        Err(error) => {
+            let _ = streams::tell(&mut rt.stderr(), b"box: standard output", error);
+            Status::Fault
+        }
     }
-    status
 }
 
 // Prints what is asked of an input.
@@ -82,161 +95,136 @@ fn print(job: Job, input: &[u8], output: &mut [u8]) -> Printed
 }
 
 // Prints it, writes it and answers the status.
-fn finish(rt: &HostRuntime, job: Job, input: &[u8]) -> u8
+fn finish(rt: &HostRuntime, job: Job, input: &[u8]) -> Status
     ensures { Finishes job input.now result }
 {
     let mut output = [0u8; 65536];
-    let printed = print(job, input, &mut output);
-    match printed {
+    match print(job, input, &mut output) {
         Printed::Written(n) => {
-            let status = status_of(&output[..n]);
-            write_out(rt, &output[..n], status)
+            let text = &output[..n];
+            write_out(rt, text, status_of(text))
         }
-        Printed::Refused(_, _) => FAULT, // the output is long enough
+        Printed::Refused(_, _) => Status::Fault, // the output is long enough
     }
 }
 
-fn status_of_sheet(holds: bool) -> u8
+fn status_of_sheet(holds: bool) -> Status
     ensures { result ≡ status_of_sheet holds }
 {
-    if holds { WELL } else { REFUSED }
+    if holds { Status::Well } else { Status::Refused }
 }
 
 // Prints the check sheet, writes it and answers the status.
-fn finish_check(rt: &HostRuntime, input: &[u8]) -> u8
+fn finish_check(rt: &HostRuntime, input: &[u8]) -> Status
     ensures { Unless result (status_of_sheet (holds_of input.now)) }
 {
     let mut output = [0u8; 32768];
-    let checked = sheet::print_sheet(input, &mut output);
-    match checked {
+    match sheet::print_sheet(input, &mut output) {
         Checked::Sheet(n, holds) => write_out(rt, &output[..n], status_of_sheet(holds)),
-        Checked::Refused(_) => FAULT, // the output is long enough
+        Checked::Refused(_) => Status::Fault, // the output is long enough
     }
 }
 
-// The sheet of the input that argument i names.
-fn check(rt: &HostRuntime, i: usize) -> u8 {
+// What is made of the input that argument i names.
+fn on_input<F: FnOnce(&[u8]) -> Status>(rt: &HostRuntime, i: usize, finish: F) -> Status
+    requires { F.IsAlwaysCallable finish }
+{
     let mut input = [0u8; 65537]; // one byte more than an input may have
-    let reading = read_input(rt, i, &mut input);
-    match reading {
-        Reading::Got(n) => finish_check(rt, &input[..n]),
-        Reading::Failed(_) => FAULT,
+    match read_input(rt, i, &mut input) {
+        Ok(n) => finish(&input[..n]),
+        Err(_) => Status::Fault,
     }
 }
 
-// A job on the input that argument i names.
-fn on_input(rt: &HostRuntime, job: Job, i: usize) -> u8 {
-    let mut input = [0u8; 65537]; // one byte more than an input may have
-    let reading = read_input(rt, i, &mut input);
-    match reading {
-        Reading::Got(n) => finish(rt, job, &input[..n]),
-        Reading::Failed(_) => FAULT,
-    }
+fn perform_job(rt: &HostRuntime, i: usize, job: Job) -> Status {
+    on_input(rt, i, |input| finish(rt, job, input))
+}
+
+// The number that argument i is.
+fn number_argument(rt: &HostRuntime, i: usize) -> Option<usize> {
+    let mut word = [0u8; 16];
+    number_of(argument(rt, i, &mut word))
 }
 
 // What the thread reaches that argument i + 1 names, on the input that argument i names.
-fn reach(rt: &HostRuntime, i: usize) -> u8
+fn reach(rt: &HostRuntime, i: usize) -> Status
     requires { i ≤ 3 }
 {
-    let mut word = [0u8; 16];
-    let n = argument(rt, i + 1, &mut word);
-    let number = number_of(&word[..n]);
-    match number {
-        Number::Of(thread) => on_input(rt, Job::Reached(thread), i),
-        Number::None => usage(rt),
+    match number_argument(rt, i + 1) {
+        Some(thread) => perform_job(rt, i, Job::Reached(thread)),
+        None => usage(rt),
     }
 }
 
-// What the number means that argument i names, if there is one.
-fn explain_argument(rt: &HostRuntime, i: usize) -> u8 {
-    let mut word = [0u8; 16];
-    let n = argument(rt, i, &mut word);
-    let number = number_of(&word[..n]);
-    match number {
-        Number::Of(k) => explain_number(rt, k),
-        Number::None => explain_number(rt, 0),
-    }
-}
-
-fn explain_number(rt: &HostRuntime, number: usize) -> u8 {
+// What a number means, if it is one of a refusal or a stop.
+fn explain_number(rt: &HostRuntime, number: usize) -> Status {
     let mut output = [0u8; 32768];
-    let printed = explain::print_explained(number, &mut output);
-    match printed {
-        Printed::Written(m) => {
-            if m == 0 {
-                let _ = rt.eprintln("box: explain: there are the numbers 1 to 21");
-                return REFUSED;
-            }
-            write_out(rt, &output[..m], WELL)
+    match explain::print_explained(number, &mut output) {
+        Printed::Written(0) => {
+            let _ = rt.eprintln("box: explain: there are the numbers 1 to 21");
+            Status::Refused
         }
-        Printed::Refused(_, _) => FAULT, // the output is long enough
+        Printed::Written(n) => write_out(rt, &output[..n], Status::Well),
+        Printed::Refused(_, _) => Status::Fault, // the output is long enough
     }
 }
 
-fn usage(rt: &HostRuntime) -> u8 {
+fn usage(rt: &HostRuntime) -> Status {
     let _ = rt.stderr().write_all(&USAGE);
-    FAULT
+    Status::Fault
 }
 
 // Does what argument i commands, and answers the status.
-fn perform(rt: &HostRuntime, i: usize) -> u8
+fn perform(rt: &HostRuntime, i: usize) -> Status
     requires { i ≤ 2 }
 {
     let mut word = [0u8; 16];
-    let n = argument(rt, i, &mut word);
-    let command = command_of(&word[..n]);
+    let command = command_of(argument(rt, i, &mut word));
     if !takes(command, words_after(rt, i)) {
         return usage(rt);
     }
     match command {
-        Command::Print(job) => on_input(rt, job, i + 1),
-        Command::Check => check(rt, i + 1),
+        Command::Print(job) => perform_job(rt, i + 1, job),
+        Command::Check => on_input(rt, i + 1, |input| finish_check(rt, input)),
         Command::Reach => reach(rt, i + 1),
-        Command::Explain => explain_argument(rt, i + 1),
-        Command::Version => write_out(rt, b"box 1.8.0\n", WELL),
-        Command::Help => write_out(rt, &USAGE, WELL),
+        Command::Explain => explain_number(rt, number_argument(rt, i + 1).unwrap_or(0)),
+        Command::Version => write_out(rt, b"box 1.8.0\n", Status::Well),
+        Command::Help => write_out(rt, &USAGE, Status::Well),
         Command::Unknown => usage(rt),
     }
 }
 
 // How many arguments there are after argument i.
 fn words_after(rt: &HostRuntime, i: usize) -> usize {
-    for count in 0..usize::MAX {
-        if !has_argument(rt, i.saturating_add(1).saturating_add(count)) {
-            return count;
-        }
-    }
-    usize::MAX
+    (i.saturating_add(1)..usize::MAX)
+        .take_while(|k| has_argument(rt, *k))
+        .count()
 }
 
 // Whether there is an argument i.
 fn has_argument(rt: &HostRuntime, i: usize) -> bool {
-    let mut word = [0u8; 16];
-    !matches!(rt.arg(i, &mut word), Err(FillError::NotPresent))
+    !matches!(rt.arg(i, &mut [0; 16]), Err(FillError::NotPresent))
 }
 
-// Argument i, put at the front of a word, and how long it is; 0 where it is missing, or longer than the word.
-fn argument(rt: &HostRuntime, i: usize, word: &mut [u8]) -> usize
-    ensures { IsPrefixLen result word.new }
-{
+// Argument i, at the front of a word that is lent for it; nothing where it is missing, or longer than the word.
+fn argument<'a>(rt: &HostRuntime, i: usize, word: &'a mut [u8]) -> &'a [u8] {
     match rt.arg(i, word) {
-        Ok(n) => n,
-        Err(_) => 0,
+        Ok(n) => &word[..n],
+        Err(_) => &[],
     }
 }
 
 // Writes a status on descriptor 3, where that is open.
-fn tell_status(rt: &HostRuntime, status: u8) {
+fn tell_status(rt: &HostRuntime, status: Status) {
     let opened = OpenOptions::new().append(true).open(rt, "/dev/fd/3");
     if let Ok(mut to) = opened {
-        let _ = streams::write_all(&mut to, &[status]);
+        let _ = streams::write_all(&mut to, &[status.digit()]);
     }
 }
 
 fn main(rt: HostRuntime) {
     let mut word = [0u8; 16];
-    let n = argument(&rt, 1, &mut word);
-    if is(b"--status", &word[..n]) {
+    if argument(&rt, 1, &mut word) == b"--status".as_slice() {
         let status = perform(&rt, 2);
         tell_status(&rt, status);
     } else {

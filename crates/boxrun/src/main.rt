@@ -3,31 +3,23 @@
 #![tactic(auto)]
 
 use listing::Printed;
-use streams::Reading;
 
 // The printed run of an input that was read whole.
 fn print(rt: &HostRuntime, input: &[u8]) {
     let mut output = [0u8; 32768];
-    let printed = replay::print_input(input, &mut output);
-    match printed {
-        Printed::Written(n) => {
-            let written = streams::write_all(&mut rt.stdout(), &output[..n]);
-            if let Err(error) = written {
-                let _ = streams::tell(&mut rt.stderr(), b"boxrun: standard output", error);
-            }
+    // the output is long enough
+    if let Printed::Written(n) = replay::print_input(input, &mut output) {
+        if let Err(error) = streams::write_all(&mut rt.stdout(), &output[..n]) {
+            let _ = streams::tell(&mut rt.stderr(), b"boxrun: standard output", error);
         }
-        Printed::Refused(_, _) => {} // the output is long enough
     }
 }
 
 fn main(rt: HostRuntime) {
     let mut input = [0u8; 65537]; // one byte more than an input may have
-    let reading = streams::read_all(&mut rt.stdin(), &mut input);
-    match reading {
-        Reading::Got(n) => {
-            print(&rt, &input[..n]);
-        }
-        Reading::Failed(error) => {
+    match streams::read_all(&mut rt.stdin(), &mut input) {
+        Ok(n) => print(&rt, &input[..n]),
+        Err(error) => {
             let _ = streams::tell(&mut rt.stderr(), b"boxrun: standard input", error);
         }
     }

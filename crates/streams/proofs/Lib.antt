@@ -1,3 +1,2 @@
--- Why the code of this crate keeps its contracts, and what its callers learn.
-pub mod StepLaws
+-- Why the code of this crate keeps its contracts.
 mod Parts

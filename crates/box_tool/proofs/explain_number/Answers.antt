@@ -5,8 +5,8 @@ use Rattle.listing.proofs.PrintOutcomes.{written_fits}
 use Rattle.box_tool.proofs.explain_number.Goals as goal
 
 pub slice_bounds-output-end : goal.slice_bounds-output-end
-slice_bounds-output-end c = written_fits _ _ c.print_explained-printed.ensures.value c.print_explained-printed.ensures.output_after c.in-Written.is
+slice_bounds-output-end c = written_fits _ _ c.print_explained.ensures.value c.print_explained.ensures.output_after c.in-Written.is
 
 pub slice_bounds-write_out-end : goal.slice_bounds-write_out-end
 slice_bounds-write_out-end c =
-    sym (length-take-le _ _ (written_fits _ _ c.print_explained-printed.ensures.value c.print_explained-printed.ensures.output_after c.in-Written.is))
+    sym (length-take-le _ _ (written_fits _ _ c.print_explained.ensures.value c.print_explained.ensures.output_after c.in-Written.is))

@@ -1,12 +1,14 @@
 -- By the word that the text begins with.
-use mathlib.Core.Path.{sym, ◌∙◌}
+use Rattle.std.proofs.Common.{sym, ◌∙◌}
+use Rattle.rules.specs.Text.{bytes}
 use Rattle.box_tool.specs.Status.{status_of}
+use Rattle.box_tool.proofs.Begins.{starts}
 use Rattle.box_tool.proofs.status_of.Goals as goal
 
-pub returns-then-begins : goal.returns-then-begins
+pub returns-then-starts_with : goal.returns-then-starts_with
 unfolding status_of
-returns-then-begins c = rw (sym c.begins.ensures ∙ c.if-begins.true)
+returns-then-starts_with c = rw (sym (starts (bytes "(refused") c.args.text.now) ∙ sym c.starts_with.ensures.value ∙ c.if-starts_with.true)
 
-pub returns : goal.returns
+pub returns-else-starts_with : goal.returns-else-starts_with
 unfolding status_of
-returns c = rw (sym c.begins.ensures ∙ c.if-begins.false)
+returns-else-starts_with c = rw (sym (starts (bytes "(refused") c.args.text.now) ∙ sym c.starts_with.ensures.value ∙ c.if-starts_with.false)
