@@ -27,6 +27,16 @@ pub same_text : {j : ℕ} (k : ℕ) {o o₁ : Output} {s t : List ℕ} → s ≡
 same_text k e wide a =
     record { writes = At.same_text k e wide a.writes; most = omega (arith, wide, a.most); length_same = a.length_same; buffer_same = a.buffer_same }
 
+-- a bound from elsewhere
+pub bounded : {j : ℕ} (k : ℕ) {o o₁ : Output} {t : List ℕ} → o₁.at ≤ o.at + k → Wrote j o o₁ t → Wrote k o o₁ t
+bounded k within a =
+    record {
+      writes = record { is = a.writes.is; end = a.writes.end; most = within; from = a.writes.from };
+      most = within;
+      length_same = a.length_same;
+      buffer_same = a.buffer_same;
+    }
+
 -- a whole text in a lent buffer: the output began at its front, and what the buffer became is what the output left
 pub at_front : {k : ℕ} {o o₁ : Output} {l l₁ t : List ℕ} → o.at ≡ 0 → o.buf.now ≡ l → l₁ ≡ o₁.buf.now → Wrote k o o₁ t → WroteAt k l l₁ 0 o₁.at t
 at_front start content left w = rw (← start, ← content, left) w.writes

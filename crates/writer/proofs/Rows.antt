@@ -14,23 +14,27 @@ use Rattle.rules.specs.Script.{Form, Edition}
 use Rattle.rules.specs.Templates.{show, head_of}
 use Rattle.rules.specs.Tables.{edition_word}
 use Rattle.rules.proofs.ListLaws.{every_at}
-use Rattle.buffer.specs.Writing.{Wrote}
-use Rattle.buffer.proofs.Appends.{nothing, ◌▹◌, same_text}
+use Rattle.rules.specs.Forms.{form_of}
+use Rattle.buffer.specs.declared.Output.{Output}
+use Rattle.buffer.specs.Writing.{Wrote as WroteAt}
+use Rattle.buffer.specs.Outputs.{Wrote}
+use Rattle.buffer.proofs.Outputs.{nothing, ◌▹◌, same_text, bounded, at_front}
 use Rattle.table.specs.ProgramTable.{Filled, no_form, LineCount, EditionIs, LineWord}
 use Rattle.writer.specs.Lines.{line_text, FewParts, line_bytes, WritesLine, WritesLines, head_text, WritesScript}
 use Rattle.writer.proofs.Texts.{form_told, head_told}
 
 -- the words of a line are those of its form
-pub line_written : {t l l₁ : List ℕ} {n at r form a b c d e f : ℕ}
+pub line_written : {t : List ℕ} {o o₁ : Output} {n form a b c d e f : ℕ}
     → LineWord t n 0 form → LineWord t n 1 a → LineWord t n 2 b → LineWord t n 3 c → LineWord t n 4 d → LineWord t n 5 e → LineWord t n 6 f
-    → Wrote line_bytes l l₁ at r (line_text form a b c d e f) → WritesLine t n l l₁ at r
-line_written {t} {l} {l₁} {n} {at} {r} w₀ w₁ w₂ w₃ w₄ w₅ w₆ written = record { writes = told; most = written.most }
-  where
-    told : (counts rest : List ℕ) (Fs : List Form) → Filled t counts Fs rest → n < length Fs → FewParts (get_or Fs n no_form) → Wrote line_bytes l l₁ at r (show (get_or Fs n no_form))
-    told counts rest Fs filled there few =
-        same_text line_bytes
-        (rw (w₀.is counts rest Fs filled there, w₁.is counts rest Fs filled there, w₂.is counts rest Fs filled there, w₃.is counts rest Fs filled there, w₄.is counts rest Fs filled there, w₅.is counts rest Fs filled there, w₆.is counts rest Fs filled there) (form_told (get_or Fs n no_form) few))
-        (omega arith) written
+    → Wrote line_bytes o o₁ (line_text (form_of form) (a ∷ b ∷ c ∷ d ∷ e ∷ f ∷ [])) → WritesLine t n o o₁
+line_written {n = n} w₀ w₁ w₂ w₃ w₄ w₅ w₆ written =
+    record {
+      text = _;
+      writes = written;
+      is_line = λ counts rest Fs filled there few.
+        rw (w₀.is counts rest Fs filled there, w₁.is counts rest Fs filled there, w₂.is counts rest Fs filled there, w₃.is counts rest Fs filled there, w₄.is counts rest Fs filled there, w₅.is counts rest Fs filled there, w₆.is counts rest Fs filled there)
+        (form_told (get_or Fs n no_form) few);
+    }
 
 -- ---- The text of some lines
 
@@ -58,55 +62,61 @@ first_lines_shorter (suc n) (F ∷ Fs) = omega (arith, first_lines_shorter n Fs,
 
 -- ---- The loop
 
--- the first n lines of whatever lines the table holds, from a place on
-pub record SoFar (t l l₁ : List ℕ) (from at n : ℕ) : Type 0 where
-  writes : (counts rest : List ℕ) (Fs : List Form) → Filled t counts Fs rest → Every FewParts Fs → n ≤ length Fs → Wrote (Most.text + line_bytes) l l₁ from at (text_of (take n Fs))
+-- the first n lines of whatever lines the table holds
+pub record SoFar (t : List ℕ) (o o₁ : Output) (n : ℕ) : Type 0 where
+  text : List ℕ
+  pub writes : Wrote (Most.text + line_bytes) o o₁ text
+  first_lines : (counts rest : List ℕ) (Fs : List Form) → Filled t counts Fs rest → Every FewParts Fs → n ≤ length Fs → text ≡ text_of (take n Fs)
 
-pub none_yet : {t l : List ℕ} {from : ℕ} → from ≤ length l → SoFar t l l from from 0
+pub none_yet : {t : List ℕ} {o : Output} → o.at ≤ length o.buf.now → SoFar t o o 0
 unfolding text_of join
-none_yet room = record { writes = λ counts rest Fs filled few there. nothing (Most.text + line_bytes) room }
+none_yet room = record { text = []; writes = nothing (Most.text + line_bytes) room; first_lines = λ counts rest Fs filled few there. refl }
 
-pub one_line_more : {t l l₁ l₂ : List ℕ} {from at r n : ℕ} → at ≤ Most.text → SoFar t l l₁ from at n → WritesLine t n l₁ l₂ at r → SoFar t l l₂ from r (n + 1)
-one_line_more {t} {l} {l₁} {l₂} {from} {at} {r} {n} room before next = record { writes = more }
-  where
-    more : (counts rest : List ℕ) (Fs : List Form) → Filled t counts Fs rest → Every FewParts Fs → n + 1 ≤ length Fs → Wrote (Most.text + line_bytes) l l₂ from r (text_of (take (n + 1) Fs))
-    more counts rest Fs filled few there =
-        let both = before.writes counts rest Fs filled few (omega arith) ▹ next.writes counts rest Fs filled (omega arith) (every_at FewParts Fs n no_form (omega arith) few) in
-        let said = same_text (Most.text + line_bytes + line_bytes) (text_more Fs n (omega arith)) (omega arith) both in
-        record { is = said.is; end = said.end; most = omega (arith, next.most); from = said.from }
+pub one_line_more : {t : List ℕ} {o o₁ o₂ : Output} {n : ℕ} → o₁.at ≤ Most.text → SoFar t o o₁ n → WritesLine t n o₁ o₂ → SoFar t o o₂ (n + 1)
+one_line_more {n = n} room before next =
+    record {
+      text = before.text ++ next.text;
+      writes = bounded (Most.text + line_bytes) (omega (arith, room, next.writes.most)) (before.writes ▹ next.writes);
+      first_lines = λ counts rest Fs filled few there.
+        rw (before.first_lines counts rest Fs filled few (omega (arith, there)), next.is_line counts rest Fs filled (omega (arith, there)) (every_at FewParts Fs n no_form (omega (arith, there)) few))
+        (text_more Fs n (omega (arith, there)));
+    }
 
-module _ {t l l₁ : List ℕ} {from at n count : ℕ} (small : at ≤ Most.text + line_bytes) (so_far : SoFar t l l₁ from at n) where
+module _ {t : List ℕ} {o o₁ : Output} {n count : ℕ} (small : o₁.at ≤ Most.text + line_bytes) (so_far : SoFar t o o₁ n) where
   -- all lines
-  pub all_written : LineCount t count → n ≡ count % 673 → WritesLines t l l₁ from at
-  all_written counted done = record { writes = all; most = small }
+  pub all_written : LineCount t count → n ≡ count % 673 → WritesLines t o o₁
+  all_written counted done = record { text = so_far.text; writes = so_far.writes; are_lines = all; most = small }
     where
       all : (counts rest : List ℕ) (Fs : List Form) → Filled t counts Fs rest → get_or counts 2 0 ≡ length Fs → Every FewParts Fs
-          → from + length (join (map show Fs)) ≤ Most.text → Wrote (Most.text + line_bytes) l l₁ from at (join (map show Fs))
+          → o.at + length (join (map show Fs)) ≤ Most.text → so_far.text ≡ join (map show Fs)
       all counts rest Fs filled said few short =
           let lines_are : n ≡ length Fs = omega (arith, counted.is counts rest Fs filled, filled.lines) in
-          same_text (Most.text + line_bytes) (ap text_of (take_all n Fs (omega arith)) ∙ text_of_lem Fs) (omega arith) (so_far.writes counts rest Fs filled few (omega arith))
+          so_far.first_lines counts rest Fs filled few (omega arith) ∙ ap text_of (take_all n Fs (omega arith)) ∙ text_of_lem Fs
 
   -- longer than a text may be, though lines are left
-  pub too_long : LineCount t count → n < count % 673 → Most.text < at → WritesLines t l l₁ from at
-  too_long counted left long = record { writes = none; most = small }
+  pub too_long : LineCount t count → n < count % 673 → Most.text < o₁.at → WritesLines t o o₁
+  too_long counted left long = record { text = so_far.text; writes = so_far.writes; are_lines = none; most = small }
     where
       none : (counts rest : List ℕ) (Fs : List Form) → Filled t counts Fs rest → get_or counts 2 0 ≡ length Fs → Every FewParts Fs
-          → from + length (join (map show Fs)) ≤ Most.text → Wrote (Most.text + line_bytes) l l₁ from at (join (map show Fs))
+          → o.at + length (join (map show Fs)) ≤ Most.text → so_far.text ≡ join (map show Fs)
       none counts rest Fs filled said few short =
           let there : n ≤ length Fs = omega (arith, counted.is counts rest Fs filled, filled.lines) in
-          let whole : from + length (text_of Fs) ≤ Most.text = rw (text_of_lem Fs) short in
-          absurd (omega (arith, (so_far.writes counts rest Fs filled few there).end, first_lines_shorter n Fs, whole, long))
+          let whole : o.at + length (text_of Fs) ≤ Most.text = rw (text_of_lem Fs) short in
+          let ends : o₁.at ≡ o.at + length (text_of (take n Fs)) = rw (← so_far.first_lines counts rest Fs filled few there) so_far.writes.writes.end in
+          absurd (omega (arith, ends, first_lines_shorter n Fs, whole, long))
 
 -- ---- The script
 
--- what the edition's word says, and the lines after it
-pub script_written : {t l l₁ l₂ : List ℕ} {k w at r : ℕ} → EditionIs t w → Wrote k l l₁ 0 at (head_text w) → WritesLines t l₁ l₂ at r → WritesScript t l l₂ r
-script_written {t} {l} {l₁} {l₂} {k} {w} {at} {r} told head lines = record { writes = whole; most = lines.most }
+-- what the edition's word says, and the lines after it, from the front of a buffer on
+pub script_written : {t l l₁ : List ℕ} {k w : ℕ} {o o₁ o₂ : Output} → o.at ≡ 0 → o.buf.now ≡ l → l₁ ≡ o₂.buf.now
+    → EditionIs t w → Wrote k o o₁ (head_text w) → WritesLines t o₁ o₂ → WritesScript t l l₁ o₂.at
+script_written {t} {l} {l₁} {k} {w} {o} {o₁} {o₂} start content left told head lines = record { writes = whole; most = lines.most }
   where
     whole : (kinds blocks : ℕ) (d : Edition) (rest : List ℕ) (Fs : List Form) → Filled t (kinds ∷ blocks ∷ length Fs ∷ edition_word d ∷ []) Fs rest → Every FewParts Fs
-        → length (head_of d ++ join (map show Fs)) ≤ Most.text → Wrote (Most.text + line_bytes) l l₂ 0 r (head_of d ++ join (map show Fs))
+        → length (head_of d ++ join (map show Fs)) ≤ Most.text → WroteAt (Most.text + line_bytes) l l₁ 0 o₂.at (head_of d ++ join (map show Fs))
     whole kinds blocks d rest Fs filled few short =
         let named : head_text w ≡ head_of d = ap head_text (told.is _ rest Fs filled) ∙ head_told d in
         let front = same_text k named (omega arith) head in
-        let both = front ▹ lines.writes _ rest Fs filled refl few (omega (arith, front.end, length-append (head_of d) (join (map show Fs)))) in
-        record { is = both.is; end = both.end; most = omega (arith, lines.most); from = both.from }
+        let fits : o₁.at + length (join (map show Fs)) ≤ Most.text = omega (arith, start, front.writes.end, short, length-append (head_of d) (join (map show Fs))) in
+        let after = same_text (Most.text + line_bytes) (lines.are_lines _ rest Fs filled refl few fits) (omega arith) lines.writes in
+        at_front start content left (bounded (Most.text + line_bytes) (omega (arith, lines.most)) (front ▹ after))

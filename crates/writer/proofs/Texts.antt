@@ -1,25 +1,28 @@
 -- The text of a form from the words of its line: what the calls of a function write one after the other is what the form's template says. And the
 -- line that names the edition, from its word.
-use Prim.Native.Nat.{ℕ, zero, suc, ◌-◌, ◌/◌, ◌%◌, ◌≤◌}
+use Prim.Native.Nat.{ℕ, zero, suc, ◌+◌, ◌*◌, ◌-◌, ◌/◌, ◌%◌, ◌≤◌, ◌<◌}
+use native.Mathlib.Numerals.{add-one}
 use native.Mathlib.Omega.{arith}
-use mathlib.Core.Path.{◌≡◌, refl, sym, ap, ◌∙◌, subst}
-use mathlib.Core.Bool.{true, false≢true}
-use mathlib.Core.List.{List, [], ◌∷◌, ◌++◌, map, append-nil}
-use lib.Dec.{ltb}
-use lib.ListN.{length, get_or, get_or-eq_default}
-use borrow.Author.Tests.{eq-eqb, ne_eqb, ltb-true, ltb-false}
+use mathlib.Core.Path.{◌≡◌, refl, sym, ap, ◌∙◌}
+use mathlib.Core.List.{List, [], ◌∷◌, ◌++◌, map, append-nil, append_assoc}
+use lib.ListN.{length, get_or, take}
+use lib.Seq.{take-suc}
+use borrow.Author.Tests.{eq-eqb, ne_eqb}
+use Rattle.std.proofs.Math.Nat.{mul-le-mul_left, mul_comm, suc-mul}
 use Rattle.rules.specs.declared.forms.Form.TheVariants as N
 use Rattle.rules.specs.Lists.{pad}
 use Rattle.rules.specs.Text.{bytes, space}
 use Rattle.rules.specs.Script.{Operand, value, field, swap, call, new, cast, spawn, send, recv, copy, bind, give, thread, method, Form, kind, opens, line, Edition, edition1, edition2, rank}
-use Rattle.rules.specs.Templates.{decimal, print_operand, cap_word, print_many, print, show, head_of}
-use Rattle.rules.specs.Forms.{form_number, form_of}
+use Rattle.rules.specs.Templates.{cap_word, print_operand, print_many, print, show, head_of}
+use Rattle.rules.specs.Forms.{form_of}
 use Rattle.rules.specs.Tables.{operand_item, operand_of, cap_of, line_words, row, edition_word}
 use Rattle.rules.specs.Reading.{operands_in}
-use Rattle.rules.proofs.ListLaws.{by_bool, all_below, below_true}
 use Rattle.rules.proofs.TableWords.{cap_of_rank, operand_of_word}
+use Rattle.buffer.specs.declared.Output.{Output}
+use Rattle.buffer.specs.Outputs.{HasRoom, Wrote}
 use Rattle.buffer.specs.Writing.{number_part}
-use Rattle.writer.specs.Lines.{operand_part, item_part, items_of, forms_of, line_text, FewParts, head_text}
+use Rattle.buffer.proofs.Outputs.{◌▹◌, same_text}
+use Rattle.writer.specs.Lines.{operand_part, item_part, items_of, form_text, FewParts, head_text}
 
 -- ---- Parts
 
@@ -31,104 +34,50 @@ pub read_operand : (w : ℕ) → (w % 2 ≡ 1 → ⊥) → bytes " (read" ++ (nu
 unfolding print_operand
 read_operand w even = rw (ne_eqb (w % 2) 1 even) refl
 
-module _ (f : ℕ → List ℕ) where
-  pub no_item : (w : ℕ) → w ≡ 0 → [] ≡ item_part f w
+module _ (f : ℕ → List ℕ) (k : ℕ) where
+  no_item : (w : ℕ) → w ≡ 0 → [] ≡ item_part f w
   no_item w none = rw none refl
 
-  pub an_item : (w : ℕ) → (w ≡ 0 → ⊥) → space ∷ f (w - 1) ≡ item_part f w
+  an_item : (w : ℕ) → (w ≡ 0 → ⊥) → space ∷ f (w - 1) ≡ item_part f w
   an_item zero some = absurd (some refl)
   an_item (suc i) some = let less : suc i - 1 ≡ i = omega arith in ap (λ (k : ℕ). space ∷ f k) less
 
-  item_first : (w : ℕ) (ws : List ℕ) → item_part f w ++ print_many f (items_of ws) ≡ print_many f (items_of (w ∷ ws))
+  items_snoc : (ws : List ℕ) (w : ℕ) → print_many f (items_of ws) ++ item_part f w ≡ print_many f (items_of (ws ++ (w ∷ [])))
   unfolding print_many
-  item_first zero ws = refl
-  item_first (suc i) ws = refl
+  items_snoc [] zero = refl
+  items_snoc [] (suc i) = sym (append-nil (space ∷ f i))
+  items_snoc (zero ∷ ws) w = items_snoc ws w
+  items_snoc (suc i ∷ ws) w = append_assoc (space ∷ f i) (print_many f (items_of ws)) (item_part f w) ∙ ap (λ (t : List ℕ). space ∷ (f i ++ t)) (items_snoc ws w)
 
-  pub four_items : (a b c d : ℕ) → item_part f a ++ (item_part f b ++ (item_part f c ++ item_part f d)) ≡ print_many f (items_of (a ∷ b ∷ c ∷ d ∷ []))
-  unfolding print_many
-  four_items a b c d =
-      ap (λ (t : List ℕ). item_part f a ++ (item_part f b ++ (item_part f c ++ t))) (sym (append-nil (item_part f d)) ∙ item_first d [])
-      ∙ ap (λ (t : List ℕ). item_part f a ++ (item_part f b ++ t)) (item_first c (d ∷ []))
-      ∙ ap (λ (t : List ℕ). item_part f a ++ t) (item_first b (c ∷ d ∷ []))
-      ∙ item_first a (b ∷ c ∷ d ∷ [])
+  items_more : (ws : List ℕ) (n : ℕ) → n < length ws → print_many f (items_of (take n ws)) ++ item_part f (get_or ws n 0) ≡ print_many f (items_of (take (n + 1) ws))
+  items_more ws n there = items_snoc (take n ws) (get_or ws n 0) ∙ rw (add-one n, take-suc ws n 0 there) refl
+
+  -- an item more, where there is one
+  pub an_item_more : {o o₁ o₂ : Output} {n : ℕ} (ws : List ℕ) → n < length ws → (get_or ws n 0 ≡ 0 → ⊥)
+      → Wrote (n * k) o o₁ (print_many f (items_of (take n ws))) → Wrote k o₁ o₂ (space ∷ f (get_or ws n 0 - 1)) → Wrote ((n + 1) * k) o o₂ (print_many f (items_of (take (n + 1) ws)))
+  an_item_more {n = n} ws there some before next =
+      same_text ((n + 1) * k) (ap (λ (t : List ℕ). print_many f (items_of (take n ws)) ++ t) (an_item (get_or ws n 0) some) ∙ items_more ws n there) (omega (arith, suc-mul n k)) (before ▹ next)
+
+  pub no_item_more : {o o₁ : Output} {n : ℕ} (ws : List ℕ) → n < length ws → get_or ws n 0 ≡ 0
+      → Wrote (n * k) o o₁ (print_many f (items_of (take n ws))) → Wrote ((n + 1) * k) o o₁ (print_many f (items_of (take (n + 1) ws)))
+  no_item_more {n = n} ws there none before =
+      same_text ((n + 1) * k) (sym (append-nil _) ∙ ap (λ (t : List ℕ). print_many f (items_of (take n ws)) ++ t) (no_item (get_or ws n 0) none) ∙ items_more ws n there) (omega (arith, suc-mul n k)) before
+
+-- room for one item of four more, where n are written
+pub room_left : {o o₁ : Output} {t : List ℕ} (n k : ℕ) → n < 4 → HasRoom (4 * k) o → Wrote (n * k) o o₁ t → HasRoom k o₁
+room_left n k there room before = omega (arith, suc-mul n k, mul-le-mul_left k there, mul_comm k 4, mul_comm k (suc n), before.most, before.length_same, room)
 
 print_operands : (is : List ℕ) → print_many (λ i. print_operand (operand_of i)) is ≡ print_many print_operand (map operand_of is)
 unfolding print_many
 print_operands [] = refl
 print_operands (i ∷ is) = ap (λ (t : List ℕ). space ∷ (print_operand (operand_of i) ++ t)) (print_operands is)
 
--- ---- Forms by their numbers
-
-module _ {form : ℕ} (a b c d e f : ℕ) where
-  pub kind_text : form ≡ 1 → bytes "(kind (fields" ++ (number_part a ++ (bytes ") (does" ++ (print_many decimal (items_of (b ∷ c ∷ d ∷ e ∷ [])) ++ bytes "))\n"))) ≡ line_text form a b c d e f
-  unfolding line_text show print
-  kind_text is = rw is refl
-
-  pub thread_text : form ≡ 2 → bytes "(thread)\n" ≡ line_text form a b c d e f
-  unfolding line_text show print
-  thread_text is = rw is refl
-
-  pub method_text : form ≡ 3 → bytes "(method)\n" ≡ line_text form a b c d e f
-  unfolding line_text show print
-  method_text is = rw is refl
-
-  pub give_text : form ≡ 4 → bytes "(give" ++ (operand_part a ++ bytes ")\n") ≡ line_text form a b c d e f
-  unfolding line_text show print
-  give_text is = rw is refl
-
-  pub value_text_lem : form ≡ 5 → bytes "(let" ++ (operand_part a ++ bytes ")\n") ≡ line_text form a b c d e f
-  unfolding line_text show print
-  value_text_lem is = rw is refl
-
-  pub field_text : form ≡ 6 → bytes "(let (field" ++ (number_part a ++ (number_part b ++ bytes "))\n")) ≡ line_text form a b c d e f
-  unfolding line_text show print
-  field_text is = rw is refl
-
-  pub swap_text : form ≡ 7 → bytes "(let (swap" ++ (number_part a ++ (number_part b ++ (operand_part c ++ bytes "))\n"))) ≡ line_text form a b c d e f
-  unfolding line_text show print
-  swap_text is = rw is refl
-
-  pub call_text : form ≡ 8 → bytes "(let (call" ++ (number_part a ++ (number_part b ++ (operand_part c ++ bytes "))\n"))) ≡ line_text form a b c d e f
-  unfolding line_text show print
-  call_text is = rw is refl
-
-  pub new_text : form ≡ 9
-      → bytes "(let (new" ++ ((space ∷ cap_word (cap_of a)) ++ (number_part b ++ (print_many (λ i. print_operand (operand_of i)) (items_of (c ∷ d ∷ e ∷ f ∷ [])) ++ bytes "))\n"))) ≡ line_text form a b c d e f
-  unfolding line_text show print
-  new_text is = rw (is, print_operands (items_of (c ∷ d ∷ e ∷ f ∷ []))) refl
-
-  pub cast_text : form ≡ 10 → bytes "(let (cast" ++ ((space ∷ cap_word (cap_of a)) ++ (operand_part b ++ bytes "))\n")) ≡ line_text form a b c d e f
-  unfolding line_text show print
-  cast_text is = rw is refl
-
-  pub spawn_text : form ≡ 11 → bytes "(let (spawn" ++ (number_part a ++ bytes "))\n") ≡ line_text form a b c d e f
-  unfolding line_text show print
-  spawn_text is = rw is refl
-
-  pub send_text : form ≡ 12 → bytes "(let (send" ++ (number_part a ++ (operand_part b ++ bytes "))\n")) ≡ line_text form a b c d e f
-  unfolding line_text show print
-  send_text is = rw is refl
-
-  pub recv_text : form ≡ 13 → bytes "(let (recv" ++ (number_part a ++ bytes "))\n") ≡ line_text form a b c d e f
-  unfolding line_text show print
-  recv_text is = rw is refl
-
-  pub copy_text : form ≡ 14 → bytes "(let (copy" ++ ((space ∷ cap_word (cap_of a)) ++ (number_part b ++ bytes "))\n")) ≡ line_text form a b c d e f
-  unfolding line_text show print
-  copy_text is = rw is refl
-
--- numbers 1 to 14 are forms'
-past_all : (i : ℕ) → form_of (suc i) ≡ N.NoForm → 14 ≤ i
-unfolding all_below
-past_all i none =
-    by_bool (ltb i 14)
-    (λ t. absurd (false≢true (subst (λ f. ltb 0 (form_number f) ≡ true) none (below_true (λ k. ltb 0 (form_number (form_of (suc k)))) 14 i refl (ltb-true i 14 t)))))
-    (λ t. ltb-false i 14 t)
-
-pub no_text : (form a b c d e f : ℕ) → form_of form ≡ N.NoForm → [] ≡ line_text form a b c d e f
-unfolding line_text
-no_text zero a b c d e f none = refl
-no_text (suc i) a b c d e f none = sym (get_or-eq_default (map show (forms_of a b c d e f)) [] (past_all i none))
+-- what is written for a `new` is its form's text
+pub new_text : (a b c d e f : ℕ)
+    → bytes "(let (new" ++ ((space ∷ cap_word (cap_of a)) ++ (number_part b ++ (print_many (λ i. print_operand (operand_of i)) (items_of (c ∷ d ∷ e ∷ f ∷ [])) ++ bytes "))\n")))
+    ≡ form_text N.New a b c d e f
+unfolding form_text show print
+new_text a b c d e f = rw (print_operands (items_of (c ∷ d ∷ e ∷ f ∷ []))) refl
 
 -- ---- The words of a form tell it
 
@@ -156,8 +105,8 @@ operands_told k n (a ∷ b ∷ c ∷ []) few = rw (operand_of_word a, operand_of
 operands_told k n (a ∷ b ∷ c ∷ d ∷ []) few = rw (operand_of_word a, operand_of_word b, operand_of_word c, operand_of_word d) refl
 operands_told k n (a ∷ b ∷ c ∷ d ∷ e ∷ ws) few = absurd (omega (arith, few))
 
-pub form_told : (F : Form) → FewParts F → line_text (word_of F 0) (word_of F 1) (word_of F 2) (word_of F 3) (word_of F 4) (word_of F 5) (word_of F 6) ≡ show F
-unfolding line_text show row line_words operands_in pad
+pub form_told : (F : Form) → FewParts F → form_text (form_of (word_of F 0)) (word_of F 1) (word_of F 2) (word_of F 3) (word_of F 4) (word_of F 5) (word_of F 6) ≡ show F
+unfolding form_text show row line_words operands_in pad
 form_told (kind K) few = rw (methods_told K.fields K.methods few) refl
 form_told (opens thread) few = refl
 form_told (opens method) few = refl

@@ -3,12 +3,12 @@
 use Prim.Native.Nat.{ℕ, ◌≤◌, ◌<◌}
 use native.Mathlib.Omega.{arith}
 use mathlib.Core.Path.{◌≡◌, refl, sym, ap, ◌∙◌, subst}
-use mathlib.Core.Bool.{Bool, false}
+use mathlib.Core.Bool.{Bool, true, false}
 use mathlib.Core.List.{List, [], ◌∷◌, ◌++◌, map, append-nil}
 use mathlib.Core.Logic.{inl, inr}
 use lib.Dec.{ltb, leb}
 use lib.ListN.{length, take, drop, take-append-drop}
-use lib.Seq.{take-append_seam, drop-length}
+use lib.Seq.{take-append_seam, drop-length, length-take-le}
 use borrow.Author.Tests.{ltb-false, lt-ltb, le-ltb}
 use Rattle.rules.specs.declared.Mosts.{Mosts}
 use Rattle.rules.specs.Mosts as Most
@@ -26,14 +26,15 @@ use Rattle.rules.proofs.ListLaws.{impossible, or_false₃}
 use Rattle.rules.proofs.Scanned.{Scanned, ended, passed}
 use Rattle.rules.proofs.Accepted.{table_lines}
 use Rattle.rules.proofs.Writer.{read_length, read_scanned, read_prints, read_valid, read_again}
-use Rattle.buffer.specs.Writing.{Wrote}
 use Rattle.buffer.proofs.Appends.{front_is}
 use Rattle.table.specs.ProgramTable.{Filled, Same}
 use Rattle.table.proofs.ProgramTable.{program_words_by_lines}
 use Rattle.table.proofs.ProgramLines.{blocks_of_lines}
-use Rattle.reader.specs.ReadAnswers.{answer_of}
-use Rattle.reader.specs.declared.Answer.{Answer}
-use Rattle.reader.specs.declared.Answer.TheVariants.{Read, Refused}
+use Rattle.std.specs.Prelude.{Result, Ok, Err}
+use Rattle.std.specs.Result.{is_err}
+use Prim.{Unit}
+use Rattle.rules.specs.declared.faults.Refusal.{Refusal}
+use Rattle.reader.specs.ReadAnswers.{Answers}
 use Rattle.writer.specs.Lines.{FewParts, WritesScript}
 
 -- ---- Lists of at most four
@@ -81,30 +82,34 @@ is_written {table} {l} {l₁} {text} {r} written it =
 
 -- ---- What reading it again tells
 
--- a reading that the reader answers with Read
-was_accepted : (x : Reading) → Read ≡ answer_of x → (P : Program) × (x ≡ accepted P)
-was_accepted (turned_away k n) e = impossible cc
-was_accepted (accepted P) e = (P, refl)
+was_accepted : {r : Result Unit Refusal} (x : Reading) → Answers x r → r ≡ Ok tt → (P : Program) × (x ≡ accepted P)
+was_accepted (turned_away k n) a e = let both = sym a.is ∙ e in impossible cc
+was_accepted (accepted P) a e = (P, refl)
 
-not_refused : {k n : ℕ} {x : Reading} {P : Program} → Refused k n ≡ answer_of x → x ≡ accepted P → ⊥
-not_refused e is = let refused-read = e ∙ ap answer_of is in impossible cc
+pub is_read : (r : Result Unit Refusal) → is_err r ≡ false → r ≡ Ok tt
+is_read (Ok u) e = refl
+is_read (Err x) e = impossible cc
+
+pub is_refused : (r : Result Unit Refusal) → is_err r ≡ true → r ≡ Ok tt → ⊥
+is_refused (Ok u) e is = impossible cc
+is_refused (Err x) e is = impossible cc
 
 -- read into 8,192 words
-module _ (printed words : List ℕ) {words₁ : List ℕ} {answer : Answer} (wide : length words ≡ Most.words)
-    (answers : answer ≡ answer_of (read_call mosts printed words)) (leaves : words₁ ≡ program_after (read_call mosts printed words) words) where
+module _ (printed words : List ℕ) {words₁ : List ℕ} (answer : Result Unit Refusal) (wide : length words ≡ Most.words)
+    (answers : Answers (read_call mosts printed words) answer) (leaves : words₁ ≡ program_after (read_call mosts printed words) words) where
   gives_words : (P : Program) → read_call mosts printed words ≡ accepted P → words₁ ≡ program_words P
   gives_words P is =
       let none_left : drop Most.words words ≡ [] = subst (λ (k : ℕ). drop k words ≡ []) wide (drop-length words) in
       leaves ∙ ap (λ (x : Reading). program_after x words) is ∙ ap (λ (ws : List ℕ). program_words P ++ ws) none_left ∙ append-nil (program_words P)
 
-  pub is_short : answer ≡ Read → length printed ≤ Most.text
-  is_short read = let a = was_accepted (read_call mosts printed words) (sym read ∙ answers) in read_length mosts printed words a.0 a.1
+  pub is_short : answer ≡ Ok tt → length printed ≤ Most.text
+  is_short read = let a = was_accepted (read_call mosts printed words) answers read in read_length mosts printed words a.0 a.1
 
   module _ {table : List ℕ} (long : Most.words ≤ length table) where
     -- accepted, and with the table's words: it reads to the table
-    pub reads_to : answer ≡ Read → take Most.words table ≡ words₁ → ReadsTo mosts table printed
+    pub reads_to : answer ≡ Ok tt → take Most.words table ≡ words₁ → ReadsTo mosts table printed
     reads_to read same =
-        let a = was_accepted (read_call mosts printed words) (sym read ∙ answers) in
+        let a = was_accepted (read_call mosts printed words) answers read in
         record { program = a.0; reads = read_again mosts printed words a.0 a.1 table long; words = same ∙ gives_words a.0 a.1 }
 
     -- and every text that reads to the table does both
@@ -112,11 +117,15 @@ module _ (printed words : List ℕ) {words₁ : List ℕ} {answer : Answer} (wid
       again : (text : List ℕ) (it : ReadsTo mosts table text) → read_call mosts printed words ≡ accepted it.program
       again text it = rw (only text it) (read_again mosts text table it.program it.reads words (omega arith))
 
-      pub refused_none : {k n : ℕ} → answer ≡ Refused k n → NoneReadsTo mosts table
-      refused_none is text it = not_refused (sym is ∙ answers) (again text it)
+      pub refused_none : (answer ≡ Ok tt → ⊥) → NoneReadsTo mosts table
+      refused_none not_read text it = not_read (subst (λ (x : Reading). Answers x answer) (again text it) answers)
 
       pub other_words_none : {r : Bool} → Same table words₁ r → r ≡ false → NoneReadsTo mosts table
       other_words_none same differ text it = same.other differ (it.words ∙ sym (gives_words it.program (again text it)))
+
+-- a script as long as a text may be fits the buffer
+pub script_fits : {r : ℕ} (l buffer : List ℕ) → r ≤ length l → length (take r l) ≤ Most.text → Most.text ≤ length buffer → r ≤ length buffer
+script_fits {r} l buffer within short room = omega (arith, length-take-le r l within, short, room)
 
 -- ---- The answers
 
@@ -137,14 +146,14 @@ module _ (table buffer : List ℕ) where
           rw (le-ltb (length table) Most.words long, le-ltb (length buffer) Most.text room)
           (record { comes_back = λ text it. absurd (none text it); no_script_answers = λ _. record { answers = refl; leaves = refl }; decided = inr none })
 
-      pub written_out : {k r : ℕ} {printed after : List ℕ} → ReadsTo mosts table printed → ((text : List ℕ) → ReadsTo mosts table text → printed ≡ text)
-          → Wrote k buffer after 0 r printed → WriteCall mosts table buffer (wrote r) after
+      pub written_out : {r : ℕ} {printed after : List ℕ} → ReadsTo mosts table printed → ((text : List ℕ) → ReadsTo mosts table text → printed ≡ text)
+          → after ≡ printed ++ drop (length printed) buffer → r ≡ length printed → WriteCall mosts table buffer (wrote r) after
       unfolding short_table short_buffer
-      written_out {r} {printed} {after} it only w =
+      written_out {r} {printed} {after} it only left count =
           rw (le-ltb (length table) Most.words long, le-ltb (length buffer) Most.text room)
           (record { comes_back = back; no_script_answers = λ none. absurd (none printed it); decided = inl (printed, it) })
         where
           back : (text : List ℕ) → ReadsTo mosts table text → Written text buffer (wrote r) after
           back text other =
-              let out : Written printed buffer (wrote r) after = record { answers = ap wrote (front_is w).1; leaves = (front_is w).0 } in
+              let out : Written printed buffer (wrote r) after = record { answers = ap wrote count; leaves = left } in
               subst (λ (t : List ℕ). Written t buffer (wrote r) after) (only text other) out

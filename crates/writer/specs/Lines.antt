@@ -1,6 +1,6 @@
 -- The text of a form from the words of its line in the table, whatever words they are; and the lines and the script that a table holds, written.
 use Prim.{Unit}
-use Rattle.std.specs.Prelude.{ℕ, zero, suc, ◌+◌, ◌≤◌, ◌<◌, ◌≡◌, cond, List, [], ◌∷◌, ◌++◌, map, eqb, length, get_or}
+use Rattle.std.specs.Prelude.{ℕ, zero, suc, ◌+◌, ◌≤◌, ◌<◌, ◌^◌, ◌≡◌, cond, List, [], ◌∷◌, ◌++◌, map, eqb, length, get_or}
 use Rattle.rules.specs.Lists.{Every}
 use Rattle.rules.specs.Mosts as Most
 use Rattle.rules.specs.Text.{space, join}
@@ -8,7 +8,13 @@ use Rattle.rules.specs.Script.{value, field, swap, call, new, cast, spawn, send,
 use Rattle.rules.specs.Templates.{print_operand, show, head_of}
 use Rattle.rules.specs.Reading.{operands_in}
 use Rattle.rules.specs.Tables.{operand_of, cap_of, edition_word}
-use Rattle.buffer.specs.Writing.{Wrote}
+use Rattle.std.specs.Fn.{Shared}
+use Rattle.std.specs.Borrow.{MutBor}
+use Rattle.buffer.specs.declared.Output.{Output}
+use Rattle.rules.specs.declared.forms.Form as Named
+use Rattle.rules.specs.declared.forms.Form.TheVariants as N
+use Rattle.buffer.specs.Writing.{Wrote as WroteAt}
+use Rattle.buffer.specs.Outputs.{HasRoom, Wrote}
 use Rattle.table.specs.ProgramTable.{Filled, no_form}
 
 -- ---- A line by its words
@@ -27,29 +33,31 @@ items_of [] = []
 items_of (zero ∷ ws) = items_of ws
 items_of (suc i ∷ ws) = i ∷ items_of ws
 
--- the forms by their numbers, from 1
-abbrev pub forms_of : (a b c d e f : ℕ) → List Form
-forms_of a b c d e f =
-    kind (record { fields = a; methods = items_of (b ∷ c ∷ d ∷ e ∷ []) })
-    ∷ opens thread
-    ∷ opens method
-    ∷ line (give (operand_of a))
-    ∷ line (bind (value (operand_of a)))
-    ∷ line (bind (field a b))
-    ∷ line (bind (swap a b (operand_of c)))
-    ∷ line (bind (call a b (operand_of c)))
-    ∷ line (bind (new (cap_of a) b (map operand_of (items_of (c ∷ d ∷ e ∷ f ∷ [])))))
-    ∷ line (bind (cast (cap_of a) (operand_of b)))
-    ∷ line (bind (spawn a))
-    ∷ line (bind (send a (operand_of b)))
-    ∷ line (bind (recv a))
-    ∷ line (bind (copy (cap_of a) b))
-    ∷ []
+-- each call of `put` writes an item after a space, in at most k bytes
+pub record PutsItems {F : Type 0} (g : Shared F (MutBor Output × (ℕ × Unit {0})) (Unit {0} × (MutBor Output × Unit {0}))) (put : F) (f : ℕ → List ℕ) (k : ℕ) : Type 0 where
+  pub callable : (o : MutBor Output) (i : ℕ) → i < 2 ^ 16 → HasRoom k o.now → g.pre put (o, (i, tt))
+  pub writes : (o o₁ : MutBor Output) (i : ℕ) → i < 2 ^ 16 → HasRoom k o.now → g.post put (o, (i, tt)) (tt, (o₁, tt)) → Wrote k o.now o₁.now (space ∷ f i)
 
--- nothing where no form has the number
-unfoldable pub line_text : (form a b c d e f : ℕ) → List ℕ
-line_text zero a b c d e f = []
-line_text (suc i) a b c d e f = get_or (map show (forms_of a b c d e f)) i []
+-- a form by its name and its words; nothing where there is no form
+unfoldable pub form_text : Named.Form → (a b c d e f : ℕ) → List ℕ
+form_text N.NoForm a b c d e f = []
+form_text N.Kind a b c d e f = show (kind (record { fields = a; methods = items_of (b ∷ c ∷ d ∷ e ∷ []) }))
+form_text N.Thread a b c d e f = show (opens thread)
+form_text N.Method a b c d e f = show (opens method)
+form_text N.Give a b c d e f = show (line (give (operand_of a)))
+form_text N.Value a b c d e f = show (line (bind (value (operand_of a))))
+form_text N.Field a b c d e f = show (line (bind (field a b)))
+form_text N.Swap a b c d e f = show (line (bind (swap a b (operand_of c))))
+form_text N.Call a b c d e f = show (line (bind (call a b (operand_of c))))
+form_text N.New a b c d e f = show (line (bind (new (cap_of a) b (map operand_of (items_of (c ∷ d ∷ e ∷ f ∷ []))))))
+form_text N.Cast a b c d e f = show (line (bind (cast (cap_of a) (operand_of b))))
+form_text N.Spawn a b c d e f = show (line (bind (spawn a)))
+form_text N.Send a b c d e f = show (line (bind (send a (operand_of b))))
+form_text N.Recv a b c d e f = show (line (bind (recv a)))
+form_text N.Copy a b c d e f = show (line (bind (copy (cap_of a) b)))
+
+abbrev pub line_text : Named.Form → (parts : List ℕ) → List ℕ
+line_text form ps = form_text form (get_or ps 0 0) (get_or ps 1 0) (get_or ps 2 0) (get_or ps 3 0) (get_or ps 4 0) (get_or ps 5 0)
 
 -- ---- The lines of a table
 
@@ -63,17 +71,19 @@ FewParts (line x) = length (operands_in (line x)) ≤ Most.operands
 abbrev pub line_bytes : ℕ
 line_bytes = 77
 
--- line n; its end is bounded whatever the table is
-pub record WritesLine (t : List ℕ) (n : ℕ) (l l₁ : List ℕ) (at r : ℕ) : Type 0 where
-  pub writes : (counts rest : List ℕ) (Fs : List Form) → Filled t counts Fs rest → n < length Fs → FewParts (get_or Fs n no_form)
-      → Wrote line_bytes l l₁ at r (show (get_or Fs n no_form))
-  pub most : r ≤ at + line_bytes
+-- some text is written whatever the table is, which is that of line n
+pub record WritesLine (t : List ℕ) (n : ℕ) (o o₁ : Output) : Type 0 where
+  pub text : List ℕ
+  pub writes : Wrote line_bytes o o₁ text
+  pub is_line : (counts rest : List ℕ) (Fs : List Form) → Filled t counts Fs rest → n < length Fs → FewParts (get_or Fs n no_form) → text ≡ show (get_or Fs n no_form)
 
 -- all lines, where they end no later than a text may
-pub record WritesLines (t l l₁ : List ℕ) (at r : ℕ) : Type 0 where
-  pub writes : (counts rest : List ℕ) (Fs : List Form) → Filled t counts Fs rest → get_or counts 2 0 ≡ length Fs → Every FewParts Fs
-      → at + length (join (map show Fs)) ≤ Most.text → Wrote (Most.text + line_bytes) l l₁ at r (join (map show Fs))
-  pub most : r ≤ Most.text + line_bytes
+pub record WritesLines (t : List ℕ) (o o₁ : Output) : Type 0 where
+  pub text : List ℕ
+  pub writes : Wrote (Most.text + line_bytes) o o₁ text
+  pub are_lines : (counts rest : List ℕ) (Fs : List Form) → Filled t counts Fs rest → get_or counts 2 0 ≡ length Fs → Every FewParts Fs
+      → o.at + length (join (map show Fs)) ≤ Most.text → text ≡ join (map show Fs)
+  pub most : o₁.at ≤ Most.text + line_bytes
 
 -- ---- The script of a table
 
@@ -84,5 +94,5 @@ head_text w = cond (eqb w (edition_word edition2)) (head_of edition2) (head_of e
 -- the line that names the edition and all lines, where they are no longer than a text may be
 pub record WritesScript (t l l₁ : List ℕ) (r : ℕ) : Type 0 where
   pub writes : (kinds blocks : ℕ) (d : Edition) (rest : List ℕ) (Fs : List Form) → Filled t (kinds ∷ blocks ∷ length Fs ∷ edition_word d ∷ []) Fs rest → Every FewParts Fs
-      → length (head_of d ++ join (map show Fs)) ≤ Most.text → Wrote (Most.text + line_bytes) l l₁ 0 r (head_of d ++ join (map show Fs))
+      → length (head_of d ++ join (map show Fs)) ≤ Most.text → WroteAt (Most.text + line_bytes) l l₁ 0 r (head_of d ++ join (map show Fs))
   pub most : r ≤ Most.text + line_bytes

@@ -1,9 +1,10 @@
--- Document 02's answer to writing, from the code's enum.
+-- Document 02's answer to writing, from the code's.
+use Rattle.std.specs.Prelude.{ℕ, Result, Ok, Err}
+use Rattle.rules.specs.declared.faults.Fault.{Fault}
+use Rattle.rules.specs.Numbers.{number}
 use Rattle.rules.specs.Writer as Writer
 use Rattle.rules.specs.Writer.{refused, wrote}
-use Rattle.writer.specs.declared.Answer.{Answer}
-use Rattle.writer.specs.declared.Answer.TheVariants.{Refused, Written}
 
-abbrev pub answer_of : Answer → Writer.Answer
-answer_of (Refused k) = refused k
-answer_of (Written n) = wrote n
+abbrev pub answer_of : Result ℕ Fault → Writer.Answer
+answer_of (Err fault) = refused (number fault)
+answer_of (Ok n) = wrote n

@@ -1,55 +1,69 @@
 -- `writer::write` meets its contract: what is written beside the buffer is the only text that can read to the table; read again, it tells whether it does.
 use native.Mathlib.Omega.{arith}
-use mathlib.Core.Path.{sym}
+use mathlib.Core.Path.{refl, sym, ◌∙◌}
 use lib.ListN.{take}
 use lib.Seq.{length-take-le}
-use Rattle.writer.proofs.WriteOutcomes.{is_written, is_short, reads_to, refused_none, other_words_none, short_table_lem, short_buffer_lem, turned_away_lem, written_out}
+use Rattle.writer.proofs.WriteOutcomes.{is_written, is_read, is_refused, is_short, script_fits, reads_to, refused_none, other_words_none, short_table_lem, short_buffer_lem, turned_away_lem, written_out}
 use Rattle.std.proofs.Common.{rules}
 use Rattle.writer.proofs.write.Goals as goal
+use Rattle.writer.proofs.write.Goals.{then-table-lt8192-via-then-table-lt8192, then-table-lt8192-via-else-table-lt8192+then-buffer-lt16384}
+use Rattle.writer.proofs.write.Goals.{then-is_err-via-then-is_err, then-is_err-via-else-is_err+then-not-same_table}
 
 pub returns-then-table-lt8192 : goal.returns-then-table-lt8192
 returns-then-table-lt8192 c =
     let start = c.args in
-    short_table_lem start.table.now start.buffer.now c.if-table-lt8192.true
+    elim c.then-table-lt8192.branch [
+      then-table-lt8192-via-then-table-lt8192 w ↦ short_table_lem start.table.now start.buffer.now w.if-table-lt8192.true
+      | then-table-lt8192-via-else-table-lt8192+then-buffer-lt16384 w ↦
+        short_buffer_lem start.table.now start.buffer.now w.if-table-lt8192.false w.if-buffer-lt16384.true
+    ]
 
-pub returns-then-buffer-lt16384 : goal.returns-then-buffer-lt16384
-returns-then-buffer-lt16384 c =
+pub returns-then-is_err : goal.returns-then-is_err
+returns-then-is_err c =
     let start = c.args in
-    short_buffer_lem start.table.now start.buffer.now (search rules) c.if-buffer-lt16384.true
-
-pub slice_bounds-read-end : goal.slice_bounds-read-end
-slice_bounds-read-end c =
-    sym (length-take-le c.put_script-length.result c.put_script-length.new.buf (omega (arith, c.put_script-length.ensures.most)))
-
-pub slice_bounds-put_text-end : goal.slice_bounds-put_text-end
-slice_bounds-put_text-end c =
-    sym (length-take-le c.put_script-length.result c.put_script-length.new.buf (omega (arith, c.put_script-length.ensures.most)))
-
-pub put_text-end-requires : goal.put_text-end-requires
-put_text-end-requires c =
-    let printed = take c.put_script-length.result c.put_script-length.new.buf in
-    let short = is_short printed _ (search rules) c.read-answer.ensures.value c.read-answer.ensures.table_after c.in-Read.is in
-    omega (arith, short, c.if-buffer-lt16384.false)
-
-pub returns-then-same_table : goal.returns-then-same_table
-returns-then-same_table c =
-    let start = c.args in
-    let printed = take c.put_script-length.result c.put_script-length.new.buf in
-    let same = c.same_table.ensures.same c.if-same_table.true in
-    let it = reads_to printed _ (search rules) c.read-answer.ensures.value c.read-answer.ensures.table_after {table = start.table.now} (search rules) c.in-Read.is same in
-    written_out start.table.now start.buffer.now (search rules) (search rules) it (λ text other. is_written c.put_script-length.ensures other) c.put_text-end.ensures
-
-pub returns-in-Refused : goal.returns-in-Refused
-returns-in-Refused c =
-    let start = c.args in
-    let printed = take c.put_script-length.result c.put_script-length.new.buf in
+    let script = c.put_script-length in
+    let printed = take script.result script.new.text in
+    let read = c.read.ensures in
     turned_away_lem start.table.now start.buffer.now (search rules) (search rules)
-    (refused_none printed _ (search rules) c.read-answer.ensures.value c.read-answer.ensures.table_after (search rules) (λ text it. is_written c.put_script-length.ensures it) c.in-Refused.is)
+    (elim c.then-is_err.branch [
+      then-is_err-via-then-is_err w ↦
+        refused_none printed _ c.read.result (search rules) read.value read.table_after (search rules) (λ text it. is_written script.ensures it)
+        (is_refused _ (sym c.is_err.ensures.value ∙ w.if-is_err.true))
+      | then-is_err-via-else-is_err+then-not-same_table w ↦
+        other_words_none printed _ c.read.result (search rules) read.value read.table_after (search rules) (λ text it. is_written script.ensures it)
+        w.same_table.ensures w.if-not-same_table.true
+    ])
 
-pub returns-else-same_table : goal.returns-else-same_table
-returns-else-same_table c =
+pub slice_bounds-copy_from_slice-end : goal.slice_bounds-copy_from_slice-end
+slice_bounds-copy_from_slice-end c =
+    let script = c.put_script-length in
+    let read = c.read.ensures in
+    let short = is_short (take script.result script.new.text) _ c.read.result (search rules) read.value read.table_after (is_read _ (sym c.is_err.ensures.value ∙ c.if-is_err.false)) in
+    script_fits script.new.text c.args.buffer.now (omega (arith, script.ensures.most)) short c.if-buffer-lt16384.false
+
+pub slice_bounds-copy_from_slice-end-2 : goal.slice_bounds-copy_from_slice-end-2
+slice_bounds-copy_from_slice-end-2 c =
+    let script = c.put_script-length in
+    let read = c.read.ensures in
+    let short = is_short (take script.result script.new.text) _ c.read.result (search rules) read.value read.table_after (is_read _ (sym c.is_err.ensures.value ∙ c.if-is_err.false)) in
+    sym (length-take-le script.result c.args.buffer.now (script_fits script.new.text c.args.buffer.now (omega (arith, script.ensures.most)) short c.if-buffer-lt16384.false))
+
+pub copy_from_slice-requires : goal.copy_from_slice-requires
+copy_from_slice-requires c =
+    let script = c.put_script-length in
+    let read = c.read.ensures in
+    let short = is_short (take script.result script.new.text) _ c.read.result (search rules) read.value read.table_after (is_read _ (sym c.is_err.ensures.value ∙ c.if-is_err.false)) in
+    length-take-le script.result c.args.buffer.now (script_fits script.new.text c.args.buffer.now (omega (arith, script.ensures.most)) short c.if-buffer-lt16384.false)
+    ∙ sym (length-take-le script.result script.new.text (omega (arith, script.ensures.most)))
+
+pub returns : goal.returns
+returns c =
     let start = c.args in
-    let printed = take c.put_script-length.result c.put_script-length.new.buf in
-    turned_away_lem start.table.now start.buffer.now (search rules) (search rules)
-    (other_words_none printed _ (search rules) c.read-answer.ensures.value c.read-answer.ensures.table_after (search rules) (λ text it. is_written c.put_script-length.ensures it) c.same_table.ensures
-    c.if-same_table.false)
+    let script = c.put_script-length in
+    let printed = take script.result script.new.text in
+    let read = c.read.ensures in
+    let it = reads_to printed _ c.read.result (search rules) read.value read.table_after {table = start.table.now} (search rules)
+      (is_read _ (sym c.is_err.ensures.value ∙ c.if-is_err.false)) (c.same_table.ensures.same c.if-not-same_table.false) in
+    let whole = length-take-le script.result script.new.text (omega (arith, script.ensures.most)) in
+    written_out start.table.now start.buffer.now (search rules) (search rules) it (λ text other. is_written script.ensures other)
+    (rw (c.copy_from_slice.ensures.after, whole) refl) (sym whole)

@@ -1,14 +1,18 @@
 -- `writer::script_lines::put_operand` meets its contract: an odd word takes, an even one reads, and half of it is the slot.
 use native.Mathlib.Omega.{arith}
-use Rattle.buffer.proofs.Appends.{◌▹◌, same_text}
+use Rattle.buffer.proofs.Outputs.{◌▹◌, same_text}
 use Rattle.writer.proofs.Texts.{taken_operand, read_operand}
+use Rattle.std.proofs.Common.{rules}
 use Rattle.writer.proofs.script_lines.put_operand.Goals as goal
-
-pub returns-then-w-eq1 : goal.returns-then-w-eq1
-returns-then-w-eq1 c =
-    same_text 13 (taken_operand _ c.if-w-eq1.true) (omega arith) (c.put_text-a.ensures ▹ c.put_number-b.ensures ▹ c.put_byte.ensures)
+use Rattle.writer.proofs.script_lines.put_operand.Goals.{then-w-eq1, else-w-eq1}
 
 pub returns : goal.returns
 returns c =
-    same_text 13 (read_operand _ c.if-w-eq1.false) (omega arith)
-    (c.put_text-a-2.ensures ▹ c.put_number-b-2.ensures ▹ c.put_byte-2.ensures)
+    elim c.if-w-eq1.branch [
+      then-w-eq1 w ↦
+        same_text 13 (taken_operand _ w.if-w-eq1.true) (omega arith)
+        (rw w.word-is at c.put_text.ensures ▹ c.put_number.ensures ▹ c.put_byte.ensures)
+      | else-w-eq1 w ↦
+        same_text 13 (read_operand _ w.if-w-eq1.false) (omega arith)
+        (rw w.word-is at c.put_text.ensures ▹ c.put_number.ensures ▹ c.put_byte.ensures)
+    ]

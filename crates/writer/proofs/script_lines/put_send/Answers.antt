@@ -1,10 +1,9 @@
 -- `writer::script_lines::put_send` meets its contract: the parts of its line, one after the other.
 use native.Mathlib.Omega.{arith}
 use mathlib.Core.Path.{refl}
-use Rattle.buffer.proofs.Appends.{◌▹◌, same_text}
+use Rattle.buffer.proofs.Outputs.{◌▹◌, same_text}
+use Rattle.std.proofs.Common.{rules}
 use Rattle.writer.proofs.script_lines.put_send.Goals as goal
 
 pub returns : goal.returns
-returns c =
-    same_text 32 refl (omega arith)
-    (c.put_text-i.ensures ▹ c.put_number-j.ensures ▹ c.put_operand-k.ensures ▹ c.put_text.ensures)
+returns c = same_text 32 refl (omega arith) (c.put_text.ensures ▹ c.put_number.ensures ▹ c.put_operand.ensures ▹ c.put_text-2.ensures)
