@@ -1,5 +1,5 @@
 -- The last line of a text: no LF stands in it but at its end, and what stands before it ends with an LF.
-use Prim.Native.Nat.{ℕ, zero, suc, ◌+◌, ◌≤◌, ◌<◌}
+use Prim.Native.Nat.{ℕ, zero, suc, ◌+◌, ◌-◌, ◌≤◌, ◌<◌}
 use native.Mathlib.Nat.{le_of_suc-le-suc, not-suc-le-zero}
 use native.Mathlib.Numerals.{add-one}
 use native.Mathlib.Omega.{arith}
@@ -8,7 +8,11 @@ use mathlib.Core.Bool.{Bool, true, false, cond}
 use mathlib.Core.List.{List, [], ◌∷◌}
 use lib.Dec.{eqb, ltb}
 use lib.ListN.{length, take, drop, get_or, drop_of_length-le}
-use lib.Seq.{drop-cons}
+use lib.Seq.{drop-cons, length-take-le}
+use Rattle.std.specs.Prelude.{◌≢◌}
+use Rattle.std.specs.List.{count_by}
+use Rattle.std.proofs.lemmas.List.{get_or-take}
+use Rattle.std.proofs.lemmas.List.Recursion.{is_count_by}
 use borrow.Author.Tests.{ltb-false, eq-eqb, ne_eqb}
 use Rattle.rules.specs.Text.{lf, on_line, lines, join}
 use Rattle.rules.specs.Input.{last_line, lines_before}
@@ -77,6 +81,32 @@ after_lf s n at k h e o =
     let r = after s n h e (rw (k, add-one) at o) in
     rw (k, add-one) (record { before = sym r.0; last = sym r.1 })
 
+-- no LF is left before the final byte
+one_from : (s : List ℕ) (n at : ℕ) → at + n + 1 ≡ length s → ((k : ℕ) → at ≤ k → k + 1 < length s → get_or s k 0 ≡ lf → ⊥) → OneLine s at
+one_from s zero at h none = last_byte s at (omega arith) (omega arith)
+one_from s (suc n) at h none =
+    byte_before s at (at + 1) refl (omega arith) (none at (omega arith) (omega arith)) (one_from s n (at + 1) (omega arith) (λ k i. none k (omega arith)))
+
+-- as the last LF is found in what stands before the final byte
+module _ (s : List ℕ) (n : ℕ) (front : n ≡ length s - 1) where
+  in_front : (k : ℕ) → k < n → get_or (take n s) k 0 ≡ get_or s k 0
+  in_front k h = get_or-take n s k 0 h
+
+  pub last_lf : (i : ℕ) → i < length (take n s) → get_or (take n s) i 0 ≡ lf
+      → ((k : ℕ) → i + 1 ≤ k → k < length (take n s) → get_or (take n s) k 0 ≢ lf) → Cut s (i + 1) × (i + 1 ≤ length s)
+  last_lf i inside here none =
+      let long : length (take n s) ≡ n = length-take-le n s (omega arith) in
+      (
+        after_lf s i (i + 1) refl (omega arith) (sym (in_front i (omega arith)) ∙ here)
+            (one_from s (n - (i + 1)) (i + 1) (omega arith) (λ k h m e. none k h (omega arith) (in_front k (omega arith) ∙ e))),
+        omega arith,
+      )
+
+  pub no_lf : ((k : ℕ) → k < length (take n s) → get_or (take n s) k 0 ≢ lf) → Cut s 0
+  no_lf none = by_bool (ltb 0 (length s))
+      (λ t. none_before s (one_from s n 0 (omega (arith, below t)) (λ k h m e. none k (omega (arith, length-take-le n s (omega arith))) (in_front k (omega arith) ∙ e))))
+      (λ t. empty_cut s (omega (arith, ltb-false 0 (length s) t)))
+
 -- ---- How many lines stand before it
 
 some_line : (c : ℕ) (s : List ℕ) → 1 ≤ length (lines (c ∷ s))
@@ -95,19 +125,23 @@ more_before true c (l ∷ ls) h = omega arith
 more_before false c (l ∷ []) h = refl
 more_before false c (l ∷ m ∷ ls) h = omega arith
 
--- a byte that is not the last counts where it is an LF
-pub count_byte : (s : List ℕ) (i : ℕ) → i + 1 < length s
-    → length (lines_before (lines (drop i s))) ≡ cond (eqb (get_or s i 0) lf) 1 0 + length (lines_before (lines (drop (i + 1) s)))
-unfolding lines
-count_byte s i h =
-    let c = get_or s i 0 in
-    let next : drop i s ≡ c ∷ drop (i + 1) s = drop-cons s i 0 (omega arith) ∙ ap (λ (k : ℕ). c ∷ drop k s) (sym (add-one i)) in
-    let some : 1 ≤ length (lines (drop (i + 1) s)) = rw (drop-cons s (i + 1) 0 h) (some_line (get_or s (i + 1) 0) (drop (suc (i + 1)) s)) in
-    ap (λ (l : List ℕ). length (lines_before (lines l))) next ∙ more_before (eqb c lf) c (lines (drop (i + 1) s)) some
+lfs : List ℕ → ℕ
+lfs [] = 0
+lfs (c ∷ l) = cond (eqb c lf) (1 + lfs l) (lfs l)
 
--- the last byte does not
-pub count_last : (s : List ℕ) (i : ℕ) → length s ≤ i + 1 → length (lines_before (lines (drop i s))) ≡ 0
-unfolding lines_before lines
-count_last s i h = by_bool (ltb i (length s))
-    (λ t. rw (last_byte s i (below t) h).one)
-    (λ t. rw (drop_of_length-le s {i = i} (ltb-false i (length s) t)))
+one_more : (t : Bool) (n : ℕ) → cond t 1 0 + n ≡ cond t (1 + n) n
+one_more true n = refl
+one_more false n = omega arith
+
+before_lfs : (s : List ℕ) (n : ℕ) → n ≡ length s - 1 → length (lines_before (lines s)) ≡ lfs (take n s)
+unfolding lines_before lines lfs
+before_lfs [] n h = rw h refl
+before_lfs (c ∷ []) n h = rw (h, line_of_one c) refl
+before_lfs (c ∷ d ∷ s) n h =
+    let more : n ≡ suc (length (d ∷ s) - 1) = omega arith in
+    rw (more, ← before_lfs (d ∷ s) (length (d ∷ s) - 1) refl, ← one_more) (more_before (eqb c lf) c (lines (d ∷ s)) (some_line d s))
+
+-- the LFs that are not the final byte
+pub lfs_before : (s : List ℕ) (n : ℕ) → n ≡ length s - 1 → length (lines_before (lines s)) ≡ count_by (λ b. eqb b lf) (take n s)
+unfolding lfs
+lfs_before s n h = before_lfs s n h ∙ is_count_by lfs (λ b. eqb b lf) refl (λ x xs. refl) (take n s)

@@ -1,14 +1,15 @@
 -- boxrun's input taken apart: the script's text and the list of turns.
-use Rattle.std.specs.Prelude.{ℕ, ◌≤◌, ◌≡◌, cond, List, ltb, length, take}
+use Rattle.std.specs.Prelude.{ℕ, ◌≤◌, ◌≡◌, cond, List, ltb, length, take, Option, None, Some, Result, Ok, Err, ⊤}
 use Rattle.rules.specs.Mosts as Most
 use Rattle.rules.specs.Numbers as No
 use Rattle.rules.specs.Text.{lines, join}
 use Rattle.rules.specs.Run.{refused}
 use Rattle.rules.specs.Listing.{answer_line}
 use Rattle.rules.specs.Input.{last_line, lines_before, Turns, fault, turns, turns_of}
+use Rattle.rules.specs.declared.faults.Refusal.{Refusal}
 use Rattle.listing.specs.Outputs.{run_text}
 use Rattle.replay.specs.declared.Parts.{Parts}
-use Rattle.replay.specs.declared.Parts.TheVariants as C
+use Rattle.replay.specs.declared.Misfit.{Misfit}
 
 -- an input is turned away whole; or its last line has a fault, and what stands before it is still a text; or it is a text and a list of turns
 pub data Given : Type 0 where
@@ -36,24 +37,39 @@ printed_given (faulty text k n) = answer_line (refused k n)
 printed_given (given text ts) = run_text text ts
 
 -- the code's answer: texts are fronts of the input, the turns stand at the front of the list
-abbrev pub told_of : Parts → (input list : List ℕ) → Given
-told_of (C.Away k) input list = away k
-told_of (C.Fault at k n) input list = faulty (take at input) k n
-told_of (C.Turns at n) input list = given (take at input) (take n list)
+abbrev pub misfit_told : Refusal → Option ℕ → (input : List ℕ) → Given
+misfit_told r None input = away (No.number r.fault)
+misfit_told r (Some at) input = faulty (take at input) (No.number r.fault) r.line
+
+abbrev pub told_of : Result Parts Misfit → (input list : List ℕ) → Given
+told_of (Ok p) input list = given (take p.script input) (take p.turns list)
+told_of (Err m) input list = misfit_told m.refusal m.script input
 
 -- where the script ends, and how many bytes of the list count
-abbrev pub cut_of : Parts → ℕ
-cut_of (C.Away k) = 0
-cut_of (C.Fault at k n) = at
-cut_of (C.Turns at n) = at
+abbrev pub cut_by : Option ℕ → ℕ
+cut_by None = 0
+cut_by (Some at) = at
 
-abbrev pub turns_in : Parts → ℕ
-turns_in (C.Away k) = 0
-turns_in (C.Fault at k n) = 0
-turns_in (C.Turns at n) = n
+abbrev pub cut_of : Result Parts Misfit → ℕ
+cut_of (Ok p) = p.script
+cut_of (Err m) = cut_by m.script
+
+abbrev pub turns_in : Result Parts Misfit → ℕ
+turns_in (Ok p) = p.turns
+turns_in (Err m) = 0
+
+-- an input that is turned away whole has no line to tell
+abbrev pub TellsNone : Refusal → Option ℕ → Type 0
+TellsNone r None = r.line ≡ 0
+TellsNone r (Some at) = ⊤
+
+abbrev pub TellsLine : Result Parts Misfit → Type 0
+TellsLine (Ok p) = ⊤
+TellsLine (Err m) = TellsNone m.refusal m.script
 
 -- Free: what the list holds past the turns, or after a fault.
-pub record Splits (input list : List ℕ) (r : Parts) (list₁ : List ℕ) : Type 0 where
+pub record Splits (input list : List ℕ) (r : Result Parts Misfit) (list₁ : List ℕ) : Type 0 where
   pub is : given_in input list ≡ told_of r input list₁
   pub cut : cut_of r ≤ length input
   pub few : turns_in r ≤ length list₁
+  pub line : TellsLine r

@@ -1,3 +1,4 @@
--- What the input's reading says of the definitions: the line of turns; the input as a whole.
+-- What the input's reading says of the definitions: the line of turns; the input as a whole; what a job prints of its parts.
 pub mod Told
 pub mod Given
+pub mod Printing

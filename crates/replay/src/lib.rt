@@ -4,49 +4,98 @@
 mod ending;
 mod turns_line;
 
-ghost use Rattle.std.specs.Prelude.{◌≡◌, ◌≤◌, length, take};
+ghost use Rattle.std.specs.Prelude.{◌≡◌, None};
 ghost use Rattle.rules.specs.Mosts.{mosts};
 ghost use Rattle.rules.specs.Input.{boxrun};
-ghost use Rattle.listing.specs.Outputs.{run_text, printed_of, output_after};
+ghost use Rattle.listing.specs.Outputs.{printed_of, output_after};
 ghost use Rattle.replay.specs.Given.{Splits};
+ghost use Rattle.replay.specs.Printing.{TakesParts, PrintsParts};
 
 use ending::{last_start, lines_before};
 use listing::Printed;
-use turns_line::{Line, turns_line};
+use rules::{Fault, Refusal};
+use turns_line::turns_line;
 
-// The run of the script that ends at a place, on the first n turns.
-fn print_fronts(input: &[u8], at: usize, turns: &[u8], n: usize, output: &mut [u8]) -> Printed
-    requires { (at ≤ length input.now) × (n ≤ length turns.now) }
-    ensures value { result ≡ printed_of (run_text (take at input.now) (take n turns.now)) output.old }
-    ensures output_after { output.new ≡ output_after (run_text (take at input.now) (take n turns.now)) output.old }
-{
-    listing::print_run(&input[..at], &turns[..n], output)
+// An input taken apart: where its script ends, and how many turns stand at the front of the list.
+#[derive(Clone, Copy, Debug, PartialEq, Eq)]
+pub struct Parts {
+    pub script: usize,
+    pub turns: usize,
 }
 
-// What an input comes to: it is turned away whole, with document 01's number; its last line has a fault, with where that line starts, the number
-// and the line; or where the script ends, and how many turns stand at the front of the list.
-#[derive(Clone, Copy)]
-pub enum Parts {
-    Away(u16),
-    Fault(usize, u16, usize),
-    Turns(usize, usize),
+// Why an input has no parts, and where its last line starts, if that line has the fault; or it is turned away whole.
+#[derive(Clone, Copy, Debug, PartialEq, Eq)]
+pub struct Misfit {
+    pub refusal: Refusal,
+    pub script: Option<usize>,
+}
+
+// The input is turned away whole.
+fn turned_away(fault: Fault) -> Misfit
+    ensures fault { result.refusal.fault ≡ fault }
+    ensures line { result.refusal.line ≡ 0 }
+    ensures script { result.script ≡ None }
+{
+    Misfit {
+        refusal: Refusal {
+            fault,
+            line: 0,
+        },
+        script: None,
+    }
 }
 
 // Takes an input apart. The list is lent for the turns; one under 32,768 bytes is refused with 9.
-pub fn split(input: &[u8], turns: &mut [u8]) -> Parts
+pub fn split(input: &[u8], turns: &mut [u8]) -> Result<Parts, Misfit>
     ensures { Splits input.now turns.old result turns.new }
 {
     if 65536 < input.len() {
-        return Parts::Away(rules::numbers::OVERLONG);
+        return Err(turned_away(Fault::Overlong));
     }
     if turns.len() < 32768 {
-        return Parts::Away(rules::numbers::SHORT_TABLE);
+        return Err(turned_away(Fault::ShortTable));
     }
-    let at = last_start(input);
-    let line = turns_line(input, at, turns);
-    match line {
-        Line::Fault(number) => Parts::Fault(at, number, lines_before(input)),
-        Line::Turns(n) => Parts::Turns(at, n),
+    let script = last_start(input);
+    match turns_line(input, script, turns) {
+        Ok(count) => Ok(Parts {
+            script,
+            turns: count,
+        }),
+        Err(fault) => Err(Misfit {
+            refusal: Refusal {
+                fault,
+                line: lines_before(input),
+            },
+            script: Some(script),
+        }),
+    }
+}
+
+// Takes an input apart and lets a job print what it makes of the parts: the script's text, the turns and the last line. What is turned away is
+// printed as its refusal. An output that has not the room is refused with 9 and stays as it was.
+pub fn print_parts<F: FnOnce(&[u8], &[u8], &[u8], &mut [u8]) -> Printed>(
+    input: &[u8],
+    room: usize,
+    output: &mut [u8],
+    job: F,
+) -> Printed
+    requires { TakesParts (F.pre job) input.now room }
+    ensures { PrintsParts (F.post job) input.now room output.old result output.new }
+{
+    if output.len() < room {
+        return Printed::Refused(Fault::ShortTable.number(), 0);
+    }
+    let mut turns = [0u8; 32768];
+    match split(input, &mut turns) {
+        Ok(parts) => job(
+            &input[..parts.script],
+            &turns[..parts.turns],
+            &input[parts.script..],
+            output,
+        ),
+        Err(misfit) => {
+            listing::print_refusal(misfit.refusal.fault.number(), misfit.refusal.line, output)
+        }
     }
 }
 
@@ -55,11 +104,7 @@ pub fn print_input(input: &[u8], output: &mut [u8]) -> Printed
     ensures value { result ≡ printed_of (boxrun mosts input.now) output.old }
     ensures output_after { output.new ≡ output_after (boxrun mosts input.now) output.old }
 {
-    let mut turns = [0u8; 32768];
-    let parts = split(input, &mut turns);
-    match parts {
-        Parts::Away(number) => listing::print_refusal(number, 0, output),
-        Parts::Fault(_, number, line) => listing::print_refusal(number, line, output),
-        Parts::Turns(at, n) => print_fronts(input, at, &turns, n, output),
-    }
+    print_parts(input, 32768, output, |text, turns, _, output| {
+        listing::print_run(text, turns, output)
+    })
 }

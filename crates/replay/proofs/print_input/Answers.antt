@@ -1,17 +1,16 @@
--- What the input comes to is printed: a refusal with its line, or the run of its script on its turns.
+-- The job prints the run of what is given; a refusal is printed as boxrun prints it.
 use native.Mathlib.Omega.{arith}
-use Rattle.replay.proofs.GivenLaws.{prints_told, parts_fit}
+use mathlib.Core.Path.{refl}
+use Rattle.std.proofs.Common.{rules}
+use Rattle.listing.specs.Outputs.{printed_of, output_after}
+use Rattle.replay.specs.Given.{printed_given}
+use Rattle.replay.proofs.GivenLaws.{prints_given}
+use Rattle.replay.proofs.JobLaws.{text_printed}
 use Rattle.replay.proofs.print_input.Goals as goal
 
-pub print_fronts-requires : goal.print_fronts-requires
-print_fronts-requires c =
-    parts_fit c.split-parts.ensures c.in-Turns.is
-
-pub returns-in-Away : goal.returns-in-Away
-returns-in-Away c = rw (prints_told c.split-parts.ensures (omega arith) _ c.in-Away.is) (record { value = c.print_refusal.ensures.value; output_after = c.print_refusal.ensures.output_after })
-
-pub returns-in-Fault : goal.returns-in-Fault
-returns-in-Fault c = rw (prints_told c.split-parts.ensures (omega arith) _ c.in-Fault.is) (record { value = c.print_refusal-in-Fault.ensures.value; output_after = c.print_refusal-in-Fault.ensures.output_after })
-
-pub returns-in-Turns : goal.returns-in-Turns
-returns-in-Turns c = rw (prints_told c.split-parts.ensures (omega arith) _ c.in-Turns.is) (record { value = c.print_fronts.ensures.value; output_after = c.print_fronts.ensures.output_after })
+pub returns : goal.returns
+unfolding printed_of output_after
+returns c =
+    let all = text_printed c.print_parts.ensures printed_given (λ k. refl) (λ t k n. refl) (omega arith)
+        (λ text turns last lent s left p given rest wide. (search rules, search rules)) in
+    rw (prints_given c.args.input.now) (record { value = all.0; output_after = all.1 })

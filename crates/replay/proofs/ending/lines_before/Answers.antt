@@ -1,18 +1,9 @@
--- What is counted so far, with the lines before the last one from here on, is all of them.
-use native.Mathlib.Nat.{zero-add}
-use native.Mathlib.Omega.{arith}
-use Rattle.replay.proofs.LastLine.{count_byte, count_last}
+-- Each LF that is not the final byte ends a line before the last one.
 use Rattle.std.proofs.Common.{rules}
+use Rattle.replay.proofs.LastLine.{lfs_before}
 use Rattle.replay.proofs.ending.lines_before.Goals as goal
-
-pub loop-i-init : goal.loop-i-init
-loop-i-init c = (search rules, search rules, rw zero-add)
-
-pub loop-i-preserved : goal.loop-i-preserved
-loop-i-preserved c =
-    let next = count_byte c.args.s.now c.loop-i.i c.loop-i-test.true in
-    (omega arith, omega arith, omega (arith, c.loop-i.invariant.2, next, c.lf_here-n.ensures.0))
 
 pub returns : goal.returns
 returns c =
-    omega (arith, c.loop-i.invariant.2, count_last c.args.s.now c.loop-i.i (omega arith))
+    let lfs = lfs_before c.args.s.now c.saturating_sub.result c.saturating_sub.ensures in
+    rw lfs (search rules)

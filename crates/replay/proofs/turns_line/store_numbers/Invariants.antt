@@ -6,8 +6,8 @@ use lib.ListN.{length}
 use Rattle.replay.proofs.TurnsLine.{StoredTo}
 use Rattle.replay.proofs.turns_line.store_numbers.Given as goal
 
-abbrev pub invariant-loop-more : goal.invariant-loop-more
-invariant-loop-more l = StoredTo l.s l.at l.l l.more l.turns × (length l.turns ≡ length l.initial.turns)
+abbrev pub invariant-loop-w : goal.invariant-loop-w
+invariant-loop-w l = StoredTo l.s l.at l.l l.turns × (length l.turns ≡ length l.initial.turns)
 
-abbrev pub decreases-loop-more : goal.decreases-loop-more
-decreases-loop-more l = length l.s - l.l.end
+abbrev pub decreases-loop-w : goal.decreases-loop-w
+decreases-loop-w l = length l.s - l.l.end
