@@ -7,31 +7,53 @@ use native.Mathlib.Omega.{arith}
 use mathlib.Core.Path.{◌≡◌, refl, sym, ap, ◌∙◌}
 use mathlib.Core.Bool.{Bool, true, false, not, ◌||◌, cond}
 use mathlib.Core.List.{List, [], ◌∷◌, ◌++◌}
-use lib.Dec.{eqb}
-use lib.ListN.{length, take, drop, get_or, drop_of_length-le, length-drop}
-use lib.Seq.{drop-cons, drop-drop, drop-length}
-use borrow.Author.Tests.{eqb-true, eq-eqb, ne_eqb}
+use lib.Dec.{eqb, ltb}
+use lib.ListN.{length, take, drop, get_or, length-drop}
+use lib.Seq.{drop-drop, drop-length}
+use borrow.Author.Tests.{eqb-true, ltb-false}
+use Rattle.std.specs.Prelude.{Option, Some, None}
+use Rattle.std.specs.List.{position_or_len}
+use Rattle.std.proofs.lemmas.List.Recursion.{is_position_or_len}
 use Rattle.rules.specs.Lists.{any}
 use Rattle.rules.specs.Text.{lf, allowed, stray, on_line, lines, without_lf, start_of}
-use Rattle.rules.proofs.ListLaws.{by_bool, length_snoc}
+use Rattle.rules.proofs.ListLaws.{impossible, by_bool, length_snoc}
 
--- ---- The first LF, byte by byte
+-- ---- The first LF, as a search finds it
 
-module _ (s : List ℕ) (i : ℕ) (h : i < length s) where
-  pub lf_here : get_or s i 0 ≡ lf → length (without_lf (drop i s)) ≡ 0
-  unfolding without_lf
-  lf_here e = rw (drop-cons s i 0 h, eq-eqb _ _ e)
-
-  pub lf_further : (get_or s i 0 ≡ lf → ⊥) → i + length (without_lf (drop i s)) ≡ i + 1 + length (without_lf (drop (i + 1) s))
-  unfolding without_lf
-  lf_further e = rw (drop-cons s i 0 h, ne_eqb _ _ e, add-one) (swap i (length (without_lf (drop (suc i) s))))
-    where
-      swap : (a b : ℕ) → a + suc b ≡ suc a + b
-      swap a b = omega arith
-
-pub lf_nowhere : (s : List ℕ) (i : ℕ) → length s ≤ i → length (without_lf (drop i s)) ≡ 0
+lf_step : (c : ℕ) (l : List ℕ) → length (without_lf (c ∷ l)) ≡ cond (eqb c lf) 0 (1 + length (without_lf l))
 unfolding without_lf
-lf_nowhere s i h = rw (drop_of_length-le s h)
+lf_step c l = by_bool (eqb c lf) (λ t. rw t) (λ t. rw t (omega arith))
+
+lf_position : (l : List ℕ) → length (without_lf l) ≡ position_or_len (λ c. eqb c lf) l
+unfolding without_lf
+lf_position = is_position_or_len (λ l. length (without_lf l)) (λ c. eqb c lf) refl lf_step
+
+-- what a search finds in a text that comes to an LF after so many bytes
+abbrev FirstLf : (l : List ℕ) → Option ℕ → Type 0
+FirstLf l r = r ≡ cond (ltb (length (without_lf l)) (length l)) (Some (length (without_lf l))) None
+
+pub first_lf : (l : List ℕ) (r : Option ℕ) → r ≡ cond (ltb (position_or_len (λ c. eqb c lf) l) (length l)) (Some (position_or_len (λ c. eqb c lf) l)) None → FirstLf l r
+first_lf l r e = rw lf_position e
+
+without_lf_within : (l : List ℕ) → length (without_lf l) ≤ length l
+unfolding without_lf
+without_lf_within [] = omega arith
+without_lf_within (c ∷ l) = by_bool (eqb c lf) (λ t. rw t (omega arith)) (λ t. rw t (omega (arith, without_lf_within l)))
+
+-- what was found from a place on, or the end of the text
+module _ (s : List ℕ) (at : ℕ) (h : at ≤ length s) where
+  pub lf_found : {n : ℕ} → FirstLf (drop at s) (Some n) → (at + n ≡ at + length (without_lf (drop at s))) × (at + n ≤ length s)
+  lf_found {n} e =
+      let w = length (without_lf (drop at s)) in
+      let same : n ≡ w = by_bool (ltb w (length (drop at s))) (λ t. let found = rw t at e in cc) (λ t. let none = rw t at e in impossible cc) in
+      let within : n ≤ length s - at = rw (same, ← length-drop at s) (without_lf_within (drop at s)) in
+      (ap (λ k. at + k) same, omega arith)
+
+  pub lf_none : FirstLf (drop at s) None → (length s ≡ at + length (without_lf (drop at s))) × (length s ≤ length s)
+  lf_none e =
+      let w = length (without_lf (drop at s)) in
+      let past : length (drop at s) ≤ w = by_bool (ltb w (length (drop at s))) (λ t. let some = rw t at e in impossible cc) (λ t. ltb-false _ _ t) in
+      (omega (arith, past, without_lf_within (drop at s), length-drop at s), omega arith)
 
 -- ---- The first line
 
@@ -72,19 +94,6 @@ last_line c (d ∷ l) h = by_bool (eqb c lf)
     (λ t. let r = last_line d l (le_of_suc-le-suc (rw t at h)) in rw (t, r.0, r.1) (refl, refl))
 
 -- ---- Stray bytes
-
-module _ (s : List ℕ) (i : ℕ) (h : i < length s) where
-  pub stray_here : allowed (get_or s i 0) ≡ false → stray (drop i s) ≡ true
-  unfolding stray any
-  stray_here e = rw (drop-cons s i 0 h, e)
-
-  pub stray_further : allowed (get_or s i 0) ≡ true → stray (drop i s) ≡ stray (drop (i + 1) s)
-  unfolding stray any
-  stray_further e = rw (drop-cons s i 0 h, e, add-one)
-
-pub stray_nowhere : (s : List ℕ) (i : ℕ) → length s ≤ i → stray (drop i s) ≡ false
-unfolding stray any
-stray_nowhere s i h = rw (drop_of_length-le s h)
 
 -- LF is allowed
 stray_before_lf : (l : List ℕ) → stray (l ++ (lf ∷ [])) ≡ stray l

@@ -1,17 +1,18 @@
 -- Refusal 8 by the table's words: a line's number tells which of its words name something; the walk over the lines is the fold of document 01.
-use Prim.Native.Nat.{ℕ, zero, suc, ◌+◌, ◌-◌, ◌≤◌, ◌<◌, suc-le-suc}
+use Prim.Native.Nat.{ℕ, zero, suc, ◌+◌, ◌-◌, ◌*◌, ◌≤◌, ◌<◌, suc-le-suc}
 use native.Mathlib.Numerals.{add-one}
 use native.Mathlib.Decide.{dec_lt}
 use native.Mathlib.Omega.{arith}
 use mathlib.Core.Path.{◌≡◌, refl, sym, ap, ◌∙◌, subst}
-use mathlib.Core.Bool.{Bool, true, false, not, ◌&&◌, ◌||◌, cond, or-false as or_none}
+use mathlib.Core.Bool.{Bool, true, false, not, ◌&&◌, ◌||◌, cond, or-false as or_none, or-true}
 use mathlib.Core.List.{List, [], ◌∷◌, map}
 use lib.Dec.{ltb, eqb, leb-zero, leb-suc-zero, leb-suc-suc, eqb-suc-zero}
 use lib.ListN.{length, get_or, drop, drop_of_length-le}
 use lib.Seq.{drop-cons}
 use borrow.Author.Tests.{lt-ltb, le-ltb, ltb-false, eq-eqb, ne_eqb, eqb-true, eqb-false}
 use native.Mathlib.Nat.{zero-add}
-use Rattle.std.specs.List.{AllWithin, HoldsAt, range_with_len}
+use Rattle.std.specs.Bool.{MatchBool}
+use Rattle.std.specs.List.{AllWithin, HoldsAt, range_with_len, filter}
 use Rattle.std.specs.Option.{MatchOption}
 use Rattle.std.proofs.lemmas.List.FromFn.{length-range_with_len, get_or-range_with_len}
 use Rattle.std.specs.Prelude.{Option, Some, None}
@@ -23,11 +24,12 @@ use Rattle.rules.specs.Script.{Operand, Expr, value, field, swap, call, new, cas
 use Rattle.rules.specs.Reading.{operands_in, over255, same_sort, is_sort, dangles, opened, turned_away, accepted, link}
 use Rattle.rules.specs.Tables.{operand_word, line_words, row}
 use Rattle.rules.proofs.ListLaws.{by_bool, or_false, every_get, every_at}
-use Rattle.table.specs.ProgramTable.{no_form, sort_number, LineWord}
+use Rattle.table.specs.ProgramTable.{no_form, sort_number, LineWord, KindFields}
+use Rattle.table.proofs.ProgramTable.{line_word_is as word_at}
 use Rattle.table.proofs.ProgramLines.{blocks_of_lines, kind_stands, kind_there}
 use Rattle.grammar.specs.Decoded.{over_line}
 use Rattle.reader.specs.declared.scanning.Counts.{Counts}
-use Rattle.reader.specs.Linking.{Table, form_at, Opened, LineDangles, FirstDangling}
+use Rattle.reader.specs.Linking.{Table, form_at, MethodDangles, KindDangles, NewDangles, Opened, LineDangles, FirstDangling}
 
 -- ---- Tests
 
@@ -114,6 +116,31 @@ four_asked f (a ∷ b ∷ []) h = refl
 four_asked f (a ∷ b ∷ c ∷ []) h = refl
 four_asked f (a ∷ b ∷ c ∷ d ∷ []) h = rw (or_none (f d))
 four_asked f (a ∷ b ∷ c ∷ d ∷ e ∷ ms) h = absurd (omega arith)
+
+-- one of the first four that passes is one of the list
+any_here : (f : ℕ → Bool) (ms : List ℕ) (few : length ms ≤ 4) (i : ℕ) → i < 4 → passes_at f ms i ≡ true → any f ms ≡ true
+any_here f ms few zero h e = sym (four_asked f ms few) ∙ rw e
+any_here f ms few (suc zero) h e = sym (four_asked f ms few) ∙ rw e (or-true (passes_at f ms 0))
+any_here f ms few (suc (suc zero)) h e = sym (four_asked f ms few) ∙ rw (e, or-true (passes_at f ms 1)) (or-true (passes_at f ms 0))
+any_here f ms few (suc (suc (suc zero))) h e =
+    sym (four_asked f ms few) ∙ rw (e, or-true (passes_at f ms 2), or-true (passes_at f ms 1)) (or-true (passes_at f ms 0))
+any_here f ms few (suc (suc (suc (suc i)))) h e = absurd (omega arith)
+
+none_here : (f : ℕ → Bool) (ms : List ℕ) (few : length ms ≤ 4) → ((i : ℕ) → i < 4 → passes_at f ms i ≡ false) → any f ms ≡ false
+none_here f ms few h = sym (four_asked f ms few) ∙ rw (h 0 (omega arith), h 1 (omega arith), h 2 (omega arith), h 3 (omega arith))
+
+-- whether one of the numbers below n passes a test
+abbrev Asked : (Yes No : ℕ → Type 0) → (n : ℕ) → Bool → Type 0
+Asked Yes No n true = (i : ℕ) × (i < n) × Yes i
+Asked Yes No n false = (i : ℕ) → i < n → No i
+
+asked_below : (Yes No : ℕ → Type 0) (n : ℕ) (r : Bool)
+    → MatchBool r ((k : ℕ) × (k < length (range_with_len 0 n)) × HoldsAt Yes (range_with_len 0 n) k) (AllWithin No (range_with_len 0 n) 0 (length (range_with_len 0 n)))
+    → Asked Yes No n r
+asked_below Yes No n true (k, within, here) =
+    let low : k < n = rw length-range_with_len at within in
+    (k, low, subst Yes (get_or-range_with_len 0 n k 0 low ∙ zero-add k) (here 0))
+asked_below Yes No n false all = λ i h. subst No (get_or-range_with_len 0 n i 0 h ∙ zero-add i) (all i 0 (omega arith) (rw length-range_with_len h))
 
 -- ---- What a line's number tells
 
@@ -214,12 +241,51 @@ module _ {t : List ℕ} {P : Program} (table : Table t P) where
       let after = or_false (ltb Most.fields K.fields) (ltb Most.methods (length K.methods) || over255 (kind K)) small in
       ltb-false Most.methods (length K.methods) (or_false (ltb Most.methods (length K.methods)) (over255 (kind K)) after.1).0
 
-  -- a kind's methods, asked for one after the other
-  pub any_method : (n : ℕ) → n < length P.kinds → (a b c d : Bool)
-      → a ≡ passes_at (no_method P) (kind_at P n).methods 0 → b ≡ passes_at (no_method P) (kind_at P n).methods 1
-      → c ≡ passes_at (no_method P) (kind_at P n).methods 2 → d ≡ passes_at (no_method P) (kind_at P n).methods 3
-      → (a || (b || (c || d))) ≡ any (no_method P) (kind_at P n).methods
-  any_method n h a b c d ea eb ec ed = rw (ea, eb, ec, ed) (four_asked (no_method P) (kind_at P n).methods (few_methods n h))
+  -- the word of a line, by its place
+  word_is : (n k : ℕ) → n < length (lines_of P) → k < 8 → get_or t (72 + n * 8 + k) 0 ≡ get_or (row (form_at P n)) k 0
+  word_is n k h c = word_at table.filled n k _ h c refl
+
+-- a kind's methods, asked for one after the other
+pub kind_asked : (t : List ℕ) (blocks n : ℕ) (r : Bool)
+    → MatchBool r ((k : ℕ) × (k < length (range_with_len 0 4)) × HoldsAt (λ i. MethodDangles t blocks n i true) (range_with_len 0 4) k)
+    (AllWithin (λ i. MethodDangles t blocks n i false) (range_with_len 0 4) 0 (length (range_with_len 0 4)))
+    → KindDangles t blocks n r
+kind_asked t blocks n r m = go r (asked_below (λ i. MethodDangles t blocks n i true) (λ i. MethodDangles t blocks n i false) 4 r m)
+  where
+    go : (r : Bool) → Asked (λ i. MethodDangles t blocks n i true) (λ i. MethodDangles t blocks n i false) 4 r → KindDangles t blocks n r
+    go true (i, low, one) = record { is = λ P table e h. sym (any_here (no_method P) (kind_at P n).methods (few_methods table n h) i low (sym (one.is P table e h))) }
+    go false none = record { is = λ P table e h. sym (none_here (no_method P) (kind_at P n).methods (few_methods table n h) (λ i low. sym ((none i low).is P table e h))) }
+
+-- the words after a new's kind that hold an operand, counted
+one_counted : (w : ℕ → ℕ) (k : ℕ) (ks : List ℕ) → length (filter (λ k. not (eqb (w k) 0)) (k ∷ ks)) ≡ given (w k) + length (filter (λ k. not (eqb (w k) 0)) ks)
+one_counted w k ks = by_bool (eqb (w k) 0) (λ t. rw t (omega arith)) (λ t. rw t (omega arith))
+
+abbrev pub counted : (t : List ℕ) (n : ℕ) → ℕ
+counted t n = length (filter (λ k. not (eqb (get_or t (72 + n * 8 + k) 0) 0)) (range_with_len 3 4))
+
+four_counted : (w : ℕ → ℕ) → length (filter (λ k. not (eqb (w k) 0)) (range_with_len 3 4)) ≡ given (w 3) + given (w 4) + given (w 5) + given (w 6)
+four_counted w =
+    one_counted w 3 (4 ∷ 5 ∷ 6 ∷ []) ∙ ap (λ m. given (w 3) + m)
+    (one_counted w 4 (5 ∷ 6 ∷ []) ∙ ap (λ m. given (w 4) + m)
+    (one_counted w 5 (6 ∷ []) ∙ ap (λ m. given (w 5) + m) (one_counted w 6 []))) ∙ omega arith
+
+module _ {t : List ℕ} {kinds n kind : ℕ} (word : LineWord t n 2 kind) where
+  pub kind_missing : kinds ≤ kind → NewDangles t kinds n true
+  kind_missing past = record {
+    is = λ P b table k h nine.
+        no_such_kind P b (form_at P n) (small_line table n h) nine kind (line_word_is table word h) (rw k at past);
+  }
+
+  pub operands_told : {fields : ℕ} → kind < kinds → KindFields t kind fields → NewDangles t kinds n (not (eqb fields (counted t n)))
+  operands_told {fields} small of = record {
+    is = λ P b table k h nine.
+        let there : kind < length P.kinds = rw k at small in
+        ap (λ m. not (eqb fields m)) (four_counted (λ k. get_or t (72 + n * 8 + k) 0))
+        ∙ fields_given P b (form_at P n) (small_line table n h) nine kind (line_word_is table word h) fields _ _ _ _ there
+        (of.is P table.counts table.rest table.filled there)
+        (ap given (word_is table n 3 h (omega arith))) (ap given (word_is table n 4 h (omega arith)))
+        (ap given (word_is table n 5 h (omega arith))) (ap given (word_is table n 6 h (omega arith)));
+  }
 
 -- a kind in line n is kind n
 pub kind_line : (P : Program) (n form : ℕ) → form ≡ get_or (row (form_at P n)) 0 0 → form ≡ 1 → n < length P.kinds

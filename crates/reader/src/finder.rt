@@ -7,14 +7,10 @@ pub fn find_lf(s: &[u8], at: usize) -> usize
     requires { at ≤ length s.now }
     ensures { (result ≡ at + length (without_lf (drop at s.now))) × (result ≤ length s.now) }
 {
-    let mut i = at;
-    while i < s.len() {
-        if s[i] == b'\n' {
-            return i;
-        }
-        i += 1;
+    match s[at..].iter().position(|b| *b == b'\n') {
+        Some(n) => at + n,
+        None => s.len(),
     }
-    i
 }
 
 // Where line n starts, or the end.
@@ -22,14 +18,12 @@ pub fn line_start(s: &[u8], n: usize) -> usize
     ensures { (get_or (lines s.now) n [] ≡ get_or (lines (drop result s.now)) 0 []) × (result ≤ length s.now) × (result ≡ start_of n (lines s.now)) }
 {
     let mut at: usize = 0;
-    let mut i: usize = 0;
-    while i < n {
+    for i in 0..n {
         let e = find_lf(s, at);
         if s.len() <= e {
             return s.len();
         }
         at = e + 1;
-        i += 1;
     }
     at
 }

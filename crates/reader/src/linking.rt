@@ -28,27 +28,12 @@ fn method_dangles(t: &[u16], blocks: usize, n: usize, i: usize) -> bool
     !is_sort(t, blocks, (item - 1) as usize, rules::forms::METHOD)
 }
 
+// Whether a method of the kind in line n is no method block.
 fn kind_dangles(t: &[u16], blocks: usize, n: usize) -> bool
     requires { (8192 ≤ length t.now) × (blocks ≤ 64) × (n < 672) }
     ensures { KindDangles t.now blocks n result }
 {
-    if method_dangles(t, blocks, n, 0) {
-        return true;
-    }
-    if method_dangles(t, blocks, n, 1) {
-        return true;
-    }
-    if method_dangles(t, blocks, n, 2) {
-        return true;
-    }
-    method_dangles(t, blocks, n, 3)
-}
-
-// 1 for an item that is there.
-fn given(item: u16) -> u16
-    ensures { (result ≡ cond (eqb item 0) 0 1) × (result ≤ 1) }
-{
-    if item == 0 { 0 } else { 1 }
+    (0..4).any(|i| method_dangles(t, blocks, n, i))
 }
 
 // Whether the new in line n names no kind, or has operands unlike the kind's fields.
@@ -60,11 +45,8 @@ fn new_dangles(t: &[u16], kinds: usize, n: usize) -> bool
     if kinds <= kind {
         return true;
     }
-    let operands = given(table::line_word(t, n, 3))
-        + given(table::line_word(t, n, 4))
-        + given(table::line_word(t, n, 5))
-        + given(table::line_word(t, n, 6));
-    table::kind_fields(t, kind) != operands
+    let operands = (3..7).filter(|k| table::line_word(t, n, *k) != 0).count();
+    table::kind_fields(t, kind) as usize != operands
 }
 
 // Whether line n dangles. The lines before the first opener are the kinds.

@@ -31,12 +31,7 @@ pub fn lines_before(second: bool) -> usize
 pub fn is_allowed(b: u8) -> bool
     ensures { result ≡ allowed b }
 {
-    match b {
-        b'a'..=b'z' => true,
-        b'0'..=b'9' => true,
-        b'(' | b')' | b' ' | b'\n' => true,
-        _ => false,
-    }
+    matches!(b, b'a'..=b'z' | b'0'..=b'9' | b'(' | b')' | b' ' | b'\n')
 }
 
 // Whether a byte outside the list stands in a part of the text.

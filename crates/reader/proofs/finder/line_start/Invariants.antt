@@ -7,8 +7,8 @@ use Rattle.rules.specs.Text.{lines, start_of}
 use Rattle.reader.proofs.finder.line_start.Given as goal
 
 abbrev pub invariant-loop-i : goal.invariant-loop-i
-invariant-loop-i l =
-    (l.at ≤ length l.s) × (l.i ≤ l.n) × (get_or (lines l.s) l.n [] ≡ get_or (lines (drop l.at l.s)) (l.n - l.i) []) × (l.at + start_of (l.n - l.i) (lines (drop l.at l.s)) ≡ start_of l.n (lines l.s))
-
-abbrev pub decreases-loop-i : goal.decreases-loop-i
-decreases-loop-i l = l.n - l.i
+invariant-loop-i l = record {
+  within : l.at ≤ length l.s;
+  line : get_or (lines l.s) l.n [] ≡ get_or (lines (drop l.at l.s)) (l.n - l.i) [];
+  start : l.at + start_of (l.n - l.i) (lines (drop l.at l.s)) ≡ start_of l.n (lines l.s);
+}

@@ -1,31 +1,23 @@
--- `reader::linking::new_dangles` meets its contract: word 2 names the kind; of the next four as many are given as the new has operands.
-use Prim.Native.Nat.{◌<◌}
-use lib.ListN.{length}
-use native.Mathlib.Omega.{arith}
-use mathlib.Core.Path.{ap, ◌∙◌}
-use Rattle.reader.specs.Linking.{form_at}
-use Rattle.reader.proofs.Links.{given, no_such_kind, fields_given, small_line, line_word_is}
+-- Word 2 names the kind; of the next four as many are given as the new has operands.
+use Prim.Native.Nat.{◌+◌, ◌*◌}
+use mathlib.Core.Path.{◌≡◌, refl}
+use mathlib.Core.Bool.{not}
+use lib.Dec.{eqb}
+use lib.ListN.{get_or}
+use Rattle.std.proofs.Common.{rules, tests}
+use Rattle.std.proofs.lemmas.Iterator.{YieldsList-from_range}
+use Rattle.std.proofs.lemmas.Iterator.Consumers.{YieldsList-from_filter, count_from_yields_List}
+use Rattle.reader.proofs.Links.{counted, kind_missing, operands_told}
 use Rattle.reader.proofs.linking.new_dangles.Goals as goal
 
 pub returns-then-kinds-kind : goal.returns-then-kinds-kind
-returns-then-kinds-kind c =
-    let a = c.args in
-    record {
-      is = λ P b table k h nine.
-          no_such_kind P b (form_at P a.n) (small_line table a.n h) nine c.line_word-kind.result (line_word_is table c.line_word-kind.ensures.line_word h) (omega (arith, c.if-kinds-kind.true));
-    }
+returns-then-kinds-kind c = kind_missing c.line_word-kind.ensures.line_word c.if-kinds-kind.true
 
 pub returns : goal.returns
 returns c =
     let a = c.args in
-    record {
-      is = λ P b table k h nine.
-          let there : c.line_word-kind.result < length P.kinds = omega (arith, c.if-kinds-kind.false) in
-          fields_given P b (form_at P a.n) (small_line table a.n h) nine c.line_word-kind.result (line_word_is table c.line_word-kind.ensures.line_word h)
-          c.kind_fields.result c.given.result c.given-2.result c.given-3.result c.given-4.result there
-          (c.kind_fields.ensures.kind_fields.is P table.counts table.rest table.filled there)
-          (c.given.ensures.0 ∙ ap given (line_word_is table c.line_word.ensures.line_word h))
-          (c.given-2.ensures.0 ∙ ap given (line_word_is table c.line_word-2.ensures.line_word h))
-          (c.given-3.ensures.0 ∙ ap given (line_word_is table c.line_word-3.ensures.line_word h))
-          (c.given-4.ensures.0 ∙ ap given (line_word_is table c.line_word-4.ensures.line_word h));
-    }
+    let operands : c.count-operands.result ≡ counted a.t.now a.n =
+    count_from_yields_List c.filter.result c.count-operands.result c.count-operands.ensures.ran
+    (YieldsList-from_filter _ (λ k. not (eqb (get_or a.t.now (72 + a.n * 8 + k) 0) 0)) (YieldsList-from_range 3 7 4 c.filter.ensures.source refl)
+    c.filter.ensures.closure (λ k b q made. search (rules, tests))) in
+    rw operands (operands_told c.line_word-kind.ensures.line_word c.if-kinds-kind.false c.kind_fields.ensures.kind_fields)

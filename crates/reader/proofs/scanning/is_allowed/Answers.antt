@@ -3,9 +3,10 @@ use Prim.Native.Nat.{ℕ, ◌+◌, ◌-◌, ◌≤◌, ◌<◌}
 use native.Mathlib.Omega.{arith}
 use mathlib.Core.Path.{◌≡◌, refl, sym}
 use mathlib.Core.Bool.{Bool, true, not, ◌||◌}
-use mathlib.Core.Logic.{⊎_elim}
+use mathlib.Core.Logic.{◌⊎◌, ⊎_elim}
 use lib.Dec.{eqb}
 use borrow.Author.Tests.{ne_eqb, not-true}
+use Rattle.std.proofs.Common.{rules}
 use Rattle.rules.specs.Text.{lf, space, allowed}
 use Rattle.rules.proofs.ListLaws.{all_below, below_true}
 use Rattle.reader.proofs.scanning.is_allowed.Goals as goal
@@ -21,15 +22,19 @@ before_brackets : (b : ℕ) → b < 40 → (eqb b lf || eqb b space || not (allo
 unfolding all_below allowed
 before_brackets b h = below_true (λ x. eqb x lf || eqb x space || not (allowed x)) 40 b refl h
 
+lf_or_space : (b : ℕ) → (b ≡ lf) ⊎ (b ≡ space) → true ≡ allowed b
+unfolding allowed
+lf_or_space b one = ⊎_elim (λ e. rw e) (λ e. rw e) one
+
 -- 0 to 9
-pub returns-in-48-to-57 : goal.returns-in-48-to-57
+pub returns-in-97-to-122-3 : goal.returns-in-97-to-122-3
 unfolding all_below allowed
-returns-in-48-to-57 c = sym (passes allowed 48 10 c.args.b refl (omega arith) (omega arith))
+returns-in-97-to-122-3 c = sym (passes allowed 48 10 c.args.b refl (omega arith) (omega arith))
 
 -- a to z
-pub returns-in-97-to-122 : goal.returns-in-97-to-122
+pub returns-in-97-to-122-4 : goal.returns-in-97-to-122-4
 unfolding all_below allowed
-returns-in-97-to-122 c = sym (passes allowed 97 26 c.args.b refl (omega arith) (omega arith))
+returns-in-97-to-122-4 c = sym (passes allowed 97 26 c.args.b refl (omega arith) (omega arith))
 
 pub returns-in_default : goal.returns-in_default
 returns-in_default c =
@@ -51,11 +56,10 @@ unfolding all_below allowed
 returns-in_default-4 c = sym (not-true _ (passes (λ x. not (allowed x)) 123 133 c.args.b refl (omega arith) (omega arith)))
 
 -- LF and space
-pub returns-in-40 : goal.returns-in-40
-unfolding allowed
-returns-in-40 c = ⊎_elim (λ e. rw e) (λ e. rw e) c.in-40.is
+pub returns-in-97-to-122 : goal.returns-in-97-to-122
+returns-in-97-to-122 c = search (rules, lf_or_space)
 
 -- the brackets
-pub returns-in-40-2 : goal.returns-in-40-2
+pub returns-in-97-to-122-2 : goal.returns-in-97-to-122-2
 unfolding all_below allowed
-returns-in-40-2 c = sym (passes allowed 40 2 c.args.b refl (omega arith) (omega arith))
+returns-in-97-to-122-2 c = sym (passes allowed 40 2 c.args.b refl (omega arith) (omega arith))
