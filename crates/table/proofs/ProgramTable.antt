@@ -1,8 +1,8 @@
 -- The program table's words: where each part stands, and what a write of a line, of an opener or of the counts makes of the table.
 use Rattle.std.proofs.Common.{◌≡◌, ℕ, zero, suc, ◌+◌, ◌*◌, ◌<◌, ◌≤◌, Bool, true, eqb, List, [], ◌∷◌, ◌++◌, length, get_or, take, drop, set, sym, refl, ap, ◌∙◌, append_assoc, append-nil, le_of_suc-le-suc, not-suc-le-zero, add-zero, add_assoc, add-suc, suc-mul, add_comm, suc-add, zero-add, zero-mul, add-one, arith, length-append, length-set, take_at, eq-eqb, eqb-true}
-use mathlib.Core.Bool.{false≢true}
-use lib.ListN.{length-replicate, get_or-append, get_or-eq_default}
-use lib.Seq.{set-append_left, sets-eq}
+use Rattle.std.proofs.Math.ListN.{length-replicate, get_or-append, get_or-eq_default}
+use Rattle.std.proofs.Math.Seq.{set-append_left, sets-eq}
+use Rattle.std.proofs.lemmas.Bool.{false≢true}
 use Rattle.rules.specs.Mosts as Most
 use Rattle.rules.specs.Mosts.{mosts}
 use Rattle.rules.specs.Lists.{pad, cells}

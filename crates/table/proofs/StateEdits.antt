@@ -1,8 +1,8 @@
 -- The abstract state, edited: a thread put and read again, a frame of a thread found and edited, one edit after another.
 use Rattle.std.proofs.Common.{◌≡◌, ℕ, suc, ◌<◌, eqb, List, [], ◌∷◌, length, get_or, set, sym, refl, ap, ◌∙◌, not-suc-le-zero, arith, length-set, get_or-set_same, set-set, eqb-true}
-use lib.ListN.{get_or-append}
-use lib.Seq.{get_or_at, set_at, set-append_left}
-use borrow.Author.Tests.{eqb-false}
+use Rattle.std.proofs.Math.ListN.{get_or-append}
+use Rattle.std.proofs.Math.Seq.{get_or_at, set_at, set-append_left}
+use Rattle.std.proofs.lemmas.Bool.{eqb-false}
 use Rattle.rules.specs.State.{Frame, Sender, Thread, State, thread_at}
 use Rattle.rules.specs.Turn.{put_thread}
 use Rattle.rules.specs.Tables.{no_frame, outermost_first}

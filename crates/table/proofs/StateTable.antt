@@ -1,7 +1,7 @@
 -- The state table's words: where each record stands, and what a record written in its place makes of the state.
 use Rattle.std.proofs.Common.{◌≡◌, ℕ, zero, suc, ◌+◌, ◌-◌, ◌*◌, ◌<◌, ◌≤◌, List, [], ◌∷◌, ◌++◌, length, get_or, take, drop, set, replicate, sym, refl, ap, ◌∙◌, append_assoc, append-nil, le_of_suc-le-suc, not-suc-le-zero, add-zero, add_assoc, suc-mul, add_comm, zero-add, zero-mul, arith, length-append, length-drop, length-set, drop_of_length-le, length-take-le}
-use lib.ListN.{get_or-append, get_or-eq_default}
-use lib.Seq.{take-append-le, take-append-add, drop-append-le, drop-append-add, set-append_left, set_at}
+use Rattle.std.proofs.Math.ListN.{get_or-append, get_or-eq_default}
+use Rattle.std.proofs.Math.Seq.{take-append-le, take-append-add, drop-append-le, drop-append-add, set-append_left, set_at}
 use Rattle.rules.specs.Mosts as Most
 use Rattle.rules.specs.Lists.{pad, cells}
 use Rattle.rules.specs.State.{Object, Frame, Sender, ready, Thread, no_thread, Channel, empty_channel, State, thread_at, channel_at}

@@ -1,9 +1,9 @@
 -- Stripping changes one word of a line that names a capability, and of an object the first; done one after the other, that makes the words of the stripped
 -- program and of the erased state.
 use Rattle.std.proofs.Common.{◌≡◌, ℕ, zero, suc, ◌+◌, ◌*◌, ◌<◌, ◌≤◌, true, false, ltb, List, [], ◌∷◌, ◌++◌, map, length, get_or, set, sym, refl, ap, ◌∙◌, subst, ap₂, true≢false, le_of_suc-le-suc, not-suc-le-zero, arith, ltb-false}
-use mathlib.Core.Bool.{false≢true}
-use lib.ListN.{length-map, get_or-eq_default}
-use lib.Seq.{set-get_or}
+use Rattle.std.proofs.Math.ListN.{length-map, get_or-eq_default}
+use Rattle.std.proofs.Math.Seq.{set-get_or}
+use Rattle.std.proofs.lemmas.Bool.{false≢true}
 use Rattle.rules.specs.Mosts.{mosts}
 use Rattle.rules.specs.Forms.{form_of}
 use Rattle.rules.specs.Lists.{pad}

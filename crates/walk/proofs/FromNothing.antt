@@ -1,9 +1,5 @@
 -- A walk that starts from no object met ends with `met_from`'s list, in its order: a walk's list is determined by where it starts.
-use Prim.Native.Nat.{ℕ, ◌≤◌}
-use native.Mathlib.Omega.{arith}
-use mathlib.Core.Path.{subst}
-use mathlib.Core.List.{List, [], ◌∷◌}
-use lib.ListN.{replicate}
+use Rattle.std.proofs.Common.{ℕ, ◌≤◌, arith, subst, List, [], ◌∷◌, replicate}
 use Rattle.rules.specs.declared.Value.{Value}
 use Rattle.rules.specs.Mosts.{mosts}
 use Rattle.rules.specs.Script.{Program}

@@ -1,16 +1,7 @@
 -- The objects met are numbered: one that is met next gets the next place, and the places given stay. Each has one place, so that as many objects
 -- are met as are less to meet.
-use Prim.Native.Nat.{ℕ, zero, suc, ◌+◌, ◌-◌, ◌≤◌, ◌<◌}
-use native.Mathlib.Nat.{le_refl}
-use native.Mathlib.Numerals.{add-one}
-use native.Mathlib.Omega.{arith}
-use mathlib.Core.Path.{◌≡◌, refl, sym, ap, ◌∙◌}
-use mathlib.Core.Bool.{true, false, ◌||◌, cond, true≢false}
-use mathlib.Core.List.{List, [], ◌∷◌, ◌++◌}
-use lib.Dec.{eqb}
-use lib.ListN.{length, get_or, set, take, drop, replicate}
-use lib.Seq.{get_or-set_same, get_or-set_other, take-suc-set, drop-set-lt, drop-drop}
-use borrow.Author.Tests.{eqb-true, eqb-false, eq-eqb, ne_eqb}
+use Rattle.std.proofs.Common.{ℕ, zero, suc, ◌+◌, ◌-◌, ◌≤◌, ◌<◌, le_refl, add-one, arith, ◌≡◌, refl, sym, ap, ◌∙◌, true, false, ◌||◌, cond, true≢false, List, [], ◌∷◌, ◌++◌, eqb, length, get_or, set, take, drop, replicate, get_or-set_same, get_or-set_other, take-suc-set, drop-set-lt, drop-drop, eqb-true, eq-eqb, ne_eqb}
+use Rattle.std.proofs.lemmas.Bool.{eqb-false}
 use Rattle.rules.specs.declared.Value.{Value}
 use Rattle.rules.specs.declared.Value.TheVariants.{Obj}
 use Rattle.rules.specs.Lists.{among, place_of}

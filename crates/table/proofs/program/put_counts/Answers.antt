@@ -1,6 +1,6 @@
 -- `table::program::put_counts` meets its contract: the first four words are written, where a table without counts has zeros.
 use Rattle.std.proofs.Common.{[], ◌∷◌, refl, arith, length-set}
-use lib.Seq.{sets-eq}
+use Rattle.std.proofs.Math.Seq.{sets-eq}
 use Rattle.table.proofs.ProgramTable.{counts_added}
 use Rattle.table.proofs.program.put_counts.Goals as goal
 
