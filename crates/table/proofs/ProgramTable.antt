@@ -9,7 +9,7 @@ use Rattle.rules.specs.Lists.{pad, cells}
 use Rattle.rules.specs.Script.{Sort, thread, method, Form, kind, opens, line, blocks_of, Program, lines_of}
 use Rattle.rules.specs.Tables.{line_words, row, first_lines, edition_word, used_program_words, program_words}
 use Rattle.rules.proofs.ListLaws.{by_bool, and_true, length_snoc, length_pad, pad_front, length_cells, get_past, set_past, get_cell, cells_snoc, get_pad, set_pad, pad_more, pad_snoc}
-use Rattle.table.specs.ProgramTable.{fresh_table, line_table, Filled, no_form, sort_number, Same, same_words, LineCount, UsedWords}
+use Rattle.table.specs.ProgramTable.{fresh_table, line_table, Filled, no_form, sort_number, Same, same_words, LineCount, UsedWords, EditionIs, LineWord, FirstLine}
 
 -- eight words written one after the other
 pub eight_set : {A : Type 0} (t : List A) (p : ℕ) (a b c d e f g h : A) → p + 8 ≤ length t
@@ -159,6 +159,20 @@ module _ {t counts rest : List ℕ} {Fs : List Form} (filled : Filled t counts F
       ∙ get_past (pad 8 0 counts) _ 8 b 0 (length_pad 8 0 counts)
       ∙ get_or-append (pad mosts.blocks 0 (first_lines 0 Fs)) (cells row Fs) 0 b (rw (length_pad mosts.blocks 0 (first_lines 0 Fs)) h)
       ∙ get_pad mosts.blocks 0 (first_lines 0 Fs) b h
+
+-- each word, where it stands
+module _ (t : List ℕ) where
+  pub line_count_read : LineCount t (get_or t 2 0)
+  line_count_read = record { is = λ counts rest Fs filled. count_is filled 2 (omega arith) }
+
+  pub edition_read : EditionIs t (get_or t 3 0)
+  edition_read = record { is = λ counts rest Fs filled. count_is filled 3 (omega arith) }
+
+  pub line_word_read : (n k : ℕ) → k < 8 → LineWord t n k (get_or t (72 + n * 8 + k) 0)
+  line_word_read n k lt = record { is = λ counts rest Fs filled there. line_word_is filled n k _ there lt refl }
+
+  pub first_line_read : (b : ℕ) → b < mosts.blocks → FirstLine t b (get_or t (8 + b) 0)
+  first_line_read b h = record { is = λ counts rest Fs filled. first_line_is filled b h }
 
 -- ---- Writing
 

@@ -7,13 +7,13 @@ use Rattle.rules.specs.declared.Value.{Value}
 use Rattle.rules.specs.declared.Value.TheVariants.{Absent, Obj, Chan}
 use Rattle.rules.specs.Mosts as Most
 use Rattle.rules.specs.Lists.{pad}
-use Rattle.rules.specs.State.{Object, State, no_object, object_at, channel_at, slot_at}
-use Rattle.rules.specs.Tables.{cap_of, word, unmade, object_words, frame_words, channel_words}
+use Rattle.rules.specs.State.{Object, State, no_object, object_at, thread_at, channel_at, slot_at}
+use Rattle.rules.specs.Tables.{cap_of, word, sender_word, unmade, object_words, frame_words, channel_words}
 use Rattle.rules.proofs.ListLaws.{get_pad, get_there}
 use Rattle.rules.proofs.TableWords.{cap_of_rank}
-use Rattle.table.specs.StateTable.{value_of, InTable, Counted, Sees, frame_at, FieldIn}
+use Rattle.table.specs.StateTable.{value_of, InTable, Counted, Sees, Any, frame_at, FieldIn, Stores}
 use Rattle.table.specs.declared.standing.Here.{Here}
-use Rattle.table.proofs.StateTable.{part_get, object_part, frame_part, channel_part}
+use Rattle.table.proofs.StateTable.{part_get, objects_at_lem, threads_at, frames_at, sender_at, object_part, frame_part, channel_part}
 
 -- ---- Values and capabilities
 
@@ -90,10 +90,51 @@ module _ {l rest : List ℕ} {N : ℕ → ℕ} {S : State} (held : Counted l N S
 
 -- ---- What is seen
 
+-- each word of a record, where it stands
+module _ (l : List ℕ) where
+  pub objects_seen : Sees l Any (λ S. length S.objects) (get_or l 0 0)
+  objects_seen = record { sees = λ S rest held any. objects_at_lem held }
+
+  pub threads_seen : Sees l Any (λ S. length S.threads) (get_or l 1 0)
+  threads_seen = record { sees = λ S rest held any. threads_at held }
+
+  pub frames_seen : (t : ℕ) → t < 16 → Sees l Any (λ S. length (thread_at S t).frames) (get_or l (2056 + t * 306) 0)
+  frames_seen t h = record { sees = λ S rest held any. frames_at held t h }
+
+  pub sender_seen : (t : ℕ) → t < 16 → Sees l Any (λ S. sender_word (thread_at S t).sender) (get_or l (2057 + t * 306) 0)
+  sender_seen t h = record { sees = λ S rest held any. sender_at held t h }
+
+  pub block_seen : (t k : ℕ) → t < 16 → k < 16 → Sees l Any (λ S. (frame_at S t k).block) (get_or l (2058 + t * 306 + k * 19) 0)
+  unfolding frame_words
+  block_seen t k h m = record { sees = λ S rest held any. frame_word held t k 0 _ h m (omega arith) (omega arith) }
+
+  pub line_seen : (t k : ℕ) → t < 16 → k < 16 → Sees l Any (λ S. (frame_at S t k).line) (get_or l (2059 + t * 306 + k * 19) 0)
+  unfolding frame_words
+  line_seen t k h m = record { sees = λ S rest held any. frame_word held t k 1 _ h m (omega arith) (omega arith) }
+
+  pub slots_seen : (t k : ℕ) → t < 16 → k < 16 → Sees l Any (λ S. length (frame_at S t k).slots) (get_or l (2060 + t * 306 + k * 19) 0)
+  unfolding frame_words
+  slots_seen t k h m = record { sees = λ S rest held any. frame_word held t k 2 _ h m (omega arith) (omega arith) }
+
+  pub kind_seen : (o : ℕ) → o < 256 → Sees l (λ S. o < length S.objects) (λ S. (object_at S.objects o).kind) (get_or l (9 + o * 8) 0)
+  unfolding object_words
+  kind_seen o h = record { sees = λ S rest held there. object_word held o 1 _ h (omega arith) (omega arith) there }
+
+  pub creator_seen : (o : ℕ) → o < 256 → Sees l (λ S. o < length S.objects) (λ S. (object_at S.objects o).creator) (get_or l (10 + o * 8) 0)
+  unfolding object_words
+  creator_seen o h = record { sees = λ S rest held there. object_word held o 2 _ h (omega arith) (omega arith) there }
+
+  pub number_seen : (c : ℕ) → c < 16 → Sees l Any (λ S. (channel_at S c).number) (get_or l (6953 + c * 2) 0)
+  unfolding channel_words
+  number_seen c h = record { sees = λ S rest held any. channel_word held c 1 _ h (omega arith) (omega arith) }
+
+  pub count_stored : (o : ℕ) → o < 256 → Stores l o (get_or l (11 + o * 8) 0)
+  count_stored o h = record { stores = λ S rest held. count_word held o _ h refl }
+
 module _ {l : List ℕ} {r : Value} where
-  pub slot_seen : (t k s i : ℕ) → t < 16 → k < 16 → s < 16 → i ≡ 2058 + t * 306 + k * 19 + 3 + s → r ≡ value_of (get_or l i 0)
+  pub slot_seen : (t k s i : ℕ) → t < 16 → k < 16 → s < 16 → r ≡ value_of (get_or l i 0) → i ≡ 2058 + t * 306 + k * 19 + 3 + s
       → Sees l (λ S. InTable (slot_at (frame_at S t k).slots s)) (λ S. slot_at (frame_at S t k).slots s) r
-  slot_seen t k s i h m lt place e = record { sees = λ S rest held in_table. e ∙ ap value_of (slot_word held t k s i h m lt place) ∙ value_of_word (slot_at (frame_at S t k).slots s) in_table }
+  slot_seen t k s i h m lt e place = record { sees = λ S rest held in_table. e ∙ ap value_of (slot_word held t k s i h m lt place) ∙ value_of_word (slot_at (frame_at S t k).slots s) in_table }
 
   pub field_seen : (o j : ℕ) → o < 256 → j < 4 → r ≡ value_of (get_or l (12 + o * 8 + j) 0) → Sees l (FieldIn o j) (λ S. slot_at (object_at S.objects o).fields j) r
   field_seen o j h lt e = record { sees = λ S rest held has. e ∙ ap value_of (field_word held o j (12 + o * 8 + j) h lt refl) ∙ value_of_word (slot_at (object_at S.objects o).fields j) has.in_table }

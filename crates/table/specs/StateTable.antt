@@ -1,5 +1,5 @@
 -- The state table by its words, and what each accessor says of the abstract state.
-use Rattle.std.specs.Prelude.{◌≡◌, ℕ, suc, ◌+◌, ◌-◌, ◌*◌, ◌%◌, ◌<◌, ◌≤◌, cond, List, [], ◌∷◌, ◌++◌, map, length, ◌==◌, nat_lt, slice_index, slice_index_or, slice_set}
+use Rattle.std.specs.Prelude.{◌≡◌, ℕ, suc, ◌+◌, ◌-◌, ◌*◌, ◌%◌, ◌<◌, ◌≤◌, cond, List, [], ◌∷◌, ◌++◌, length, ◌==◌, nat_lt, slice_index, slice_index_or, slice_set}
 use Rattle.rules.specs.declared.Cap.{Cap}
 use Rattle.rules.specs.declared.Value.{Value}
 use Rattle.rules.specs.declared.Value.TheVariants.{Absent, Obj, Chan}
@@ -9,7 +9,7 @@ use Rattle.rules.specs.Lists.{pad, Every}
 use Rattle.rules.specs.Script.{line, Program, rank, lines_of, block_at, line_at}
 use Rattle.rules.specs.State.{Object, Frame, Sender, ready, waiting, State, object_at, thread_at, channel_at, slot_at, start}
 use Rattle.rules.specs.Turn.{put_thread, put_objects, put_channel, set_field, with_slots, filled}
-use Rattle.rules.specs.Tables.{row, word, outermost_first, no_frame, counted_words}
+use Rattle.rules.specs.Tables.{row, outermost_first, no_frame, counted_words}
 use Rattle.rules.specs.Holders.{holders}
 use Rattle.rules.specs.Reach.{count_one}
 use Rattle.table.specs.ProgramTable.{fresh_table, Filled}
@@ -146,20 +146,12 @@ inner_less (f ∷ fs) = fs
 unfoldable pub left : ℕ → State → State
 left t S = put_thread S t (inner_less (thread_at S t).frames) ready
 
--- a word that stands for v goes to the next slot
-pub record Pushes (t k x : ℕ) (e e₁ : List ℕ) : Type 0 where
-  pub pushes : (v : Value) → x ≡ word v → Becomes e (HasRoom t k) (given t k v) e₁
-
 -- n is the next thread
 pub record Next (n : ℕ) (S : State) : Type 0 where
   pub next : n ≡ length S.threads
   pub channels : length S.channels ≡ length S.threads
 
--- n is the next object: made of these words; of these values
-pub record MadeOf (t n cap kind : ℕ) (words : List ℕ) (e e₁ : List ℕ) : Type 0 where
-  pub makes : (c : Cap) (vs : List Value) → cap ≡ rank c → words ≡ map word (pad Most.fields Absent vs)
-      → Becomes e (λ S. n ≡ length S.objects) (made (record { cap = c; kind = kind; creator = t; fields = vs })) e₁
-
+-- n is the next object, made of these values
 pub record Makes (t n cap kind : ℕ) (fields : List Value) (e e₁ : List ℕ) : Type 0 where
   pub makes : (c : Cap) (vs : List Value) → cap ≡ rank c → fields ≡ pad Most.fields Absent vs
       → Becomes e (λ S. n ≡ length S.objects) (made (record { cap = c; kind = kind; creator = t; fields = vs })) e₁

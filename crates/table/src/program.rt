@@ -58,6 +58,7 @@ pub fn same_table(t: &[u16], words: &[u16]) -> bool
 }
 
 // How many lines the text has.
+#[tactic(auto, using(crate::proofs::ProgramTable::line_count_read))]
 pub fn line_count(t: &[u16]) -> usize
     requires { 8192 ≤ length t.now }
     ensures value { (result ≡ slice_index t.now 2) × (result ≤ 65535) }
@@ -80,6 +81,7 @@ pub fn used_words(t: &[u16]) -> usize
 }
 
 // The word that tells the edition.
+#[tactic(auto, using(crate::proofs::ProgramTable::edition_read))]
 pub fn edition(t: &[u16]) -> u16
     requires { 8192 ≤ length t.now }
     ensures value { result ≡ slice_index t.now 3 }
@@ -89,6 +91,7 @@ pub fn edition(t: &[u16]) -> u16
 }
 
 // Word k of line n of the text.
+#[tactic(auto, using(crate::proofs::ProgramTable::line_word_read))]
 pub fn line_word(t: &[u16], n: usize, k: usize) -> u16
     requires { (8192 ≤ length t.now) × (n < 672) × (k < 8) }
     ensures value { result ≡ slice_index t.now (72 + n * 8 + k) }
@@ -98,6 +101,7 @@ pub fn line_word(t: &[u16], n: usize, k: usize) -> u16
 }
 
 // The number of the line after block b's opener.
+#[tactic(auto, using(crate::proofs::ProgramTable::first_line_read))]
 pub fn first_line(t: &[u16], b: usize) -> usize
     requires { (8192 ≤ length t.now) × (b < 64) }
     ensures value { (result ≡ slice_index t.now (8 + b)) × (result ≤ 65535) }

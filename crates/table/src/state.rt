@@ -5,7 +5,7 @@ ghost use Rattle.rules.specs.declared.Value.TheVariants.{Absent};
 ghost use Rattle.rules.specs.State.{object_at, thread_at, channel_at, slot_at};
 ghost use Rattle.rules.specs.Tables.{cap_of, word, sender_word};
 ghost use Rattle.rules.specs.Turn.{started};
-ghost use Rattle.table.specs.StateTable.{value_of, InTable, Starts, Sees, Becomes, Any, Stands, frame_at, given, cleared, HasRoom, HasSlot, FieldIn, HasField, stored, channelled, Puts, sending, Pushes, MadeOf, Makes, Next, Innermost, callee, called, left, recount, raised, lowered, counted_by, Counts, Stores, Releases, Drops};
+ghost use Rattle.table.specs.StateTable.{value_of, InTable, Starts, Sees, Becomes, Any, Stands, frame_at, given, cleared, HasRoom, HasSlot, FieldIn, HasField, stored, channelled, Puts, sending, Makes, Next, Innermost, callee, called, left, recount, raised, lowered, counted_by, Counts, Stores, Releases, Drops};
 
 use super::standing::Here;
 use rules::{Cap, Value};
@@ -44,6 +44,7 @@ pub fn cap_of(w: u16) -> Cap
 
 // ---- Reading
 
+#[tactic(auto, using(crate::proofs::StateReads::objects_seen))]
 pub fn object_count(s: &[u16]) -> u16
     requires { 8192 ≤ length s.now }
     ensures value { result ≡ slice_index s.now 0 }
@@ -52,6 +53,7 @@ pub fn object_count(s: &[u16]) -> u16
     s[0] // how many objects
 }
 
+#[tactic(auto, using(crate::proofs::StateReads::threads_seen))]
 pub fn thread_count(s: &[u16]) -> u16
     requires { 8192 ≤ length s.now }
     ensures value { result ≡ slice_index s.now 1 }
@@ -177,6 +179,7 @@ pub fn message_number(s: &[u16], c: u16) -> u16
 // ---- Holder counts
 
 // How many places hold object o.
+#[tactic(auto, using(crate::proofs::StateReads::count_stored))]
 pub fn holder_count(s: &[u16], o: u16) -> u16
     requires { (8192 ≤ length s.now) × (o < 256) }
     ensures value { result ≡ slice_index s.now (11 + o * 8) }
@@ -237,14 +240,13 @@ pub fn locate(p: &[u16], s: &[u16], t: usize, d: u16) -> Here
 
 // ---- Writing
 
-// A word goes to the next slot of frame k of thread t, whose place is `at`, and the frame to its next line; the thread is ready.
-fn push_word(s: &mut [u16], t: usize, k: usize, at: usize, x: u16)
-    requires { (8192 ≤ length s.old) × (t < 16) × (k < 16) × (at ≡ 2058 + t * 306 + k * 19) }
-    ensures pushes { Pushes t k x s.old s.new }
-    ensures s_len_unchanged { length s.new ≡ length s.old }
+// A value goes to the next slot of frame k of thread t, whose place is `at`, and the frame to its next line; the thread is ready.
+fn push_value(s: &mut [u16], t: usize, k: usize, at: usize, v: Value)
+    requires { (8192 ≤ length s.old) × (t < 16) × (k < 16) × (at ≡ 2058 + t * 306 + k * 19) × InTable v }
+    ensures { Becomes s.old (HasRoom t k) (given t k v) s.new }
 {
     let n = s[at + 2] % 16;
-    s[at + 3 + n as usize] = x;
+    s[at + 3 + n as usize] = pack(v);
     s[at + 1] = s[at + 1] % 32768 + 1;
     s[at + 2] = n + 1;
     s[2057 + t * 306] = 0;
@@ -255,9 +257,7 @@ pub fn give_value(s: &mut [u16], h: Here, v: Value)
     requires { (8192 ≤ length s.old) × InTable v }
     ensures { Becomes s.old (HasRoom h.thread h.depth) (given h.thread h.depth v) s.new }
 {
-    let at = h.frame;
-    let x = pack(v);
-    push_word(s, h.thread, h.depth, at, x);
+    push_value(s, h.thread, h.depth, h.frame, v);
 }
 
 // The caller's let gives this value.
@@ -265,9 +265,7 @@ pub fn return_value(s: &mut [u16], h: Here, v: Value)
     requires { (8192 ≤ length s.old) × (1 ≤ h.depth) × InTable v }
     ensures { Becomes s.old (HasRoom h.thread (h.depth - 1)) (given h.thread (h.depth - 1) v) s.new }
 {
-    let at = h.frame;
-    let x = pack(v);
-    push_word(s, h.thread, h.depth - 1, at - 19, x);
+    push_value(s, h.thread, h.depth - 1, h.frame - 19, v);
 }
 
 // Slot i is made absent.
@@ -311,32 +309,6 @@ pub fn empty_channel(s: &mut [u16], c: u16)
     s[6952 + c as usize * 2] = 0;
 }
 
-// The words of object n, but for its holder count, and the number of objects.
-fn put_object(
-    s: &mut [u16],
-    creator: u16,
-    n: u16,
-    cap: u16,
-    kind: u16,
-    a: u16,
-    b: u16,
-    c: u16,
-    d: u16,
-)
-    requires { (8192 ≤ length s.old) × (n < 256) }
-    ensures { MadeOf creator n cap kind (a ∷ b ∷ c ∷ d ∷ []) s.old s.new }
-{
-    let at = 8 + n as usize * 8;
-    s[at] = cap;
-    s[at + 1] = kind;
-    s[at + 2] = creator;
-    s[at + 4] = a;
-    s[at + 5] = b;
-    s[at + 6] = c;
-    s[at + 7] = d;
-    s[0] = n + 1;
-}
-
 // Object n is made, with these values as its fields: Absent for each that its kind does not have.
 // (Kept apart: by tests/straight.py the crates that read have no array but the table.)
 pub fn add_object(
@@ -353,7 +325,15 @@ pub fn add_object(
     requires { (8192 ≤ length s.old) × (n < 256) × InTable a × InTable b × InTable c × InTable d }
     ensures { Makes creator n cap kind (a ∷ b ∷ c ∷ d ∷ []) s.old s.new }
 {
-    put_object(s, creator, n, cap, kind, pack(a), pack(b), pack(c), pack(d));
+    let at = 8 + n as usize * 8;
+    s[at] = cap;
+    s[at + 1] = kind;
+    s[at + 2] = creator;
+    s[at + 4] = pack(a); // behind its holder count, which stays
+    s[at + 5] = pack(b);
+    s[at + 6] = pack(c);
+    s[at + 7] = pack(d);
+    s[0] = n + 1;
 }
 
 // Thread n is started before the first line of block b, with its channel in slot 0.

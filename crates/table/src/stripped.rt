@@ -16,20 +16,13 @@ fn names_cap(form: Form) -> bool
     matches!(form, Form::New | Form::Cast | Form::Copy)
 }
 
-// The word of unsafe.
-fn unsafe_word() -> u16
-    ensures { result ≡ 3 }
-{
-    Cap::Unsafe.rank() as u16
-}
-
 // Line n with unsafe for its capability; a row past the last line has no form.
 fn strip_line(t: &mut [u16], n: usize)
     requires { (8192 ≤ length t.old) × (n < 672) }
     ensures { LineStripped n t.old t.new }
 {
     if names_cap(Form::from(line_word(t, n, 0))) {
-        t[73 + n * 8] = unsafe_word();
+        t[73 + n * 8] = Cap::Unsafe.rank() as u16;
     }
 }
 
@@ -49,7 +42,7 @@ fn erase_object(s: &mut [u16], o: u16)
     ensures { Becomes s.old Any (erased_at o) s.new }
 {
     if o < object_count(s) {
-        s[8 + o as usize * 8] = unsafe_word();
+        s[8 + o as usize * 8] = Cap::Unsafe.rank() as u16;
     }
 }
 

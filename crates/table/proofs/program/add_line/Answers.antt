@@ -1,28 +1,7 @@
 -- `table::program::add_line` meets its contract: the eight words are written where the zeros after the lines begin.
-use Rattle.std.proofs.Common.{◌≡◌, ◌+◌, ◌*◌, [], ◌∷◌, ◌++◌, take, drop, ap, ◌∙◌, arith, length-set}
+use Rattle.std.proofs.Common.{◌≡◌, ◌+◌, ◌*◌, [], ◌∷◌, ◌++◌, take, drop, ap, ◌∙◌, arith}
 use Rattle.table.proofs.ProgramTable.{eight_set, line_added}
 use Rattle.table.proofs.program.add_line.Goals as goal
-
-pub bounds-t-p-2 : goal.bounds-t-p-2
-bounds-t-p-2 c = simp length-set (omega arith)
-
-pub bounds-t-p-3 : goal.bounds-t-p-3
-bounds-t-p-3 c = simp length-set (omega arith)
-
-pub bounds-t-p-4 : goal.bounds-t-p-4
-bounds-t-p-4 c = simp length-set (omega arith)
-
-pub bounds-t-p-5 : goal.bounds-t-p-5
-bounds-t-p-5 c = simp length-set (omega arith)
-
-pub bounds-t-p-6 : goal.bounds-t-p-6
-bounds-t-p-6 c = simp length-set (omega arith)
-
-pub bounds-t-p-7 : goal.bounds-t-p-7
-bounds-t-p-7 c = simp length-set (omega arith)
-
-pub bounds-t-p-8 : goal.bounds-t-p-8
-bounds-t-p-8 c = simp length-set (omega arith)
 
 pub returns : goal.returns
 returns c =

@@ -1,17 +1,8 @@
 -- `table::program::put_counts` meets its contract: the first four words are written, where a table without counts has zeros.
-use Rattle.std.proofs.Common.{[], ◌∷◌, refl, arith, length-set}
+use Rattle.std.proofs.Common.{[], ◌∷◌, refl, arith}
 use Rattle.std.proofs.Math.Seq.{sets-eq}
 use Rattle.table.proofs.ProgramTable.{counts_added}
 use Rattle.table.proofs.program.put_counts.Goals as goal
-
-pub bounds-t-1 : goal.bounds-t-1
-bounds-t-1 c = simp length-set (omega arith)
-
-pub bounds-t-2 : goal.bounds-t-2
-bounds-t-2 c = simp length-set (omega arith)
-
-pub bounds-t-3 : goal.bounds-t-3
-bounds-t-3 c = simp length-set (omega arith)
 
 pub returns : goal.returns
 returns c =

@@ -3,9 +3,8 @@ use Rattle.std.proofs.Common.{arith}
 use Rattle.table.proofs.StateReads.{field_seen, no_field_seen}
 use Rattle.table.proofs.state.field.Goals as goal
 
-pub returns-then-j-ge4 : goal.returns-then-j-ge4
-returns-then-j-ge4 c = record { in_table = tt; sees = no_field_seen _ _ _ c.if-j-ge4.true }
+pub returns-then-j-ge4-clause-sees : goal.returns-then-j-ge4-clause-sees
+returns-then-j-ge4-clause-sees c = no_field_seen _ _ _ c.if-j-ge4.true
 
-pub returns : goal.returns
-returns c =
-    let a = c.args in record { in_table = c.unpack.ensures.1; sees = field_seen a.o a.j (omega arith) (omega arith) c.unpack.ensures.0 }
+pub returns-clause-sees : goal.returns-clause-sees
+returns-clause-sees c = field_seen c.args.o c.args.j c.requires.1 (omega arith) c.unpack.ensures.0

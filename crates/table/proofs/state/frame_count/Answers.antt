@@ -1,7 +1,6 @@
 -- `table::state::frame_count` meets its contract: it is the first of the thread's words.
-use Rattle.std.proofs.Common.{refl, arith}
-use Rattle.table.proofs.StateTable.{frames_at}
+use Rattle.table.proofs.StateReads.{frames_seen}
 use Rattle.table.proofs.state.frame_count.Goals as goal
 
-pub returns : goal.returns
-returns c = record { value = refl; sees = record { sees = λ S rest held any. frames_at held c.args.t (omega arith) } }
+pub returns-clause-sees : goal.returns-clause-sees
+returns-clause-sees c = frames_seen _ _ c.requires.1

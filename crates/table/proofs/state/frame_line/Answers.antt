@@ -1,9 +1,6 @@
 -- `table::state::frame_line` meets its contract: it is the second of the frame's words.
-use Rattle.std.proofs.Common.{refl, arith}
-use Rattle.rules.specs.Tables.{frame_words}
-use Rattle.table.proofs.StateReads.{frame_word}
+use Rattle.table.proofs.StateReads.{line_seen}
 use Rattle.table.proofs.state.frame_line.Goals as goal
 
-pub returns : goal.returns
-unfolding frame_words
-returns c = let a = c.args in record { value = refl; sees = record { sees = λ S rest held any. frame_word held a.t a.k 1 _ (omega arith) (omega arith) (omega arith) (omega arith) } }
+pub returns-clause-sees : goal.returns-clause-sees
+returns-clause-sees c = line_seen _ _ _ c.requires.1 c.requires.2

@@ -1,9 +1,6 @@
 -- `table::state::kind` meets its contract: it is the second of the object's words.
-use Rattle.std.proofs.Common.{refl, arith}
-use Rattle.rules.specs.Tables.{object_words}
-use Rattle.table.proofs.StateReads.{object_word}
+use Rattle.table.proofs.StateReads.{kind_seen}
 use Rattle.table.proofs.state.kind.Goals as goal
 
-pub returns : goal.returns
-unfolding object_words
-returns c = record { value = refl; sees = record { sees = λ S rest held there. object_word held c.args.o 1 _ (omega arith) (omega arith) (omega arith) there } }
+pub returns-clause-sees : goal.returns-clause-sees
+returns-clause-sees c = kind_seen _ _ c.requires.1

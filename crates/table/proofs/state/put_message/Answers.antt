@@ -1,13 +1,7 @@
 -- `table::state::put_message` meets its contract: both words of the channel are written, then the sender's; below 32,768 a number is its own remainder.
-use Rattle.std.proofs.Common.{arith, length-set}
+use Rattle.std.proofs.Common.{arith}
 use Rattle.table.proofs.StateRecords.{message_put}
 use Rattle.table.proofs.state.put_message.Goals as goal
-
-pub bounds-s-c-3 : goal.bounds-s-c-3
-bounds-s-c-3 c = simp length-set (omega arith)
-
-pub bounds-s-t : goal.bounds-s-t
-bounds-s-t c = simp length-set (omega arith)
 
 pub returns : goal.returns
 returns c =

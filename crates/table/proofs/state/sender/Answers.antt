@@ -1,7 +1,6 @@
 -- `table::state::sender` meets its contract: it is the second of the thread's words.
-use Rattle.std.proofs.Common.{refl, arith}
-use Rattle.table.proofs.StateTable.{sender_at}
+use Rattle.table.proofs.StateReads.{sender_seen}
 use Rattle.table.proofs.state.sender.Goals as goal
 
-pub returns : goal.returns
-returns c = record { value = refl; sees = record { sees = λ S rest held any. sender_at held c.args.t (omega arith) } }
+pub returns-clause-sees : goal.returns-clause-sees
+returns-clause-sees c = sender_seen _ _ c.requires.1

@@ -1,13 +1,7 @@
 -- `table::state::start_state` meets its contract: in a table of zeros the three words make the fresh start.
-use Rattle.std.proofs.Common.{refl, arith, length-set}
+use Rattle.std.proofs.Common.{refl}
 use Rattle.table.proofs.StateFrames.{all_zero_but_three}
 use Rattle.table.proofs.state.start_state.Goals as goal
-
-pub bounds-s-2056 : goal.bounds-s-2056
-bounds-s-2056 c = simp length-set (omega (arith, c.requires))
-
-pub bounds-s-2060 : goal.bounds-s-2060
-bounds-s-2060 c = simp length-set (omega (arith, c.requires))
 
 pub returns : goal.returns
 returns c = record { s_after = refl; starts = all_zero_but_three c.args.s.now }

@@ -6,7 +6,7 @@ use Rattle.table.proofs.stripped.erase_object.Goals as goal
 pub returns-then-o-object_count : goal.returns-then-o-object_count
 returns-then-o-object_count c =
     let a = c.args in
-    rw c.unsafe_word.ensures
+    rw c.rank.ensures.value
     (record { becomes = λ S rest held any. object_erased held a.o _ (search rules) refl (omega (arith, c.object_count.ensures.sees.sees S rest held tt, c.if-o-object_count.true)) })
 
 pub returns-else-o-object_count : goal.returns-else-o-object_count

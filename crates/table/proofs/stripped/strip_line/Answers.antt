@@ -8,7 +8,7 @@ pub returns-then-names_cap : goal.returns-then-names_cap
 returns-then-names_cap c =
     let names = sym (c.names_cap.ensures ∙ ap names_cap c.from.ensures) ∙ c.if-names_cap.true in
     let a = c.args in
-    rw c.unsafe_word.ensures (line_stripped a.n c.line_word.result (search rules) c.line_word.ensures.value _ refl names)
+    rw c.rank.ensures.value (line_stripped a.n c.line_word.result (search rules) c.line_word.ensures.value _ refl names)
 
 pub returns-else-names_cap : goal.returns-else-names_cap
 returns-else-names_cap c =
