@@ -36,6 +36,14 @@ impl Fault {
     {
         self as u16
     }
+
+    // The refusal that tells a line.
+    pub fn at(self, line: usize) -> Refusal
+        ensures fault { result.fault ≡ self }
+        ensures line { result.line ≡ line }
+    {
+        Refusal { fault: self, line }
+    }
 }
 
 // The stop on a ground.
