@@ -9,7 +9,6 @@ use lib.ListN.{length, drop, length-append}
 use borrow.Author.Tests.{lt-ltb, le-ltb}
 use Rattle.rules.specs.Mosts as Most
 use Rattle.rules.specs.Mosts.{mosts}
-use Rattle.rules.specs.Numbers as No
 use Rattle.rules.specs.Reading.{Reading, reading}
 use Rattle.rules.specs.Run as R
 use Rattle.rules.specs.Run.{finished, stuck, open_end, refused, ended, halted, run, answer}
@@ -23,12 +22,15 @@ use Rattle.run.specs.declared.Answer.{Answer}
 use Rattle.run.specs.RunAnswers.{answer_of, is_refusal}
 use Rattle.run.specs.Made.{Made, Makes}
 use Rattle.run.proofs.AnswerTells.{made_is, refused_is}
-use Rattle.listing.specs.declared.Printed.{Printed}
-use Rattle.listing.specs.declared.Printed.TheVariants.{Refused, Written}
-use Rattle.buffer.specs.Writing.{Wrote}
+use Rattle.std.specs.Prelude.{Result, Ok, Err}
+use Rattle.rules.specs.declared.faults.Refusal.{Refusal}
+use Rattle.buffer.specs.declared.Output.{Output}
+use Rattle.buffer.specs.Writing.{Wrote as WroteAt}
+use Rattle.buffer.specs.Outputs.{Wrote}
 use Rattle.listing.specs.StateWriting.{Writes}
-use Rattle.listing.specs.Outputs.{run_text, output_bytes, printed_in, output_in, printed_of, output_after, answer_text}
-use Rattle.buffer.proofs.Appends.{◌▹◌, same_text, front_is}
+use Rattle.listing.specs.Outputs.{run_text, output_bytes, short_refusal, printed_in, output_in, printed_of, output_after, answer_text}
+use Rattle.buffer.proofs.Appends.{front_is}
+use Rattle.buffer.proofs.Outputs.{◌▹◌, same_text, at_front}
 
 -- ---- The answer's line
 
@@ -47,8 +49,8 @@ module _ (turns p s : List ℕ) (a : Answer) where
       let away = refused_is turns p s C made refusal in
       ap answer_text away.answer ∙ sym (ap (λ (x : Reading). printed (ran_on mosts turns x)) away.is)
 
-  made_text : {l l₁ l₂ : List ℕ} {at r : ℕ} (C : Reading) → Made C turns a p s → is_refusal a ≡ false → Wrote 40 l l₁ 0 at (answer_text a)
-      → Writes 26368 s l₁ l₂ at r Any state_lines → Wrote 26408 l l₂ 0 r (printed (ran_on mosts turns C))
+  made_text : {o o₁ o₂ : Output} (C : Reading) → Made C turns a p s → is_refusal a ≡ false → Wrote 40 o o₁ (answer_text a)
+      → Writes 26368 s o₁ o₂ Any state_lines → Wrote 26408 o o₂ (printed (ran_on mosts turns C))
   unfolding listing
   made_text C made e w ws =
       let one = made_is turns p s C made e in
@@ -60,18 +62,18 @@ module _ (turns p s : List ℕ) (a : Answer) where
 -- ---- What the printing answers and leaves
 
 pub record Prints (text l : List ℕ) (r : ℕ) (l₁ : List ℕ) : Type 0 where
-  pub answers : Written r ≡ printed_of text l
+  pub answers : Ok r ≡ printed_of text l
   pub leaves : l₁ ≡ output_after text l
 
-pub in_output : {k r : ℕ} {l l₁ : List ℕ} (text : List ℕ) → output_bytes ≤ length l → Wrote k l l₁ 0 r text → Prints text l r l₁
+pub in_output : {k r : ℕ} {l l₁ : List ℕ} (text : List ℕ) → output_bytes ≤ length l → WroteAt k l l₁ 0 r text → Prints text l r l₁
 unfolding printed_of output_after
 in_output {l = l} text long w =
     let front = front_is w in
     let fits = le-ltb (length l) output_bytes long in
-    record { answers = rw fits (ap Written front.1); leaves = rw fits front.0 }
+    record { answers = rw fits (ap Ok front.1); leaves = rw fits front.0 }
 
 -- what is written fits in the output
-pub written_fits : (text l : List ℕ) {r : Printed} {l₁ : List ℕ} {m : ℕ} → r ≡ printed_of text l → l₁ ≡ output_after text l → r ≡ Written m → m ≤ length l₁
+pub written_fits : (text l : List ℕ) {r : Result ℕ Refusal} {l₁ : List ℕ} {m : ℕ} → r ≡ printed_of text l → l₁ ≡ output_after text l → r ≡ Ok m → m ≤ length l₁
 unfolding printed_of output_after
 written_fits text l {l₁ = l₁} {m = m} answers leaves written = by_bool (ltb (length l) output_bytes)
     (λ short. let refused = rw short at answers in impossible cc)
@@ -81,30 +83,33 @@ written_fits text l {l₁ = l₁} {m = m} answers leaves written = by_bool (ltb 
     omega (arith, count, ap length after, length-append text (drop (length text) l)))
 
 -- in an output that must have more room: it is short; or what was printed as a run is printed there
-pub short_in : (room : ℕ) (text l : List ℕ) → length l < room → (Refused No.short_table 0 ≡ printed_in room text l) × (l ≡ output_in room text l)
+pub short_in : (room : ℕ) (text l : List ℕ) → length l < room → (Err short_refusal ≡ printed_in room text l) × (l ≡ output_in room text l)
 short_in room text l short = rw (lt-ltb (length l) room short) (refl, refl)
 
-pub long_in : (room : ℕ) (text l : List ℕ) {r : Printed} {l₁ : List ℕ} → output_bytes ≤ room → room ≤ length l
+pub long_in : (room : ℕ) (text l : List ℕ) {r : Result ℕ Refusal} {l₁ : List ℕ} → output_bytes ≤ room → room ≤ length l
     → (r ≡ printed_of text l) × (l₁ ≡ output_after text l) → (r ≡ printed_in room text l) × (l₁ ≡ output_in room text l)
 unfolding printed_of output_after
 long_in room text l wide long told = rw (le-ltb (length l) room long) (rw (le-ltb (length l) output_bytes (omega arith)) at told)
 
-pub short_output : (text l : List ℕ) → length l < output_bytes → (Refused No.short_table 0 ≡ printed_of text l) × (l ≡ output_after text l)
+pub short_output : (text l : List ℕ) → length l < output_bytes → (Err short_refusal ≡ printed_of text l) × (l ≡ output_after text l)
 unfolding printed_of output_after
 short_output text l short = short_in output_bytes text l short
 
-module _ (text turns : List ℕ) {a : Answer} {program state p s l l₁ : List ℕ} {at : ℕ} (program-fresh : program ≡ fresh_table) (state-fresh : state ≡ fresh_table)
-    (made : Makes text turns false program state a p s) (long : output_bytes ≤ length l) (w : Wrote 40 l l₁ 0 at (answer_text a)) where
+module _ (text turns : List ℕ) {a : Answer} {program state p s : List ℕ} (program-fresh : program ≡ fresh_table) (state-fresh : state ≡ fresh_table)
+    (made : Makes text turns false program state a p s) where
   by_inputs : Made (reading mosts (long_text text || long_turns turns) false text) turns a p s
   unfolding inputs
   by_inputs = made.makes program-fresh state-fresh
 
-  pub prints_refusal : is_refusal a ≡ true → Prints (run_text text turns) l at l₁
-  unfolding run_text
-  prints_refusal refusal =
-      in_output (run_text text turns) long
-      (same_text 40 (refused_text turns p s a (reading mosts (long_text text || long_turns turns) false text) by_inputs refusal) (omega arith) w)
+  module _ {l : List ℕ} {o o₁ : Output} (long : output_bytes ≤ length l) (start : o.at ≡ 0) (content : o.buf.now ≡ l) (w : Wrote 40 o o₁ (answer_text a)) where
+    pub prints_refusal : {l₁ : List ℕ} → l₁ ≡ o₁.buf.now → is_refusal a ≡ true → Prints (run_text text turns) l o₁.at l₁
+    unfolding run_text
+    prints_refusal left refusal =
+        in_output (run_text text turns) long
+        (at_front start content left (same_text 40 (refused_text turns p s a (reading mosts (long_text text || long_turns turns) false text) by_inputs refusal) (omega arith) w))
 
-  pub prints_run : {l₂ : List ℕ} {r : ℕ} → is_refusal a ≡ false → Writes 26368 s l₁ l₂ at r Any state_lines → Prints (run_text text turns) l r l₂
-  unfolding run_text
-  prints_run e ws = in_output (run_text text turns) long (made_text turns p s a (reading mosts (long_text text || long_turns turns) false text) by_inputs e w ws)
+    pub prints_run : {l₁ : List ℕ} {o₂ : Output} → l₁ ≡ o₂.buf.now → is_refusal a ≡ false → Writes 26368 s o₁ o₂ Any state_lines → Prints (run_text text turns) l o₂.at l₁
+    unfolding run_text
+    prints_run left e ws =
+        in_output (run_text text turns) long
+        (at_front start content left (made_text turns p s a (reading mosts (long_text text || long_turns turns) false text) by_inputs e w ws))

@@ -9,13 +9,16 @@ use Rattle.rules.specs.Script.{Program}
 use Rattle.rules.specs.State.{Object, Frame, State, thread_at}
 use Rattle.rules.specs.Fits.{Fits}
 use Rattle.rules.specs.Listing.{value_text}
-use Rattle.buffer.specs.Writing.{Wrote}
+use Rattle.buffer.specs.declared.Output.{Output}
+use Rattle.buffer.specs.Outputs.{Wrote}
 use Rattle.table.specs.StateTable.{Held}
 
--- the text of any state of a run of which Q holds is written; the bound holds whatever the table is
-pub record Writes (k : ℕ) (s l l₁ : List ℕ) (at r : ℕ) (Q : State → Type 0) (text : State → List ℕ) : Type 0 where
-  pub writes : (P : Program) (n : ℕ) (S : State) (rest : List ℕ) → Held s S rest → Fits mosts P n S → Q S → Wrote k l l₁ at r (text S)
-  pub most : r ≤ at + k
+-- the text of any state of a run of which Q holds is written; the bound holds whatever the table is, and it is the same buffer, as long as it was
+pub record Writes (k : ℕ) (s : List ℕ) (o o₁ : Output) (Q : State → Type 0) (text : State → List ℕ) : Type 0 where
+  pub writes : (P : Program) (n : ℕ) (S : State) (rest : List ℕ) → Held s S rest → Fits mosts P n S → Q S → Wrote k o o₁ (text S)
+  pub most : o₁.at ≤ o.at + k
+  pub length_same : length o₁.buf.now ≡ length o.buf.now
+  pub buffer_same : o₁.buf.ghost_name ≡ o.buf.ghost_name
 
 -- ---- Parts of a line, each after a space
 

@@ -1,67 +1,60 @@
 // The line of what the run answers.
-ghost use Rattle.std.specs.Prelude.{◌≡◌, ◌++◌, ◌+◌, ◌≤◌, length};
+ghost use Rattle.std.specs.Prelude.{◌++◌, ◌≤◌, length};
 ghost use Rattle.rules.specs.Text.{bytes};
 ghost use Rattle.rules.specs.Run.{refused, halted};
 ghost use Rattle.rules.specs.Listing.{answer_line};
-ghost use Rattle.buffer.specs.Writing.{Wrote, number_part};
+ghost use Rattle.buffer.specs.Outputs.{HasRoom, Wrote};
+ghost use Rattle.buffer.specs.Writing.{number_part};
 ghost use Rattle.listing.specs.Outputs.{answer_text};
 
-use buffer::{put_number, put_text};
+use buffer::Output;
 use run::Answer;
 
-pub fn put_refused(buf: &mut [u8], at: usize, number: u16, line: usize) -> usize
-    requires { at + 22 ≤ length buf.old }
-    ensures { Wrote 22 buf.old buf.new at result (answer_line (refused number line)) }
+pub fn put_refused(out: &mut Output, number: u16, line: usize)
+    requires { HasRoom 22 out.old }
+    ensures { Wrote 22 out.old out.new (answer_line (refused number line)) }
 {
-    let a = put_text(buf, at, b"(refused");
-    let b = put_number(buf, a, number as usize);
-    let c = put_number(buf, b, line);
-    put_text(buf, c, b")\n")
+    out.put_text(b"(refused");
+    out.put_number(number as usize);
+    out.put_number(line);
+    out.put_text(b")\n");
 }
 
 // The end's word comes with the space before it.
-fn put_ended(buf: &mut [u8], at: usize, word: &[u8], moves: u16) -> usize
-    requires { (at + 21 ≤ length buf.old) × (length word.now ≤ 9) }
-    ensures { Wrote 21 buf.old buf.new at result (bytes "(end" ++ (word.now ++ (number_part moves ++ bytes ")\n"))) }
+fn put_ended(out: &mut Output, word: &[u8], moves: u16)
+    requires { HasRoom 21 out.old × (length word.now ≤ 9) }
+    ensures { Wrote 21 out.old out.new (bytes "(end" ++ (word.now ++ (number_part moves ++ bytes ")\n"))) }
 {
-    let a = put_text(buf, at, b"(end");
-    let b = put_text(buf, a, word);
-    let c = put_number(buf, b, moves as usize);
-    put_text(buf, c, b")\n")
+    out.put_text(b"(end");
+    out.put_text(word);
+    out.put_number(moves as usize);
+    out.put_text(b")\n");
 }
 
-fn put_stopped(
-    buf: &mut [u8],
-    at: usize,
-    number: u16,
-    thread: u16,
-    block: u16,
-    line: u16,
-    moves: u16,
-) -> usize
-    requires { at + 40 ≤ length buf.old }
-    ensures { Wrote 40 buf.old buf.new at result (answer_line (halted number thread block line moves)) }
+fn put_stopped(out: &mut Output, number: u16, thread: u16, block: u16, line: u16, moves: u16)
+    requires { HasRoom 40 out.old }
+    ensures { Wrote 40 out.old out.new (answer_line (halted number thread block line moves)) }
 {
-    let a = put_text(buf, at, b"(stopped");
-    let b = put_number(buf, a, number as usize);
-    let c = put_number(buf, b, thread as usize);
-    let d = put_number(buf, c, block as usize);
-    let e = put_number(buf, d, line as usize);
-    let f = put_number(buf, e, moves as usize);
-    put_text(buf, f, b")\n")
+    out.put_text(b"(stopped");
+    out.put_number(number as usize);
+    out.put_number(thread as usize);
+    out.put_number(block as usize);
+    out.put_number(line as usize);
+    out.put_number(moves as usize);
+    out.put_text(b")\n");
 }
 
-pub fn put_answer(buf: &mut [u8], at: usize, answer: Answer) -> usize
-    requires { at + 40 ≤ length buf.old }
-    ensures { Wrote 40 buf.old buf.new at result (answer_text answer) }
+pub fn put_answer(out: &mut Output, answer: Answer)
+    requires { HasRoom 40 out.old }
+    ensures { Wrote 40 out.old out.new (answer_text answer) }
 {
     match answer {
-        Answer::Refused(number, line) => put_refused(buf, at, number, line),
-        Answer::Finished(moves) => put_ended(buf, at, b" finished", moves),
-        Answer::Stuck(moves) => put_ended(buf, at, b" stuck", moves),
-        Answer::Open(moves) => put_ended(buf, at, b" open", moves),
+        Answer::Refused(number, line) => put_refused(out, number, line),
+        Answer::Finished(moves) => put_ended(out, b" finished", moves),
+        Answer::Stuck(moves) => put_ended(out, b" stuck", moves),
+        Answer::Open(moves) => put_ended(out, b" open", moves),
         Answer::Stopped(number, thread, block, line, moves) => {
-            put_stopped(buf, at, number, thread, block, line, moves)
+            put_stopped(out, number, thread, block, line, moves);
         }
     }
 }

@@ -13,14 +13,9 @@ ghost use Rattle.listing.specs.Outputs.{run_text, printed_of, output_after};
 
 pub use answers::put_answer;
 use answers::put_refused;
+use buffer::Output;
+use rules::{Fault, Refusal};
 use state_lines::put_state;
-
-// What a printing answers: the output is turned away, with document 01's number and line 0; or how many bytes are written.
-#[derive(Clone, Copy)]
-pub enum Printed {
-    Refused(u16, usize),
-    Written(usize),
-}
 
 // In two fresh tables.
 fn print_on(
@@ -29,24 +24,30 @@ fn print_on(
     program: &mut [u16],
     state: &mut [u16],
     output: &mut [u8],
-) -> Printed
+) -> Result<usize, Refusal>
     requires { (program.old ≡ fresh_table) × (state.old ≡ fresh_table) }
     ensures value { result ≡ printed_of (run_text text.now turns.now) output.old }
     ensures output_after { output.new ≡ output_after (run_text text.now turns.now) output.old }
 {
     if output.len() < 32768 {
-        return Printed::Refused(rules::numbers::SHORT_TABLE, 0);
+        return Err(Refusal {
+            fault: Fault::ShortTable,
+            line: 0,
+        });
     }
     let answer = run::make(text, turns, false, program, state);
-    let at = put_answer(output, 0, answer);
+    let mut out = Output::new(output);
+    put_answer(&mut out, answer);
     if run::is_refusal(answer) {
-        return Printed::Written(at);
+        return Ok(out.at);
     }
-    Printed::Written(put_state(output, at, state))
+    put_state(&mut out, state);
+    Ok(out.at)
 }
 
-// Runs the turns and prints what document 01 says, a refusal too. An output under 32,768 bytes is refused with 9 and stays as it was.
-pub fn print_run(text: &[u8], turns: &[u8], output: &mut [u8]) -> Printed
+// Runs the turns and prints what document 01 says, a refusal too: how many bytes are written. An output under 32,768 bytes is refused with 9 and stays
+// as it was.
+pub fn print_run(text: &[u8], turns: &[u8], output: &mut [u8]) -> Result<usize, Refusal>
     ensures value { result ≡ printed_of (run_text text.now turns.now) output.old }
     ensures output_after { output.new ≡ output_after (run_text text.now turns.now) output.old }
 {
@@ -56,12 +57,17 @@ pub fn print_run(text: &[u8], turns: &[u8], output: &mut [u8]) -> Printed
 }
 
 // Prints a refusal that is found before the run's, as that of a faulty line of turns.
-pub fn print_refusal(number: u16, line: usize, output: &mut [u8]) -> Printed
+pub fn print_refusal(number: u16, line: usize, output: &mut [u8]) -> Result<usize, Refusal>
     ensures value { result ≡ printed_of (answer_line (refused number line)) output.old }
     ensures output_after { output.new ≡ output_after (answer_line (refused number line)) output.old }
 {
     if output.len() < 32768 {
-        return Printed::Refused(rules::numbers::SHORT_TABLE, 0);
+        return Err(Refusal {
+            fault: Fault::ShortTable,
+            line: 0,
+        });
     }
-    Printed::Written(put_refused(output, 0, number, line))
+    let mut out = Output::new(output);
+    put_refused(&mut out, number, line);
+    Ok(out.at)
 }

@@ -1,52 +1,52 @@
-// Values written into a lent buffer, each after a space, which is written with it.
-ghost use Rattle.std.specs.Prelude.{◌∷◌, ◌+◌, ◌≤◌, length};
+// Values, each after a space, which is written with it.
+ghost use Rattle.std.specs.Prelude.{◌∷◌};
 ghost use Rattle.rules.specs.Text.{space};
 ghost use Rattle.rules.specs.Listing.{value_text, message_text};
-ghost use Rattle.buffer.specs.Writing.{Wrote};
+ghost use Rattle.buffer.specs.Outputs.{HasRoom, Wrote};
 ghost use Rattle.listing.specs.StateWriting.{field_part};
 
-use buffer::{put_byte, put_number, put_text};
+use buffer::Output;
 use rules::Value;
 
-pub fn put_value(buf: &mut [u8], at: usize, v: Value) -> usize
-    requires { at + 13 ≤ length buf.old }
-    ensures { Wrote 13 buf.old buf.new at result (space ∷ value_text v) }
+pub fn put_value(out: &mut Output, v: Value)
+    requires { HasRoom 13 out.old }
+    ensures { Wrote 13 out.old out.new (space ∷ value_text v) }
 {
     match v {
-        Value::Absent => put_text(buf, at, b" absent"),
+        Value::Absent => out.put_text(b" absent"),
         Value::Obj(n) => {
-            let a = put_text(buf, at, b" (obj");
-            let b = put_number(buf, a, n as usize);
-            put_byte(buf, b, b')')
+            out.put_text(b" (obj");
+            out.put_number(n as usize);
+            out.put_byte(b')');
         }
         Value::Chan(c) => {
-            let a = put_text(buf, at, b" (chan");
-            let b = put_number(buf, a, c as usize);
-            put_byte(buf, b, b')')
+            out.put_text(b" (chan");
+            out.put_number(c as usize);
+            out.put_byte(b')');
         }
     }
 }
 
 // A field: nothing where the object has no such field.
-pub fn put_field(buf: &mut [u8], at: usize, v: Value) -> usize
-    requires { at + 13 ≤ length buf.old }
-    ensures { Wrote 13 buf.old buf.new at result (field_part v) }
+pub fn put_field(out: &mut Output, v: Value)
+    requires { HasRoom 13 out.old }
+    ensures { Wrote 13 out.old out.new (field_part v) }
 {
     match v {
-        Value::Absent => at,
-        Value::Obj(_) => put_value(buf, at, v),
-        Value::Chan(_) => put_value(buf, at, v),
+        Value::Absent => {}
+        Value::Obj(_) => put_value(out, v),
+        Value::Chan(_) => put_value(out, v),
     }
 }
 
 // What a channel holds.
-pub fn put_message(buf: &mut [u8], at: usize, v: Value) -> usize
-    requires { at + 13 ≤ length buf.old }
-    ensures { Wrote 13 buf.old buf.new at result (space ∷ message_text v) }
+pub fn put_message(out: &mut Output, v: Value)
+    requires { HasRoom 13 out.old }
+    ensures { Wrote 13 out.old out.new (space ∷ message_text v) }
 {
     match v {
-        Value::Absent => put_text(buf, at, b" empty"),
-        Value::Obj(_) => put_value(buf, at, v),
-        Value::Chan(_) => put_value(buf, at, v),
+        Value::Absent => out.put_text(b" empty"),
+        Value::Obj(_) => put_value(out, v),
+        Value::Chan(_) => put_value(out, v),
     }
 }

@@ -1,7 +1,7 @@
 -- `listing::answers::put_answer` meets its contract: each answer has its own line.
 use native.Mathlib.Omega.{arith}
 use mathlib.Core.Path.{refl}
-use Rattle.buffer.proofs.Appends.{same_text}
+use Rattle.buffer.proofs.Outputs.{same_text}
 use Rattle.listing.proofs.LineTexts.{finished_end, stuck_end, open_end_lem}
 use Rattle.listing.proofs.answers.put_answer.Goals as goal
 

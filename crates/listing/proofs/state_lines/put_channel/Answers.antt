@@ -12,7 +12,7 @@ use Rattle.listing.proofs.state_lines.put_channel.Goals as goal
 pub returns : goal.returns
 returns c =
     same_texts 29 (λ P n S rest held fits any. channel_line_lem c.args.c (channel_at S c.args.c)) (omega arith)
-    (fixed c.put_text-a.ensures
-    ▹ fixed c.put_number-b.ensures
+    (fixed c.put_text.ensures
+    ▹ fixed c.put_number.ensures
     ▹ of_seen (λ v. space ∷ message_text v) (λ P n S fits any. message_in_table fits c.args.c) c.message.ensures.sees
-    c.put_message-d.ensures ▹ fixed c.put_text.ensures)
+    c.put_message.ensures ▹ fixed c.put_text-2.ensures)

@@ -8,5 +8,5 @@ use Rattle.listing.proofs.state_lines.put_frame.Goals as goal
 pub returns : goal.returns
 unfolding frame_parts value_parts print_many
 returns c =
-    of_seen number_part (λ P n S fits inner. tt) c.frame_block.ensures.sees c.put_number-a.ensures
-    ▹ of_seen number_part (λ P n S fits inner. tt) c.frame_line.ensures.sees c.put_number-b.ensures ▹ c.put_slots.ensures
+    of_seen number_part (λ P n S fits inner. tt) c.frame_block.ensures.sees c.put_number.ensures
+    ▹ of_seen number_part (λ P n S fits inner. tt) c.frame_line.ensures.sees c.put_number-2.ensures ▹ c.put_slots.ensures

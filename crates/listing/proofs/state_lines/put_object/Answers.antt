@@ -8,6 +8,4 @@ use Rattle.listing.proofs.state_lines.put_object.Goals as goal
 pub returns : goal.returns
 returns c =
     same_texts 86 (λ P n S rest held fits made. object_line_lem c.args.o (object_at S.objects c.args.o)) (omega arith)
-    (fixed c.put_text-a.ensures
-    ▹ fixed c.put_number-b.ensures
-    ▹ c.put_traits-c.ensures ▹ fixed c.put_text.ensures)
+    (fixed c.put_text.ensures ▹ fixed c.put_number.ensures ▹ c.put_traits.ensures ▹ fixed c.put_text-2.ensures)

@@ -5,28 +5,11 @@ use Rattle.listing.proofs.StateRows.{no_object_yet, object_after, all_objects_le
 use Rattle.std.proofs.Common.{rules}
 use Rattle.listing.proofs.state_lines.put_objects.Goals as goal
 
-pub object_count-n-requires : goal.object_count-n-requires
-object_count-n-requires c = c.requires.1
-
 pub loop-o-init : goal.loop-o-init
-loop-o-init c = (search rules, search rules, no_object_yet object_line (search rules))
-
-pub put_object-m-requires : goal.put_object-m-requires
-put_object-m-requires c = (omega (arith, c.loop-o.invariant.2.most), c.requires.1, omega arith)
-
-pub loop-o-smaller : goal.loop-o-smaller
-loop-o-smaller c = omega arith
+loop-o-init c = no_object_yet object_line (search rules)
 
 pub loop-o-preserved : goal.loop-o-preserved
-loop-o-preserved c = (
-  omega arith,
-  search rules,
-  object_after object_line c.object_count-n.ensures.sees c.loop-o.o
-      c.loop-o-test.true (omega arith) c.loop-o.invariant.2 c.put_object-m.ensures,
-)
-
-pub shape_of-buf : goal.shape_of-buf
-shape_of-buf c = c.loop-o.invariant.1
+loop-o-preserved c = object_after object_line c.object_count-o-end.ensures.sees c.loop-o.o c.loop-o-test.true (omega arith) c.loop-o.invariant c.put_object.ensures
 
 pub returns : goal.returns
-returns c = all_objects_lem object_line c.object_count-n.ensures.sees c.loop-o.o c.loop-o-test.false (omega (arith, c.loop-o.invariant.0)) c.loop-o.invariant.2
+returns c = all_objects_lem object_line c.object_count-o-end.ensures.sees c.loop-o.o c.loop-o-test.false (search rules) c.loop-o.invariant

@@ -6,6 +6,6 @@ pub returns-then-sender-eq0 : goal.returns-then-sender-eq0
 returns-then-sender-eq0 c =
     ready_seen c.args.t c.sender.ensures.sees c.if-sender-eq0.true c.put_text.ensures
 
-pub returns : goal.returns
-returns c =
-    waiting_seen c.args.t c.sender.ensures.sees c.if-sender-eq0.false c.put_text-2.ensures
+pub returns-else-sender-eq0 : goal.returns-else-sender-eq0
+returns-else-sender-eq0 c =
+    waiting_seen c.args.t c.sender.ensures.sees c.if-sender-eq0.false c.put_text-else-sender-eq0.ensures

@@ -6,4 +6,4 @@ use Rattle.listing.proofs.state_lines.put_state.Goals as goal
 pub returns : goal.returns
 unfolding state_lines
 returns c =
-    c.put_objects-a.ensures ▹ c.put_channels-b.ensures ▹ c.put_threads.ensures
+    c.put_objects.ensures ▹ c.put_channels.ensures ▹ c.put_threads.ensures

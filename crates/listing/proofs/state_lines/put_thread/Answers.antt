@@ -9,11 +9,9 @@ pub returns-then-n-eq0 : goal.returns-then-n-eq0
 returns-then-n-eq0 c =
     finished_thread c.args.t
     c.frame_count-n.ensures.sees (omega arith) c.if-n-eq0.true
-    (fixed c.put_text-a.ensures
-    ▹ fixed c.put_number-b.ensures ▹ fixed c.put_text.ensures)
+    (fixed c.put_text.ensures ▹ fixed c.put_number.ensures ▹ fixed c.put_text-then-n-eq0.ensures)
 
 pub returns : goal.returns
 returns c =
     running_thread c.args.t c.frame_count-n.ensures.sees _ refl c.if-n-eq0.false
-    (fixed c.put_text-a.ensures ▹ fixed c.put_number-b.ensures ▹ c.put_sender-c.ensures) c.put_frame-d.ensures
-    c.put_text-2.ensures
+    (fixed c.put_text.ensures ▹ fixed c.put_number.ensures ▹ c.put_sender.ensures) c.put_frame.ensures c.put_text-2.ensures

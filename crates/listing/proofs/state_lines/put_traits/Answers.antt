@@ -10,6 +10,6 @@ use Rattle.listing.proofs.state_lines.put_traits.Goals as goal
 pub returns : goal.returns
 unfolding object_parts value_parts print_many
 returns c =
-    of_seen (λ k. space ∷ cap_word k) (λ P n S fits made. made) c.cap.ensures.sees c.put_cap-a.ensures
-    ▹ of_seen number_part (λ P n S fits made. made) c.kind.ensures.sees c.put_number-b.ensures
-    ▹ of_seen number_part (λ P n S fits made. made) c.creator.ensures.sees c.put_number-c.ensures ▹ c.put_fields.ensures
+    of_seen (λ k. space ∷ cap_word k) (λ P n S fits made. made) c.cap.ensures.sees c.put_cap.ensures
+    ▹ of_seen number_part (λ P n S fits made. made) c.kind.ensures.sees c.put_number.ensures
+    ▹ of_seen number_part (λ P n S fits made. made) c.creator.ensures.sees c.put_number-2.ensures ▹ c.put_fields.ensures

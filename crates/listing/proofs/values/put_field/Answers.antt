@@ -1,5 +1,5 @@
 -- `listing::values::put_field` meets its contract: a field that is not there writes nothing.
-use Rattle.buffer.proofs.Appends.{nothing}
+use Rattle.buffer.proofs.Outputs.{nothing}
 use Rattle.listing.specs.StateWriting.{field_part}
 use Rattle.std.proofs.Common.{rules}
 use Rattle.listing.proofs.values.put_field.Goals as goal

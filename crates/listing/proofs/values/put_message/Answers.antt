@@ -1,7 +1,7 @@
 -- `listing::values::put_message` meets its contract: an empty channel, or its message as a value.
 use native.Mathlib.Omega.{arith}
 use mathlib.Core.Path.{refl}
-use Rattle.buffer.proofs.Appends.{same_text}
+use Rattle.buffer.proofs.Outputs.{same_text}
 use Rattle.rules.specs.Listing.{message_text}
 use Rattle.listing.proofs.values.put_message.Goals as goal
 
