@@ -1,6 +1,5 @@
 -- The front of a text and its first line: a form that fits the front is printed there, a printing holds one LF and that ends it, and a line
 -- that decodes fits whatever follows it. Only one form can fit, and a few bytes tell which.
-use Prim.{Unit}
 use Prim.Native.Nat.{ℕ, zero, suc, ◌+◌, ◌/◌, ◌%◌, ◌<◌, ◌≤◌, suc-le-suc}
 use native.Mathlib.Nat.{le-add_right, not-le_of_lt, le_of_suc-le-suc, not-suc-le-zero}
 use native.Mathlib.Omega.{arith}
@@ -9,21 +8,24 @@ use mathlib.Core.Bool.{Bool, true, false, not, ◌&&◌, cond, false≢true}
 use mathlib.Core.List.{List, [], ◌∷◌, ◌++◌, append-nil}
 use lib.Dec.{ltb, eqb}
 use lib.ListN.{length, get_or, drop, length-append, length-drop, get_or-append}
-use borrow.Author.Tests.{eqb-true, eqb-false, not-true, ltb-true}
+use borrow.Author.Tests.{eqb-true, not-true, ltb-true}
 use Rattle.rules.specs.declared.Mosts.{Mosts}
 use Rattle.rules.specs.declared.Cap.{Cap}
 use Rattle.rules.specs.declared.Cap.TheVariants.{Imm, Iso, Local, Unsafe}
 use Rattle.rules.specs.Numbers as No
 use Rattle.rules.specs.Lists.{any, all, Every}
 use Rattle.rules.specs.Text.{bytes, lf, allowed, stray, lines, join}
-use Rattle.rules.specs.Script.{Operand, reads, takes, Form, opens, thread}
+use Rattle.rules.specs.Script.{Operand, reads, takes, Form}
 use Rattle.rules.specs.Templates.{Taken, took, unfit, ◌>>=◌, or_else, digits, digit, digit_at, decimal, print_operand, cap_word, print_many, Part, character, one_number, one_operand, one_cap, many_numbers, many_operands, Holds, fit, print, Rule, forms, rule_at, decode, show, script_t}
 use Rattle.rules.specs.Reading.{Sofar, fault, form_step, line_step}
 use Rattle.rules.proofs.ListLaws.{impossible, by_bool, and_true, all_true, every_at, every_append}
 use Rattle.rules.proofs.Printing.{says_of, Short, fit_front, fit_prints, decode_prints, join_lines}
 use Rattle.rules.proofs.OneForm.{Way, ways, every_way, opening, head, Begins, print_begins, one_beginning, InOrder, none_gives, only_gives, decode_none, print_fits, print_decodes}
 use Rattle.grammar.specs.declared.forms.Line.{Line}
-use Rattle.grammar.specs.Decoded.{front_by, front, let_form, only_form, FormAt, EitherFormAt, LineAt}
+use Rattle.std.proofs.Common.{Option, Some, None, IfSome}
+use Rattle.grammar.specs.Words.{After}
+use Rattle.grammar.specs.Decoded.{front_by, front, let_form, only_form, FormAt, LineAt, told_end}
+use Rattle.grammar.proofs.Told.{done, word, no_word}
 
 -- ---- The forms tried in turn
 
@@ -287,57 +289,24 @@ front_short l h = front_none l (λ j j<n f. let t = (front_tells j l j<n f).1 in
 -- ---- The line at a place
 
 -- from the only form that can fit there
-pub line_by_form : (i : ℕ) {s : List ℕ} {at : ℕ} {r : Line} → i < length forms → only_form (drop at s) ≡ suc i → FormAt i s at r → LineAt s at r
+pub line_by_form : (i : ℕ) (s : List ℕ) (at : ℕ) (x : Option Line) → i < length forms → only_form (drop at s) ≡ suc i → FormAt i s at x → LineAt s at x
 unfolding ◌>>=◌
-line_by_form i {s} {at} {r} i<n h f = record {
-  form = (rule_at i).make f.parts;
-  fits = front_by_lem i (drop at s) i<n (λ j j<n g. let t = (front_tells j (drop at s) j<n g).0 in omega arith) ∙ rw f.fits (go r.ok);
-  tells = λ _. f.tells;
-}
+line_by_form i s at x i<n h f = go x f
   where
-    go : (b : Bool) → (cond b (took f.parts (drop r.end s)) unfit >>= λ p l₁. took ((rule_at i).make p) l₁) ≡ cond b (took ((rule_at i).make f.parts) (drop r.end s)) unfit
-    go true = refl
-    go false = refl
+    only : front (drop at s) ≡ tried (rule_at i) (drop at s)
+    only = front_by_lem i (drop at s) i<n (λ j j<n g. let t = (front_tells j (drop at s) j<n g).0 in omega arith)
 
--- from one of two that follow one another
-pub line_by_either : (i : ℕ) {s : List ℕ} {at n : ℕ} {r : Line} → i + 1 < length forms → n ≡ only_form (drop at s) → i + 1 ≤ n → n < i + 3 → EitherFormAt i n s at r → LineAt s at r
-line_by_either i {n = n} i<n e low high f = by_bool (eqb n (i + 1))
-    (λ t. let k = eqb-true n (i + 1) t in line_by_form i (omega arith) (omega (arith, k)) (f.first k))
-    (λ t. let k = eqb-false n (i + 1) t in let m : n ≡ i + 2 = omega arith in line_by_form (i + 1) i<n (omega arith) (f.second m))
-
-line_unfit : (s : List ℕ) (at : ℕ) (r : Line) → r.ok ≡ false → front (drop at s) ≡ unfit → LineAt s at r
-line_unfit s at r k h = record { form = opens thread; fits = rw k h; tells = λ e. absurd (false≢true (sym k ∙ e)) }
+    go : (x : Option Line) → FormAt i s at x → LineAt s at x
+    go None f = only ∙ rw f
+    go (Some r) f = record { form = (rule_at i).make f.parts; fits = only ∙ rw f.fits; tells = f.tells }
 
 -- in a text that is shorter than any form
-pub line_in_short : (s : List ℕ) (at : ℕ) (r : Line) → r.ok ≡ false → length s < 9 → LineAt s at r
-line_in_short s at r k h = line_unfit s at r k (front_short (drop at s) (omega (arith, length-drop at s)))
+pub line_in_short : (s : List ℕ) (at : ℕ) → length s < 9 → front (drop at s) ≡ unfit
+line_in_short s at h = front_short (drop at s) (omega (arith, length-drop at s))
 
--- where the number is none of 1 to k, and so no form's
-abbrev pub NotUpTo : ℕ → ℕ → Type 0
-NotUpTo zero n = Unit {0}
-NotUpTo (suc k) n = NotUpTo k n × (n ≡ suc k → ⊥)
-
-not_up_to_each : (k n j : ℕ) → NotUpTo k n → j < k → n ≡ suc j → ⊥
-not_up_to_each zero n j h j<k e = not-suc-le-zero j<k
-not_up_to_each (suc k) n j h j<k e = by_bool (eqb j k)
-    (λ t. h.1 (e ∙ ap suc (eqb-true j k t)))
-    (λ t. let u = eqb-false j k t in not_up_to_each k n j h.0 (omega arith) e)
-
--- a number that is none of them is past them, or zero
-pub past_all : (k n : ℕ) → NotUpTo k n → 1 ≤ n → k + 1 ≤ n
-past_all zero n h p = p
-past_all (suc k) n h p = let q = past_all k n h.0 p in let r = h.1 in omega arith
-
-pub one_past : (n k : ℕ) → (n ≡ k → ⊥) → k ≤ n → k + 1 ≤ n
-one_past n k h p = omega arith
-
-pub not_up_to : (k n : ℕ) → ((j : ℕ) → j < k → n ≡ suc j → ⊥) → NotUpTo k n
-not_up_to zero n h = tt
-not_up_to (suc k) n h = (not_up_to k n (λ j j<k. h j (omega arith)), h k (omega arith))
-
-pub line_by_none : (s : List ℕ) (at : ℕ) (r : Line) (n : ℕ) → r.ok ≡ false → n ≡ only_form (drop at s) → NotUpTo (length forms) n → LineAt s at r
-line_by_none s at r n k e h =
-    line_unfit s at r k (front_none (drop at s) (λ j j<n f. not_up_to_each (length forms) n j h j<n (e ∙ (front_tells j (drop at s) j<n f).0)))
+-- where no form's number is told
+pub line_by_none : (s : List ℕ) (at : ℕ) → only_form (drop at s) ≡ 0 → front (drop at s) ≡ unfit
+line_by_none s at h = front_none (drop at s) (λ j j<n f. let t = (front_tells j (drop at s) j<n f).0 in absurd (omega arith))
 
 -- ---- The line that a text in script form 2 begins with
 
@@ -352,3 +321,8 @@ script_short l h = go (fit script_t l) refl
     go : (x : Taken (Holds script_t)) → fit script_t l ≡ x → fit script_t l ≡ unfit
     go (took p l₁) e = absurd (not-le_of_lt h (rw (fit_prints script_t l p l₁ e) (script_length l₁)))
     go unfit e = e
+
+-- two fixed words are the line
+pub script_told : (s : List ℕ) → 11 ≤ length s → (x : Option ℕ) → After (bytes "(script 2)\n") s 0 x → (fit script_t s ≡ told_end s x) × IfSome x (λ e. e ≤ length s)
+script_told s h None k = ((no_word {s = s} (bytes "(script 2)\n") [] {at = 0} k).fails, tt)
+script_told s h (Some e) k = ((word {s = s} (bytes "(script 2)\n") {at = 0} k done).fits, omega arith)

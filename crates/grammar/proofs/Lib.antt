@@ -8,6 +8,6 @@ mod ItemLists
 -- a form read part by part, and what is kept of it
 pub mod Told
 mod Telling
-mod EitherForms
+mod WordForms
 -- the front of a text and its first line; the only form that can fit; the line at a place
 pub mod Fronts

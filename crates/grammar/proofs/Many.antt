@@ -3,14 +3,15 @@ use Prim.Native.Nat.{ℕ, zero, suc, ◌+◌, ◌≤◌, ◌<◌}
 use native.Mathlib.Nat.{add-zero, not-suc-le-zero}
 use native.Mathlib.Omega.{arith}
 use mathlib.Core.Path.{◌≡◌, refl, sym, ap, ◌∙◌}
-use mathlib.Core.Bool.{Bool, true, false, ◌&&◌, cond, false≢true}
+use mathlib.Core.Bool.{Bool, true, false, cond, false≢true}
 use mathlib.Core.List.{List, [], ◌∷◌, ◌++◌, append-nil, append_assoc}
 use lib.Dec.{eqb}
+use borrow.Author.Tests.{eq-eqb, ne_eqb}
 use lib.ListN.{length, drop, get_or, length-append}
 use lib.Seq.{drop-drop, get_or-drop}
 use Rattle.rules.specs.Text.{space}
 use Rattle.rules.specs.Templates.{Taken, took, unfit, ◌>>=◌, number, operand, many}
-use Rattle.rules.proofs.ListLaws.{by_bool, and_true}
+use Rattle.rules.proofs.ListLaws.{by_bool}
 use Rattle.rules.proofs.Printing.{Says, untaken, taken, says_of, Front, number_front, operand_front}
 
 -- the parts ws put before those that are taken
@@ -96,35 +97,28 @@ module _ {A : Type 0} (p : List ℕ → Taken A) (short : Shortens p) where
 
 -- ---- The list from a place on, as far as it is read
 
--- the parts ws are read up to e, and `more` says that the list goes on; where `ok` is false, the last of them does not fit, nor does the list
-pub record ReadTo {A : Type 0} (p : List ℕ → Taken A) (s : List ℕ) (at : ℕ) (ws : List A) (ok : Bool) (e : ℕ) (more : Bool) : Type 0 where
-  pub whole : list p (drop at s) ≡ cond ok (onto ws (list p (drop e s))) unfit
-  pub goes_on : more ≡ (ok && eqb (get_or s e 0) space)
+-- the parts ws are read up to e
+pub record ReadTo {A : Type 0} (p : List ℕ → Taken A) (s : List ℕ) (at : ℕ) (ws : List A) (e : ℕ) : Type 0 where
+  pub whole : list p (drop at s) ≡ onto ws (list p (drop e s))
 
--- b is the byte at the place
-pub read_none : {A : Type 0} {p : List ℕ → Taken A} {s : List ℕ} {at e b : ℕ} {ok : Bool} → ok ≡ true → e ≡ at → b ≡ get_or s at 0 → ReadTo p s at [] ok e (eqb b space)
-read_none {p = p} {s} {at} o e b = record { whole = rw (o, e) (sym (onto_nil (list p (drop at s)))); goes_on = rw (o, e, b) }
+pub read_none : {A : Type 0} {p : List ℕ → Taken A} {s : List ℕ} {at e : ℕ} → e ≡ at → ReadTo p s at [] e
+read_none {p = p} {s} {at} e = record { whole = rw e (sym (onto_nil (list p (drop at s)))) }
 
-module _ {A : Type 0} {p : List ℕ → Taken A} {s : List ℕ} {at e : ℕ} {ws : List A} {ok more : Bool} (r : ReadTo p s at ws ok e more) where
-  -- a part fitted and a space follows
-  at_space : more ≡ true → (ok ≡ true) × (eqb (get_or s e 0) space ≡ true)
-  at_space t = and_true ok (eqb (get_or s e 0) space) (sym r.goes_on ∙ t)
+module _ {A : Type 0} {p : List ℕ → Taken A} {s : List ℕ} {at e b : ℕ} {ws : List A} (r : ReadTo p s at ws e) (b≡ : b ≡ get_or s e 0) where
+  -- at a space the list goes on
+  pub read_inside : b ≡ space → e < length s
+  read_inside t = space_inside s e (eq-eqb (get_or s e 0) space (sym b≡ ∙ t))
 
-  pub read_inside : more ≡ true → e < length s
-  read_inside t = space_inside s e (at_space t).1
+  pub read_more : {f : ℕ} (a : A) → Shortens p → b ≡ space → p (drop (e + 1) s) ≡ took a (drop f s) → ReadTo p s at (ws ++ (a ∷ [])) f
+  read_more {f} a short t h =
+      let next = list_goes_on p short (drop e s) true a (drop f s) (rw (get_or-drop, add-zero) (eq-eqb (get_or s e 0) space (sym b≡ ∙ t))) (rw drop-drop h) in
+      record { whole = r.whole ∙ ap (onto ws) next ∙ onto_snoc ws a (list p (drop f s)) }
 
-  pub read_more : {f b : ℕ} {fits on : Bool} (a : A) → Shortens p → more ≡ true → p (drop (e + 1) s) ≡ cond fits (took a (drop f s)) unfit
-      → b ≡ get_or s f 0 → on ≡ (fits && eqb b space) → ReadTo p s at (ws ++ (a ∷ [])) fits f on
-  read_more {f} {fits = fits} a short t h b on =
-      let next = list_goes_on p short (drop e s) fits a (drop f s) (rw (get_or-drop, add-zero) (at_space t).1) (rw drop-drop h) in
-      record { whole = rw (at_space t).0 at r.whole ∙ ap (onto ws) next ∙ go fits; goes_on = rw b at on }
-    where
-      go : (y : Bool) → onto ws (cond y (onto (a ∷ []) (list p (drop f s))) unfit) ≡ cond y (onto (ws ++ (a ∷ [])) (list p (drop f s))) unfit
-      go true = onto_snoc ws a (list p (drop f s))
-      go false = refl
+  -- and does not fit where no part stands there
+  pub read_fails : Shortens p → (a : A) → b ≡ space → p (drop (e + 1) s) ≡ unfit → list p (drop at s) ≡ unfit
+  read_fails short a t h =
+      r.whole ∙ ap (onto ws) (list_goes_on p short (drop e s) false a [] (rw (get_or-drop, add-zero) (eq-eqb (get_or s e 0) space (sym b≡ ∙ t))) (rw drop-drop h))
 
--- where the list does not go on, all of it is read
-pub read_all : {A : Type 0} {p : List ℕ → Taken A} {s : List ℕ} {at e : ℕ} {ws : List A} {more : Bool} (ok : Bool)
-    → ReadTo p s at ws ok e more → more ≡ false → list p (drop at s) ≡ cond ok (took ws (drop e s)) unfit
-read_all {p = p} {s} {e = e} {ws = ws} true r t = r.whole ∙ ap (onto ws) (list_ends p (drop e s) (rw (get_or-drop, add-zero) (sym r.goes_on ∙ t))) ∙ rw append-nil
-read_all false r t = r.whole
+  -- elsewhere it ends
+  pub read_all : (b ≡ space → ⊥) → list p (drop at s) ≡ took ws (drop e s)
+  read_all t = r.whole ∙ ap (onto ws) (list_ends p (drop e s) (rw (get_or-drop, add-zero) (ne_eqb (get_or s e 0) space (λ k. t (b≡ ∙ k))))) ∙ rw append-nil

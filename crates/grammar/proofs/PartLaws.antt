@@ -4,12 +4,12 @@ use Prim.Native.Char.{code}
 use native.Mathlib.Decide.{dec_lt}
 use native.Mathlib.Omega.{arith}
 use mathlib.Core.Path.{◌≡◌, refl, sym, ap, ◌∙◌}
-use mathlib.Core.Bool.{Bool, true, false, not, ◌&&◌, ◌||◌, cond, false≢true, and-true, and-false}
+use mathlib.Core.Bool.{Bool, true, false, ◌&&◌, ◌||◌, cond, false≢true, and-true, and-false}
 use mathlib.Core.List.{List, [], ◌∷◌}
 use lib.Dec.{eqb, ltb, leb}
 use lib.ListN.{length, drop, get_or, drop_of_length-le, get_or-eq_default}
 use lib.Seq.{drop-drop}
-use borrow.Author.Tests.{ltb-true, ltb-false, eqb-true, eqb-false, lt-ltb, le-leb, lt-leb, ne_eqb}
+use borrow.Author.Tests.{ltb-true, eqb-true, eqb-false, lt-ltb, le-leb, lt-leb, ne_eqb}
 use Rattle.rules.specs.declared.Cap.{Cap}
 use Rattle.rules.specs.declared.Cap.TheVariants.{Imm, Iso, Local, Unsafe}
 use Rattle.rules.specs.Lists.{place_of}
@@ -18,7 +18,11 @@ use Rattle.rules.specs.Script.{Operand, reads, takes}
 use Rattle.rules.specs.Templates.{Taken, took, unfit, ◌>>=◌, or_else, digit_of, digits_at, is_number, decimal_value, number, operand_by, operand, cap_word, cap_by, capability}
 use Rattle.rules.specs.Tables.{operand_of}
 use Rattle.rules.proofs.ListLaws.{by_bool}
+use Rattle.std.proofs.Common.{Option, Some, None}
+use Rattle.std.specs.Option.{is_some}
+use mir.Val.{bool_byte}
 use Rattle.grammar.specs.Words.{begins}
+use Rattle.grammar.specs.Parts.{Digit}
 use Rattle.grammar.proofs.WordLaws.{literal_begins, begins_front, drop_next}
 
 -- ---- Digits
@@ -48,6 +52,9 @@ place_past_run b a (suc n) h = by_bool (eqb b a)
 pub digit_low : (b : ℕ) → b < 48 → ltb (digit_of b) 10 ≡ false
 digit_low b h = rw (place_past_run b 48 10 (λ k. absurd (omega arith)))
 
+pub no_digit : (b : ℕ) → (48 ≤ b → 58 ≤ b) → ltb (digit_of b) 10 ≡ false
+no_digit b h = rw (place_past_run b 48 10 h)
+
 pub digit_high : (b : ℕ) → 48 ≤ b → leb b 57 ≡ ltb (digit_of b) 10
 digit_high b h = go (dec_lt b 58)
   where
@@ -66,14 +73,9 @@ digit_code b t = go (dec_lt b 48) (dec_lt b 58)
     go (no h) (yes k) = place_in_run b 48 10 (omega arith) k
     go (no h) (no k) = none (λ m. omega arith)
 
--- where there is no digit: its value is 10
-pub digit_none : (b : ℕ) → ltb (digit_of b) 10 ≡ false → digit_of b ≡ 10
-digit_none b f = go (dec_lt b 48) (dec_lt b 58)
-  where
-    go : Dec (b < 48) → Dec (b < 58) → digit_of b ≡ 10
-    go (yes h) k = place_past_run b 48 10 (λ m. absurd (omega arith))
-    go (no h) (yes k) = absurd (let e = place_in_run b 48 10 (omega arith) k in let m = ltb-false (digit_of b) 10 f in omega arith)
-    go (no h) (no k) = place_past_run b 48 10 (λ m. omega arith)
+pub is_digit : (b : ℕ) (x : Option ℕ) → Digit b x → ltb (digit_of b) 10 ≡ is_some x
+is_digit b None h = h
+is_digit b (Some d) h = h.0
 
 -- ---- Numbers
 
@@ -104,10 +106,6 @@ leading_zero : (b : ℕ) (ds : List ℕ) → is_number (0 ∷ b ∷ ds) ≡ fals
 unfolding is_number
 leading_zero b ds = rw (ne_eqb (length (b ∷ ds)) 0 (λ e. omega arith)) (and-false (leb (length (b ∷ ds)) 2))
 
-digit_zero : (a : ℕ) → a ≡ 48 → digit_of a ≡ 0
-unfolding place_of
-digit_zero a e = rw e
-
 -- A number's cases: a, b, c and d are the bytes at its four first places, u, v and w the values of those that are digits.
 module _ (s : List ℕ) (at a : ℕ) (ha : a ≡ get_or s at 0) where
   pub number_none : ltb (digit_of a) 10 ≡ false → number (drop at s) ≡ unfit
@@ -115,7 +113,7 @@ module _ (s : List ℕ) (at a : ℕ) (ha : a ≡ get_or s at 0) where
   number_none f = rw (digits_end s at a ha f)
 
   module _ (ta : ltb (digit_of a) 10 ≡ true) (b : ℕ) (hb : b ≡ get_or s (at + 1) 0) where
-    pub number_one : ltb (digit_of b) 10 ≡ false → (u : ℕ) → u ≡ digit_of a % 10 → number (drop at s) ≡ took u (drop (at + 1) s)
+    pub number_one : ltb (digit_of b) 10 ≡ false → (u : ℕ) → u ≡ digit_of a → number (drop at s) ≡ took u (drop (at + 1) s)
     unfolding number is_number decimal_value
     number_one f u eu =
         let e : 0 + digit_of a ≡ u = omega (arith, ltb-true (digit_of a) 10 ta) in
@@ -125,15 +123,15 @@ module _ (s : List ℕ) (at a : ℕ) (ha : a ≡ get_or s at 0) where
       two_more : digits_at (drop at s) ≡ (digit_of a ∷ digit_of b ∷ (digits_at (drop (at + 2) s)).0, (digits_at (drop (at + 2) s)).1)
       two_more = rw (digits_more s at (at + 1) a ha refl ta, digits_more s (at + 1) (at + 2) b hb (omega arith) tb)
 
-      pub number_zero : a ≡ 48 → number (drop at s) ≡ unfit
+      pub number_zero : digit_of a ≡ 0 → number (drop at s) ≡ unfit
       unfolding number
-      number_zero e = rw (two_more, digit_zero a e, leading_zero (digit_of b) (digits_at (drop (at + 2) s)).0)
+      number_zero e = rw (two_more, e, leading_zero (digit_of b) (digits_at (drop (at + 2) s)).0)
 
-      module _ (za : a ≡ 48 → ⊥) (c : ℕ) (hc : c ≡ get_or s (at + 2) 0) where
+      module _ (za : digit_of a ≡ 0 → ⊥) (c : ℕ) (hc : c ≡ get_or s (at + 2) 0) where
         not_zero : eqb (digit_of a) 0 ≡ false
-        not_zero = ne_eqb (digit_of a) 0 (λ e. za (let k = digit_code a ta in omega arith))
+        not_zero = ne_eqb (digit_of a) 0 za
 
-        pub number_two : ltb (digit_of c) 10 ≡ false → (u v : ℕ) → u ≡ digit_of a % 10 → v ≡ digit_of b % 10 → number (drop at s) ≡ took (u * 10 + v) (drop (at + 2) s)
+        pub number_two : ltb (digit_of c) 10 ≡ false → (u v : ℕ) → u ≡ digit_of a → v ≡ digit_of b → number (drop at s) ≡ took (u * 10 + v) (drop (at + 2) s)
         unfolding number is_number decimal_value
         number_two f u v eu ev =
             let e : (0 + digit_of a) * 10 + digit_of b ≡ u * 10 + v = omega (arith, ltb-true (digit_of a) 10 ta, ltb-true (digit_of b) 10 tb) in
@@ -143,12 +141,12 @@ module _ (s : List ℕ) (at a : ℕ) (ha : a ≡ get_or s at 0) where
           three_more : digits_at (drop at s) ≡ (digit_of a ∷ digit_of b ∷ digit_of c ∷ (digits_at (drop (at + 3) s)).0, (digits_at (drop (at + 3) s)).1)
           three_more = rw (two_more, digits_more s (at + 2) (at + 3) c hc (omega arith) tc)
 
-          number_long : ltb (digit_of d) 10 ≡ true → number (drop at s) ≡ unfit
+          pub number_long : ltb (digit_of d) 10 ≡ true → number (drop at s) ≡ unfit
           unfolding number
           number_long t =
               rw (three_more, digits_more s (at + 3) (at + 4) d hd (omega arith) t, four_digits (digit_of a) (digit_of b) (digit_of c) (digit_of d) (digits_at (drop (at + 4) s)).0)
 
-          number_whole : ltb (digit_of d) 10 ≡ false → (u v w : ℕ) → u ≡ digit_of a % 10 → v ≡ digit_of b % 10 → w ≡ digit_of c % 10
+          pub number_whole : ltb (digit_of d) 10 ≡ false → (u v w : ℕ) → u ≡ digit_of a → v ≡ digit_of b → w ≡ digit_of c
               → number (drop at s) ≡ took (u * 100 + v * 10 + w) (drop (at + 3) s)
           unfolding number is_number decimal_value
           number_whole f u v w eu ev ew =
@@ -156,13 +154,12 @@ module _ (s : List ℕ) (at a : ℕ) (ha : a ≡ get_or s at 0) where
               omega (arith, ltb-true (digit_of a) 10 ta, ltb-true (digit_of b) 10 tb, ltb-true (digit_of c) 10 tc) in
               rw (three_more, digits_end s (at + 3) d hd f, not_zero, e)
 
-          pub number_three : (u v w : ℕ) → u ≡ digit_of a % 10 → v ≡ digit_of b % 10 → w ≡ digit_of c % 10
-              → number (drop at s) ≡ cond (not (ltb (digit_of d) 10)) (took (u * 100 + v * 10 + w) (drop (at + 3) s)) unfit
-          number_three u v w eu ev ew = by_bool (ltb (digit_of d) 10)
-              (λ t. rw t (number_long t))
-              (λ f. rw f (number_whole f u v w eu ev ew))
-
 -- ---- Operands
+
+-- the word of an operand is one more where it takes
+pub taken_word : (t : Bool) {x : ℕ} → x ≡ bool_byte t → x ≡ cond t 1 0
+taken_word true h = h
+taken_word false h = h
 
 -- no text begins with both words
 read_or_take : (l : List ℕ) → begins (bytes "(read ") l ≡ true → begins (bytes "(take ") l ≡ false
@@ -170,28 +167,39 @@ read_or_take l r = by_bool (begins (bytes "(take ") l)
     (λ t. let e : ◌≡◌ {A = ℕ} 114 116 = ap (λ k. get_or k 1 0) (sym (begins_front (bytes "(read ") l r) ∙ begins_front (bytes "(take ") l t) in absurd (omega arith))
     (λ f. f)
 
-module _ (s : List ℕ) (at slot end : ℕ) (ok : Bool) (h : number (drop (at + 6) s) ≡ cond ok (took slot (drop end s)) unfit) where
-  operand_by_begins : (w : List ℕ) (f : ℕ → Operand) → length w ≡ 6
-      → operand_by w f (drop at s) ≡ cond (begins w (drop at s) && (ok && begins (bytes ")") (drop end s))) (took (f slot) (drop (end + 1) s)) unfit
-  unfolding operand_by ◌>>=◌
-  operand_by_begins w f n =
-      let a : drop (length w) (drop at s) ≡ drop (at + 6) s = rw n (drop-drop 6 at s) in
-      let z : drop 1 (drop end s) ≡ drop (end + 1) s = drop-drop 1 end s in
-      by_bool (begins w (drop at s))
-      (λ t. by_bool ok
-      (λ k. by_bool (begins (bytes ")") (drop end s))
-      (λ u. rw (literal_begins w (drop at s), t, a, h, k, literal_begins (bytes ")") (drop end s), u, z))
-      (λ u. rw (literal_begins w (drop at s), t, a, h, k, literal_begins (bytes ")") (drop end s), u)))
-      (λ k. rw (literal_begins w (drop at s), t, a, h, k)))
-      (λ t. rw (literal_begins w (drop at s), t))
+operand_by_begins : (s : List ℕ) (at slot end : ℕ) (w : List ℕ) (f : ℕ → Operand) → number (drop (at + 6) s) ≡ took slot (drop end s) → length w ≡ 6
+    → operand_by w f (drop at s) ≡ cond (begins w (drop at s) && begins (bytes ")") (drop end s)) (took (f slot) (drop (end + 1) s)) unfit
+unfolding operand_by ◌>>=◌
+operand_by_begins s at slot end w f h n =
+    let a : drop (length w) (drop at s) ≡ drop (at + 6) s = rw n (drop-drop 6 at s) in
+    let z : drop 1 (drop end s) ≡ drop (end + 1) s = drop-drop 1 end s in
+    by_bool (begins w (drop at s))
+    (λ t. by_bool (begins (bytes ")") (drop end s))
+    (λ u. rw (literal_begins w (drop at s), t, a, h, literal_begins (bytes ")") (drop end s), u, z))
+    (λ u. rw (literal_begins w (drop at s), t, a, h, literal_begins (bytes ")") (drop end s), u)))
+    (λ t. rw (literal_begins w (drop at s), t))
 
+-- where no number stands in it
+no_operand_by : (s : List ℕ) (at : ℕ) (w : List ℕ) (f : ℕ → Operand) → number (drop (at + 6) s) ≡ unfit → length w ≡ 6 → operand_by w f (drop at s) ≡ unfit
+unfolding operand_by ◌>>=◌
+no_operand_by s at w f h n =
+    let a : drop (length w) (drop at s) ≡ drop (at + 6) s = rw n (drop-drop 6 at s) in
+    by_bool (begins w (drop at s))
+    (λ t. rw (literal_begins w (drop at s), t, a, h))
+    (λ t. rw (literal_begins w (drop at s), t))
+
+pub operand_none : (s : List ℕ) (at : ℕ) → number (drop (at + 6) s) ≡ unfit → operand (drop at s) ≡ unfit
+unfolding operand or_else
+operand_none s at h = rw (no_operand_by s at (bytes "(read ") reads h refl, no_operand_by s at (bytes "(take ") takes h refl)
+
+module _ (s : List ℕ) (at slot end : ℕ) (h : number (drop (at + 6) s) ≡ took slot (drop end s)) where
   pub operand_begins : (r t : Bool) (taken : ℕ) → r ≡ begins (bytes "(read ") (drop at s) → t ≡ begins (bytes "(take ") (drop at s) → taken ≡ cond t 1 0
       → operand (drop at s)
-      ≡ cond ((r || t) && (ok && begins (bytes ")") (drop end s))) (took (operand_of (slot * 2 + taken)) (drop (end + 1) s)) unfit
+      ≡ cond ((r || t) && begins (bytes ")") (drop end s)) (took (operand_of (slot * 2 + taken)) (drop (end + 1) s)) unfit
   unfolding operand or_else
   operand_begins r t taken hr ht e =
-      rw (operand_by_begins (bytes "(read ") reads refl, operand_by_begins (bytes "(take ") takes refl, ← hr, ← ht)
-      (go r t (ok && begins (bytes ")") (drop end s)) (λ k. ht ∙ read_or_take (drop at s) (sym hr ∙ k)) e)
+      rw (operand_by_begins s at slot end (bytes "(read ") reads h refl, operand_by_begins s at slot end (bytes "(take ") takes h refl, ← hr, ← ht)
+      (go r t (begins (bytes ")") (drop end s)) (λ k. ht ∙ read_or_take (drop at s) (sym hr ∙ k)) e)
     where
       go : (r t x : Bool) → (r ≡ true → t ≡ false) → taken ≡ cond t 1 0
           → or_else (cond (r && x) (took (reads slot) (drop (end + 1) s)) unfit) (cond (t && x) (took (takes slot) (drop (end + 1) s)) unfit)
@@ -210,25 +218,25 @@ module _ (s : List ℕ) (at slot end : ℕ) (ok : Bool) (h : number (drop (at + 
       go false false x k e = refl
 
 -- where a digit and a closing bracket stand at their places, the slot is that digit
-closes : (s : List ℕ) (at b : ℕ) → b ≡ get_or s at 0 → eqb b (code ")") ≡ true → begins (bytes ")") (drop at s) ≡ true
+closes : (s : List ℕ) (at b : ℕ) → b ≡ get_or s at 0 → b ≡ code ")" → begins (bytes ")") (drop at s) ≡ true
 unfolding begins
 closes s at b e t = go (dec_lt at (length s))
   where
     go : Dec (at < length s) → begins (bytes ")") (drop at s) ≡ true
     go (yes h) = rw (drop_next s at (at + 1) h refl, ← e, t)
-    go (no n) = absurd (omega (arith, eqb-true b (code ")") t, get_or-eq_default s 0 {n = at} (omega arith)))
+    go (no n) = absurd (omega (arith, get_or-eq_default s 0 {n = at} (omega arith)))
 
-bracket_no_digit : (b : ℕ) → eqb b (code ")") ≡ true → ltb (digit_of b) 10 ≡ false
-bracket_no_digit b t = digit_low b (omega (arith, eqb-true b (code ")") t))
+bracket_no_digit : (b : ℕ) → b ≡ code ")" → ltb (digit_of b) 10 ≡ false
+bracket_no_digit b t = digit_low b (omega arith)
 
-pub operand_short : (s : List ℕ) (at a b u : ℕ) → a ≡ get_or s (at + 6) 0 → b ≡ get_or s (at + 7) 0 → ltb (digit_of a) 10 ≡ true → eqb b (code ")") ≡ true → u ≡ digit_of a % 10
+pub operand_short : (s : List ℕ) (at a b u : ℕ) → a ≡ get_or s (at + 6) 0 → b ≡ get_or s (at + 7) 0 → ltb (digit_of a) 10 ≡ true → b ≡ code ")" → u ≡ digit_of a
     → (r t : Bool) (taken : ℕ) → r ≡ begins (bytes "(read ") (drop at s) → t ≡ begins (bytes "(take ") (drop at s) → taken ≡ cond t 1 0
     → operand (drop at s) ≡ cond (r || t) (took (operand_of (u * 2 + taken)) (drop (at + 8) s)) unfit
 operand_short s at a b u ha hb ta tb eu r t taken hr ht e =
     let next : at + 6 + 1 ≡ at + 7 = omega arith in
     let past : at + 7 + 1 ≡ at + 8 = omega arith in
     let slot : number (drop (at + 6) s) ≡ took u (drop (at + 7) s) = rw next at (number_one s (at + 6) a ha ta b (rw next hb) (bracket_no_digit b tb) u eu) in
-    rw (closes s (at + 7) b hb tb, and-true, past) at (operand_begins s at u (at + 7) true slot r t taken hr ht e)
+    rw (closes s (at + 7) b hb tb, and-true, past) at (operand_begins s at u (at + 7) slot r t taken hr ht e)
 
 -- ---- Capabilities
 

@@ -17,10 +17,12 @@ use Rattle.rules.specs.Tables.{operand_item, line_words, row, operand_of, cap_of
 use Rattle.rules.proofs.ListLaws.{by_bool, or_false}
 use Rattle.rules.proofs.TableWords.{slot_of_word}
 use Rattle.grammar.specs.Items.{past, Listed}
-use Rattle.grammar.specs.Decoded.{over_line, line_row, Tells, PlaceRest}
+use Rattle.rules.specs.Forms.{form_number}
+use Rattle.rules.specs.declared.forms.Form.{Form as FormName}
+use Rattle.rules.specs.declared.forms.Form.TheVariants as N
+use Rattle.grammar.specs.Decoded.{over_line, line_row, Tells, Opener, OperandLine, PlaceLine}
 use Rattle.grammar.specs.declared.forms.Line.{Line}
 use Rattle.grammar.specs.declared.parts.Items.{Items}
-use Rattle.grammar.proofs.Told.{OperandRest}
 use Rattle.grammar.proofs.OperandWords.{operand_word_lem, operand_first, cap_rank}
 
 -- ---- Lines of a fixed number of words
@@ -31,41 +33,41 @@ unfolding row line_words pad over_line over255 slots_in targets_in operands_in n
 what_forms_name = tt
 
 -- the row of a short line
-pub short_row : (r : Line) {ok : Bool} {form a b c : ℕ}
-    → (r.ok ≡ ok) × (r.form ≡ form) × (r.a ≡ a) × (r.b ≡ b) × (r.c ≡ c) × (r.d ≡ 0) × (r.e ≡ 0) × (r.f ≡ 0)
-    → line_row r ≡ form ∷ a ∷ b ∷ c ∷ 0 ∷ 0 ∷ 0 ∷ 0 ∷ []
-short_row r e = rw (e.1, e.2, e.3, e.4, e.5, e.6, e.7)
+pub short_row : (r : Line) {form : FormName} {a b c : ℕ}
+    → (r.form ≡ form) × (r.a ≡ a) × (r.b ≡ b) × (r.c ≡ c) × (r.d ≡ 0) × (r.e ≡ 0) × (r.f ≡ 0)
+    → line_row r ≡ form_number form ∷ a ∷ b ∷ c ∷ 0 ∷ 0 ∷ 0 ∷ 0 ∷ []
+short_row r e = rw (e.0, e.1, e.2, e.3, e.4, e.5, e.6)
 
 -- where the whole row is known
 tells : {r : Line} (F : Form) → line_row r ≡ row F → r.over ≡ over_line F → r.need ≡ past (slots_in F) → r.own ≡ any takes_first (operands_in F) → Tells r F
 tells F w o n t = record { number = ap (λ (l : List ℕ). get_or l 0 0) w; part = ap (λ (l : List ℕ). get_or l 1 0) w; words = λ _. w; over = o; need = n; own = t }
 
-module _ {s : List ℕ} {at : ℕ} {before : Bool} {r : Line} where
-  pub give_tells : (R : OperandRest 4 before s at r) → Tells r (line (give R.operand))
+module _ {w s : List ℕ} {at : ℕ} {r : Line} where
+  pub thread_tells : Opener N.Thread w s at r → Tells r (opens thread)
+  unfolding what_forms_name
+  thread_tells R = tells (opens thread) R.words R.over R.need R.own
+
+  pub method_tells : Opener N.Method w s at r → Tells r (opens method)
+  unfolding what_forms_name
+  method_tells R = tells (opens method) R.words R.over R.need R.own
+
+  pub give_tells : (R : OperandLine N.Give w s at r) → Tells r (line (give R.operand))
   unfolding what_forms_name
   give_tells R = tells (line (give R.operand)) R.words (simp or-false R.over) (simp max-zero R.need) (simp or-false R.own)
 
-  pub value_tells : (R : OperandRest 5 before s at r) → Tells r (line (bind (value R.operand)))
+  pub value_tells : (R : OperandLine N.Value w s at r) → Tells r (line (bind (value R.operand)))
   unfolding what_forms_name
   value_tells R = tells (line (bind (value R.operand))) R.words (simp or-false R.over) (simp max-zero R.need) (simp or-false R.own)
 
-  pub swap_tells : (R : PlaceRest 7 before s at r) → Tells r (line (bind (swap R.target R.number R.operand)))
+  pub swap_tells : (R : PlaceLine N.Swap w s at r) → Tells r (line (bind (swap R.target R.number R.operand)))
   unfolding what_forms_name
   swap_tells R = tells (line (bind (swap R.target R.number R.operand))) R.words (simp or-false R.over) (simp max-zero R.need) (simp or-false R.own)
 
-  pub call_tells : (R : PlaceRest 8 before s at r) → Tells r (line (bind (call R.target R.number R.operand)))
+  pub call_tells : (R : PlaceLine N.Call w s at r) → Tells r (line (bind (call R.target R.number R.operand)))
   unfolding what_forms_name
   call_tells R = tells (line (bind (call R.target R.number R.operand))) R.words (simp or-false R.over) (simp max-zero R.need) (simp or-false R.own)
 
 module _ {r : Line} where
-  pub thread_tells : line_row r ≡ 2 ∷ 0 ∷ 0 ∷ 0 ∷ 0 ∷ 0 ∷ 0 ∷ 0 ∷ [] → r.over ≡ false → r.need ≡ 0 → r.own ≡ false → Tells r (opens thread)
-  unfolding what_forms_name
-  thread_tells w o n t = tells (opens thread) w o n t
-
-  pub method_tells : line_row r ≡ 3 ∷ 0 ∷ 0 ∷ 0 ∷ 0 ∷ 0 ∷ 0 ∷ 0 ∷ [] → r.over ≡ false → r.need ≡ 0 → r.own ≡ false → Tells r (opens method)
-  unfolding what_forms_name
-  method_tells w o n t = tells (opens method) w o n t
-
   pub field_tells : (s f : ℕ) → line_row r ≡ 6 ∷ s ∷ f ∷ 0 ∷ 0 ∷ 0 ∷ 0 ∷ 0 ∷ [] → r.over ≡ (ltb Most.number s || ltb Most.number f) → r.need ≡ s + 1 → r.own ≡ false
       → Tells r (line (bind (field s f)))
   unfolding what_forms_name

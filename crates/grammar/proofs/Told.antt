@@ -1,154 +1,179 @@
--- A form is read straight on: each part at the place where the part before it ends if it fits; the form fits where all parts do.
+-- A form is read straight on: each part at the place where the part before it ends; the form fits where all parts do.
 use Prim.Native.Nat.{ℕ, ◌+◌}
 use mathlib.Core.Path.{◌≡◌, refl, sym}
-use mathlib.Core.Bool.{Bool, true, false, ◌&&◌, cond, and-true, and_assoc}
+use mathlib.Core.Bool.{true, false, false≢true}
 use mathlib.Core.List.{List, [], ◌∷◌, ◌++◌, map}
-use lib.Dec.{eqb, ltb}
+use lib.Dec.{eqb}
 use lib.ListN.{length, drop}
 use lib.Seq.{drop-drop}
-use Rattle.rules.specs.Templates.{Taken, took, unfit, ◌>>=◌, literal, number, operand, capability, many, Part, character, one_number, one_operand, one_cap, many_numbers, many_operands, template, Holds, fit}
-use Rattle.rules.specs.Mosts as Most
+use Rattle.std.proofs.Common.{Option, None}
 use Rattle.rules.specs.Script.{Operand}
-use Rattle.rules.specs.Reading.{slot_of, takes_first}
-use Rattle.rules.specs.Tables.{operand_word, operand_of, cap_of}
-use Rattle.rules.proofs.ListLaws.{by_bool, impossible}
+use Rattle.rules.specs.declared.Cap.{Cap}
+use Rattle.rules.specs.Templates.{Taken, took, unfit, ◌>>=◌, literal, number, operand, capability, many, Part, character, one_number, one_operand, one_cap, many_numbers, many_operands, Holds, fit, rule_at}
+use Rattle.rules.proofs.ListLaws.{by_bool, and_true, impossible}
 use Rattle.grammar.specs.Words.{begins}
-use Rattle.grammar.specs.Items.{NumbersAt, OperandsAt}
-use Rattle.grammar.specs.Decoded.{line_row, place_rest, PlaceRest}
+use Rattle.grammar.specs.Decoded.{FormAt, after_word}
 use Rattle.grammar.specs.declared.forms.Line.{Line}
-use Rattle.grammar.specs.declared.parts.Part.{Part as Read}
-use Rattle.grammar.specs.declared.parts.Items.{Items}
 
--- the template fits at a place where `ok` is true, with parts p, and ends at e
-pub record Told (t : List Part) (s : List ℕ) (at : ℕ) (ok : Bool) (p : Holds t) (e : ℕ) : Type 0 where
-  pub fits : fit t (drop at s) ≡ cond ok (took p (drop e s)) unfit
+-- the template fits at a place, with parts p, and ends at e; or it does not fit
+pub record Fits (t : List Part) (s : List ℕ) (at : ℕ) (p : Holds t) (e : ℕ) : Type 0 where
+  pub fits : fit t (drop at s) ≡ took p (drop e s)
 
--- "W)" with its LF, the rest of a give and of a let that has an operand alone; `before` says whether what stands before it fits
-abbrev pub operand_rest : List Part
-operand_rest = template "W)\n"
-
-pub record OperandRest (form : ℕ) (before : Bool) (s : List ℕ) (at : ℕ) (r : Line) : Type 0 where
-  pub operand : Operand
-  pub fits : cond before (fit operand_rest (drop at s)) unfit ≡ cond r.ok (took (operand, tt) (drop r.end s)) unfit
-  pub words : line_row r ≡ form ∷ operand_word operand ∷ 0 ∷ 0 ∷ 0 ∷ 0 ∷ 0 ∷ 0 ∷ []
-  pub over : r.over ≡ ltb Most.number (slot_of operand)
-  pub need : r.need ≡ slot_of operand + 1
-  pub own : r.own ≡ takes_first operand
+pub record Fails (t : List Part) (s : List ℕ) (at : ℕ) : Type 0 where
+  pub fails : fit t (drop at s) ≡ unfit
 
 -- characters hold no part
 abbrev pub through : (w : List ℕ) (t : List Part) → Holds t → Holds (map character w ++ t)
 through [] t p = p
 through (c ∷ w) t p = through w t p
 
--- where nothing fits, the parts do not matter
-unfit_any : {A B : Type 0} (ok : Bool) (a : A) (b : B) (l : List ℕ) → unfit ≡ cond ok (took a l) unfit → unfit ≡ cond ok (took b l) unfit
-unfit_any true a b l h = impossible (cc)
-unfit_any false a b l h = refl
-
 -- a template after a fixed word fits where the word stands and then the template fits
-word_fits : (w : List ℕ) (t : List Part) (l : List ℕ) (ok : Bool) (p : Holds t) (rest : List ℕ)
-    → cond (begins w l) (fit t (drop (length w) l)) unfit ≡ cond ok (took p rest) unfit
-    → fit (map character w ++ t) l ≡ cond ok (took (through w t p) rest) unfit
-unfolding begins fit literal ◌>>=◌
-word_fits [] t l ok p rest h = h
-word_fits (c ∷ w) t [] ok p rest h = unfit_any ok p (through w t p) rest h
-word_fits (c ∷ w) t (x ∷ l) ok p rest h = by_bool (eqb x c)
-    (λ y. rw y (word_fits w t l ok p rest (rw y at h)))
-    (λ y. rw y (unfit_any ok p (through w t p) rest (rw y at h)))
+module _ (t : List Part) where
+  word_fits : (w l : List ℕ) (p : Holds t) (rest : List ℕ) → begins w l ≡ true → fit t (drop (length w) l) ≡ took p rest
+      → fit (map character w ++ t) l ≡ took (through w t p) rest
+  unfolding begins fit literal ◌>>=◌
+  word_fits [] l p rest h k = k
+  word_fits (c ∷ w) [] p rest h k = absurd (false≢true h)
+  word_fits (c ∷ w) (x ∷ l) p rest h k = let q = and_true (eqb x c) (begins w l) h in rw q.0 (word_fits w l p rest q.1 k)
 
--- two words one after the other
-begins_both : (v w l : List ℕ) → begins (v ++ w) l ≡ (begins v l && begins w (drop (length v) l))
-unfolding begins
-begins_both [] w l = refl
-begins_both (c ∷ v) w [] = refl
-begins_both (c ∷ v) w (x ∷ l) = rw (begins_both v w l) (sym (and_assoc (eqb x c) (begins v l) (begins w (drop (length v) l))))
+  word_fails : (w l : List ℕ) → begins w l ≡ false → fit (map character w ++ t) l ≡ unfit
+  unfolding begins fit literal ◌>>=◌
+  word_fails [] l h = absurd (false≢true (sym h))
+  word_fails (c ∷ w) [] h = refl
+  word_fails (c ∷ w) (x ∷ l) h = by_bool (eqb x c) (λ y. rw y (word_fails w l (rw y at h))) (λ y. rw y)
+
+  rest_fails : (w l : List ℕ) → fit t (drop (length w) l) ≡ unfit → fit (map character w ++ t) l ≡ unfit
+  unfolding fit literal ◌>>=◌
+  rest_fails [] l h = h
+  rest_fails (c ∷ w) [] h = refl
+  rest_fails (c ∷ w) (x ∷ l) h = by_bool (eqb x c) (λ y. rw y (rest_fails w l h)) (λ y. rw y)
 
 abbrev pair : {A B : Type 0} → A → B → A × B
 pair a b = (a, b)
 
 -- one part and then the others
-part_fits : {A B : Type 0} {x : Taken A} (f : List ℕ → Taken B) (b ok : Bool) (a : A) (p : B) (l₁ l₂ : List ℕ)
-    → x ≡ cond b (took a l₁) unfit → f l₁ ≡ cond ok (took p l₂) unfit
-    → (x >>= λ a l. f l >>= λ p l. took (pair a p) l) ≡ cond (b && ok) (took (pair a p) l₂) unfit
-unfolding ◌>>=◌
-part_fits f true true a p l₁ l₂ h g = rw (h, g)
-part_fits f true false a p l₁ l₂ h g = rw (h, g)
-part_fits f false ok a p l₁ l₂ h g = rw h
+module _ {A B : Type 0} {x : Taken A} (f : List ℕ → Taken B) where
+  part_fits : (a : A) (p : B) (l₁ l₂ : List ℕ) → x ≡ took a l₁ → f l₁ ≡ took p l₂ → (x >>= λ a l. f l >>= λ p l. took (pair a p) l) ≡ took (pair a p) l₂
+  unfolding ◌>>=◌
+  part_fits a p l₁ l₂ h g = rw (h, g)
+
+  part_fails : x ≡ unfit → (x >>= λ a l. f l >>= λ p l. took (pair a p) l) ≡ unfit
+  unfolding ◌>>=◌
+  part_fails h = rw h
+
+  others_fail : (a : A) (l₁ : List ℕ) → x ≡ took a l₁ → f l₁ ≡ unfit → (x >>= λ a l. f l >>= λ p l. took (pair a p) l) ≡ unfit
+  unfolding ◌>>=◌
+  others_fail a l₁ h g = rw (h, g)
+
+-- what comes after a word that tells the form
+module _ (w : List ℕ) (t : List Part) (s : List ℕ) (at : ℕ) where
+  pub after_fits : (p : Holds t) (end : ℕ) → after_word w t s at ≡ took p (drop end s) → fit (map character w ++ t) (drop at s) ≡ took (through w t p) (drop end s)
+  after_fits p end h = by_bool (begins w (drop at s))
+      (λ y. word_fits t w (drop at s) p (drop end s) y (rw (drop-drop (length w) at s) (rw y at h)))
+      (λ y. let k = rw y at h in impossible cc)
+
+  pub after_fails : after_word w t s at ≡ unfit → fit (map character w ++ t) (drop at s) ≡ unfit
+  after_fails h = by_bool (begins w (drop at s))
+      (λ y. rest_fails t w (drop at s) (rw (drop-drop (length w) at s) (rw y at h)))
+      (λ y. word_fails t w (drop at s) y)
+
+  pub begins_not : begins w (drop at s) ≡ false → after_word w t s at ≡ unfit
+  begins_not h = rw h
+
+  module _ {e : ℕ} (h : (begins w (drop at s) ≡ true) × (e ≡ at + length w)) where
+    pub begins_then : {p : Holds t} {end last : ℕ} → Fits t s e p last → end ≡ last → after_word w t s at ≡ took p (drop end s)
+    begins_then T g = rw (h.0, ← h.1, g) T.fits
+
+    pub begins_past : Fails t s e → after_word w t s at ≡ unfit
+    begins_past T = rw (h.0, ← h.1) T.fails
 
 module _ {s : List ℕ} where
   -- nothing is left to read
-  done : {at : ℕ} → Told [] s at true tt at
+  pub done : {at : ℕ} → Fits [] s at tt at
   unfolding fit
   done = record { fits = refl }
 
-  -- as the code has it: whether it fits, and its end; and the same where what stands before it must fit too
-  pub fits_as : {t : List Part} (at : ℕ) {ok k : Bool} {p : Holds t} {e end : ℕ} → Told t s at ok p e → k ≡ ok → end ≡ e
-      → fit t (drop at s) ≡ cond k (took p (drop end s)) unfit
-  fits_as at T h g = rw (h, g) T.fits
+  pub fits_at : {t : List Part} {at : ℕ} {p : Holds t} {e : ℕ} (end : ℕ) → Fits t s at p e → end ≡ e → fit t (drop at s) ≡ took p (drop end s)
+  fits_at end T g = rw g T.fits
 
-  pub after : {t : List Part} (before : Bool) (at : ℕ) {ok k : Bool} {p : Holds t} {e end : ℕ} → Told t s at ok p e → k ≡ (before && ok) → end ≡ e
-      → cond before (fit t (drop at s)) unfit ≡ cond k (took p (drop end s)) unfit
-  after true at T h g = fits_as at T h g
-  after false at T h g = rw h
+  -- the form does not fit, and so there is no line
+  pub no_line : (i at : ℕ) (x : Option Line) → x ≡ None → Fails (rule_at i).template s at → FormAt i s at x
+  no_line i at x e F = rw e F.fails
 
-  -- a fixed word
-  starts : (w : List ℕ) (t : List Part) (p : Holds t) {at : ℕ} {b ok : Bool} {e : ℕ} → b ≡ begins w (drop at s)
-      → cond b (fit t (drop (at + length w) s)) unfit ≡ cond ok (took p (drop e s)) unfit → Told (map character w ++ t) s at ok (through w t p) e
-  starts w t p {at} {b} {ok} {e} h k = record { fits = word_fits w t (drop at s) ok p (drop e s) (rw (drop-drop (length w) at s, ← h) k) }
+  module _ (w : List ℕ) {t : List Part} {at : ℕ} where
+    -- a fixed word, which ends at e
+    pub word : {p : Holds t} {e end : ℕ} → (begins w (drop at s) ≡ true) × (e ≡ at + length w) → Fits t s e p end → Fits (map character w ++ t) s at (through w t p) end
+    word {p} {e} {end} h T = record { fits = word_fits t w (drop at s) p (drop end s) h.0 (rw (drop-drop (length w) at s, ← h.1) T.fits) }
 
-  starts_both : (v w : List ℕ) (t : List Part) (p : Holds t) {at : ℕ} {a b k ok : Bool} {e : ℕ} → k ≡ (a && b) → a ≡ begins v (drop at s)
-      → b ≡ begins w (drop (at + length v) s) → cond k (fit t (drop (at + length (v ++ w)) s)) unfit ≡ cond ok (took p (drop e s)) unfit
-      → Told (map character (v ++ w) ++ t) s at ok (through (v ++ w) t p) e
-  starts_both v w t p {at} {k = k} h f g m = starts (v ++ w) t p {at = at} {b = k} (rw (h, f, g, begins_both v w (drop at s), drop-drop (length v) at s)) m
+    pub past : {e : ℕ} → (begins w (drop at s) ≡ true) × (e ≡ at + length w) → Fails t s e → Fails (map character w ++ t) s at
+    past {e} h T = record { fails = rest_fails t w (drop at s) (rw (drop-drop (length w) at s, ← h.1) T.fails) }
 
-  pub word : (w : List ℕ) {t : List Part} {at : ℕ} {b ok : Bool} {p : Holds t} {e : ℕ} → b ≡ begins w (drop at s)
-      → Told t s (at + length w) ok p e → Told (map character w ++ t) s at (b && ok) (through w t p) e
-  word w {t} {at} {b} {p = p} h T = starts w t p h (after b (at + length w) T refl refl)
-
-  pub two_words : (v w : List ℕ) {t : List Part} {at : ℕ} {a b ok : Bool} {p : Holds t} {e : ℕ} → a ≡ begins v (drop at s) → b ≡ begins w (drop (at + length v) s)
-      → Told t s (at + length (v ++ w)) ok p e → Told (map character (v ++ w) ++ t) s at (a && (b && ok)) (through (v ++ w) t p) e
-  two_words v w {t} {at} {a} {b} {ok} {p} f g T = starts_both v w t p refl f g (after (a && b) (at + length (v ++ w)) T (sym (and_assoc a b ok)) refl)
-
-  -- the last word
-  pub last : (w : List ℕ) {at : ℕ} {b : Bool} → b ≡ begins w (drop at s) → Told (map character w ++ []) s at b (through w [] tt) (at + length w)
-  last w {at} {b} h = rw (← and-true b) (word w h done)
+  pub no_word : (w : List ℕ) (t : List Part) {at : ℕ} → begins w (drop at s) ≡ false → Fails (map character w ++ t) s at
+  no_word w t {at} h = record { fails = word_fails t w (drop at s) h }
 
   -- a number, an operand, a capability, numbers, operands
-  module _ {t : List Part} {at e : ℕ} {ok : Bool} {p : Holds t} where
-    pub a_number : (x : Read) → number (drop at s) ≡ cond x.ok (took x.word (drop x.end s)) unfit → Told t s x.end ok p e
-        → Told (one_number ∷ t) s at (x.ok && ok) (x.word, p) e
+  module _ {t : List Part} {at : ℕ} where
+    module _ {n e : ℕ} (h : number (drop at s) ≡ took n (drop e s)) where
+      pub a_number : {p : Holds t} {end : ℕ} → Fits t s e p end → Fits (one_number ∷ t) s at (n, p) end
+      unfolding fit
+      a_number {p} {end} T = record { fits = part_fits (fit t) n p (drop e s) (drop end s) h T.fits }
+
+      pub past_number : Fails t s e → Fails (one_number ∷ t) s at
+      unfolding fit
+      past_number T = record { fails = others_fail (fit t) n (drop e s) h T.fails }
+
+    module _ {w : Operand} {e : ℕ} (h : operand (drop at s) ≡ took w (drop e s)) where
+      pub an_operand : {p : Holds t} {end : ℕ} → Fits t s e p end → Fits (one_operand ∷ t) s at (w, p) end
+      unfolding fit
+      an_operand {p} {end} T = record { fits = part_fits (fit t) w p (drop e s) (drop end s) h T.fits }
+
+      pub past_operand : Fails t s e → Fails (one_operand ∷ t) s at
+      unfolding fit
+      past_operand T = record { fails = others_fail (fit t) w (drop e s) h T.fails }
+
+    module _ {k : Cap} {e : ℕ} (h : capability (drop at s) ≡ took k (drop e s)) where
+      pub a_cap : {p : Holds t} {end : ℕ} → Fits t s e p end → Fits (one_cap ∷ t) s at (k, p) end
+      unfolding fit
+      a_cap {p} {end} T = record { fits = part_fits (fit t) k p (drop e s) (drop end s) h T.fits }
+
+      pub past_cap : Fails t s e → Fails (one_cap ∷ t) s at
+      unfolding fit
+      past_cap T = record { fails = others_fail (fit t) k (drop e s) h T.fails }
+
+    module _ {ns : List ℕ} {e : ℕ} (h : many number (length (drop at s)) (drop at s) ≡ took ns (drop e s)) where
+      pub some_numbers : {p : Holds t} {end : ℕ} → Fits t s e p end → Fits (many_numbers ∷ t) s at (ns, p) end
+      unfolding fit
+      some_numbers {p} {end} T = record { fits = part_fits (fit t) ns p (drop e s) (drop end s) h T.fits }
+
+      pub past_numbers : Fails t s e → Fails (many_numbers ∷ t) s at
+      unfolding fit
+      past_numbers T = record { fails = others_fail (fit t) ns (drop e s) h T.fails }
+
+    module _ {ws : List Operand} {e : ℕ} (h : many operand (length (drop at s)) (drop at s) ≡ took ws (drop e s)) where
+      pub some_operands : {p : Holds t} {end : ℕ} → Fits t s e p end → Fits (many_operands ∷ t) s at (ws, p) end
+      unfolding fit
+      some_operands {p} {end} T = record { fits = part_fits (fit t) ws p (drop e s) (drop end s) h T.fits }
+
+      pub past_operands : Fails t s e → Fails (many_operands ∷ t) s at
+      unfolding fit
+      past_operands T = record { fails = others_fail (fit t) ws (drop e s) h T.fails }
+
+    pub no_number : number (drop at s) ≡ unfit → Fails (one_number ∷ t) s at
     unfolding fit
-    a_number x h T = record { fits = part_fits (fit t) x.ok ok x.word p (drop x.end s) (drop e s) h T.fits }
+    no_number h = record { fails = part_fails (fit t) h }
 
-    pub an_operand : (x : Read) → operand (drop at s) ≡ cond x.ok (took (operand_of x.word) (drop x.end s)) unfit → Told t s x.end ok p e
-        → Told (one_operand ∷ t) s at (x.ok && ok) (operand_of x.word, p) e
+    pub no_operand : operand (drop at s) ≡ unfit → Fails (one_operand ∷ t) s at
     unfolding fit
-    an_operand x h T = record { fits = part_fits (fit t) x.ok ok (operand_of x.word) p (drop x.end s) (drop e s) h T.fits }
+    no_operand h = record { fails = part_fails (fit t) h }
 
-    pub a_cap : (x : Read) → capability (drop at s) ≡ cond x.ok (took (cap_of x.word) (drop x.end s)) unfit → Told t s x.end ok p e
-        → Told (one_cap ∷ t) s at (x.ok && ok) (cap_of x.word, p) e
+    pub no_cap : capability (drop at s) ≡ unfit → Fails (one_cap ∷ t) s at
     unfolding fit
-    a_cap x h T = record { fits = part_fits (fit t) x.ok ok (cap_of x.word) p (drop x.end s) (drop e s) h T.fits }
+    no_cap h = record { fails = part_fails (fit t) h }
 
-    pub numbers_fit : (fits : Bool) (ns : List ℕ) (end : ℕ) → many number (length (drop at s)) (drop at s) ≡ cond fits (took ns (drop end s)) unfit → Told t s end ok p e
-        → Told (many_numbers ∷ t) s at (fits && ok) (ns, p) e
+    pub no_numbers : many number (length (drop at s)) (drop at s) ≡ unfit → Fails (many_numbers ∷ t) s at
     unfolding fit
-    numbers_fit fits ns end h T = record { fits = part_fits (fit t) fits ok ns p (drop end s) (drop e s) h T.fits }
+    no_numbers h = record { fails = part_fails (fit t) h }
 
-    pub some_numbers : {x : Items} (N : NumbersAt s at x) → Told t s x.end ok p e → Told (many_numbers ∷ t) s at (x.ok && ok) (N.items, p) e
-    some_numbers {x} N T = numbers_fit x.ok N.items x.end N.fits T
-
-    pub some_operands : {x : Items} (O : OperandsAt s at x) → Told t s x.end ok p e → Told (many_operands ∷ t) s at (x.ok && ok) (O.items, p) e
+    pub no_operands : many operand (length (drop at s)) (drop at s) ≡ unfit → Fails (many_operands ∷ t) s at
     unfolding fit
-    some_operands {x} O T = record { fits = part_fits (fit t) x.ok ok O.items p (drop x.end s) (drop e s) O.fits T.fits }
-
-  -- a word or two, and then the rest of a give, a let, a swap or a call
-  module _ {form : ℕ} {k : Bool} {r : Line} (at : ℕ) where
-    pub operand_form : (w : List ℕ) (R : OperandRest form k s (at + length w) r) → k ≡ begins w (drop at s)
-        → fit (map character w ++ operand_rest) (drop at s) ≡ cond r.ok (took (through w operand_rest (R.operand, tt)) (drop r.end s)) unfit
-    operand_form w R h = (starts w operand_rest (R.operand, tt) {at = at} {ok = r.ok} {e = r.end} h R.fits).fits
-
-    pub place_form : (v w : List ℕ) {a b : Bool} (R : PlaceRest form k s (at + length (v ++ w)) r) → k ≡ (a && b)
-        → a ≡ begins v (drop at s) → b ≡ begins w (drop (at + length v) s)
-        → fit (map character (v ++ w) ++ place_rest) (drop at s) ≡ cond r.ok (took (through (v ++ w) place_rest (R.target, (R.number, (R.operand, tt)))) (drop r.end s)) unfit
-    place_form v w R h f g = (starts_both v w place_rest (R.target, (R.number, (R.operand, tt))) {at = at} {ok = r.ok} {e = r.end} h f g R.fits).fits
+    no_operands h = record { fails = part_fails (fit t) h }

@@ -3,18 +3,19 @@ use Prim.Native.Nat.{ℕ, zero, suc, ◌+◌, ◌-◌, ◌*◌, ◌/◌, ◌%◌
 use native.Mathlib.Nat.{zero-add, pow-suc, mul_assoc, suc-mul, one-le-pow, pow-le-pow_right, mod-eq_of_lt, div-eq_of_lt, add-mul-mod_self_right, add-mul-div_right}
 use native.Mathlib.Numerals.{add-one}
 use native.Mathlib.Omega.{arith}
-use mathlib.Core.Path.{◌≡◌, refl, ap, ◌∙◌}
-use mathlib.Core.Bool.{true, ◌&&◌, cond, false≢true}
-use mathlib.Core.List.{List, [], ◌∷◌}
+use mathlib.Core.Path.{◌≡◌, refl, sym, ap, ◌∙◌}
+use mathlib.Core.Bool.{true, false, ◌&&◌, cond, false≢true, and_assoc}
+use mathlib.Core.List.{List, [], ◌∷◌, ◌++◌}
 use lib.Dec.{eqb, ltb}
-use lib.ListN.{length, take, drop, get_or, length-drop}
+use lib.ListN.{length, take, drop, get_or, length-append, length-drop}
 use lib.Pow.{pow-add}
 use lib.Seq.{drop-cons, drop-drop, take_all, take-take}
 use borrow.Author.Tests.{eqb-true, eqb-false, eq-eqb, ne_eqb, ltb-true}
 use Rattle.rules.specs.Lists.{all, Every}
 use Rattle.rules.specs.Templates.{took, unfit, literal}
 use Rattle.rules.proofs.ListLaws.{by_bool, and_true, every_take, every_drop}
-use Rattle.grammar.specs.Words.{Byte, word_of, begins, plain}
+use Rattle.std.proofs.Common.{Option, Some, None}
+use Rattle.grammar.specs.Words.{Byte, word_of, begins, plain, After}
 
 -- the characters that stand for themselves fit where the text begins with them
 pub literal_begins : (w l : List ℕ) → literal w l ≡ cond (begins w l) (took tt (drop (length w) l)) unfit
@@ -33,6 +34,22 @@ begins_front (c ∷ w) [] h = absurd (false≢true h)
 begins_front (c ∷ w) (x ∷ l) h =
     let p = and_true (eqb x c) (begins w l) h in
     rw (eqb-true x c p.0, begins_front w l p.1)
+
+-- two words one after the other
+begins_both : (v w l : List ℕ) → begins (v ++ w) l ≡ (begins v l && begins w (drop (length v) l))
+unfolding begins
+begins_both [] w l = refl
+begins_both (c ∷ v) w [] = refl
+begins_both (c ∷ v) w (x ∷ l) = rw (begins_both v w l) (sym (and_assoc (eqb x c) (begins v l) (begins w (drop (length v) l))))
+
+module _ (v w s : List ℕ) (at : ℕ) where
+  pub not_first : begins v (drop at s) ≡ false → begins (v ++ w) (drop at s) ≡ false
+  not_first h = rw (begins_both v w (drop at s), h)
+
+  -- the second where the first ends
+  pub both_after : (next : ℕ) (x : Option ℕ) → (begins v (drop at s) ≡ true) × (next ≡ at + length v) → After w s next x → After (v ++ w) s at x
+  both_after next None h k = rw (begins_both v w (drop at s), h.0, drop-drop (length v) at s, ← h.1) k
+  both_after next (Some e) h k = (rw (begins_both v w (drop at s), h.0, drop-drop (length v) at s, ← h.1) k.0, let n = length-append v w in omega (arith, h.1, k.1))
 
 -- ---- Bytes
 
@@ -152,5 +169,8 @@ six_bytes w i e h k =
     let a : take 6 (drop i w) ≡ drop i w = take_all 6 (drop i w) (rw length-drop (omega arith)) in
     rw a at (word_below 6 (drop i w) (rw a (every_drop Byte i w e)))
 
-pub span_fits : (i : ℕ) → i ≤ 6 → 256 ^ i ≤ 281474976710656
-span_fits i h = pow-le-pow_right {n = 256} (omega arith) h
+-- the number above all words of at most seven bytes, as a shift
+pub span_shift : (n : ℕ) → n ≤ 7 → 1 * 2 ^ (n * 8) % 18446744073709551616 ≡ 256 ^ n
+span_shift n h =
+    let k : 256 ^ n ≤ 72057594037927936 = pow-le-pow_right {n = 256} (omega arith) h in
+    rw two_pow_eight (omega arith)

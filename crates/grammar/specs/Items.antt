@@ -1,5 +1,5 @@
 -- What the code keeps of a list of operands or numbers in a line.
-use Rattle.std.specs.Prelude.{ℕ, suc, ◌+◌, max, min, ◌≡◌, cond, ◌||◌, List, [], ◌∷◌, ◌++◌, map, ltb, length, drop}
+use Rattle.std.specs.Prelude.{ℕ, suc, ◌+◌, max, min, ◌≡◌, ◌||◌, List, [], ◌∷◌, ◌++◌, Option, Some, None, map, ltb, length, drop}
 use Rattle.rules.specs.Mosts as Most
 use Rattle.rules.specs.Lists.{any, pad}
 use Rattle.rules.specs.Script.{Operand}
@@ -25,14 +25,22 @@ past [] = 0
 past (n ∷ ns) = max (n + 1) (past ns)
 
 -- " B ..", " W .." at a place
-pub record NumbersAt (s : List ℕ) (at : ℕ) (r : Items) : Type 0 where
+pub record Numbers (s : List ℕ) (at : ℕ) (r : Items) : Type 0 where
   pub items : List ℕ
-  pub fits : many number (length (drop at s)) (drop at s) ≡ cond r.ok (took items (drop r.end s)) unfit
+  pub fits : many number (length (drop at s)) (drop at s) ≡ took items (drop r.end s)
   pub listed : Listed r (map suc items) items
 
-pub record OperandsAt (s : List ℕ) (at : ℕ) (r : Items) : Type 0 where
+abbrev pub NumbersAt : List ℕ → ℕ → Option Items → Type 0
+NumbersAt s at None = many number (length (drop at s)) (drop at s) ≡ unfit
+NumbersAt s at (Some r) = Numbers s at r
+
+pub record Operands (s : List ℕ) (at : ℕ) (r : Items) : Type 0 where
   pub items : List Operand
-  pub fits : many operand (length (drop at s)) (drop at s) ≡ cond r.ok (took items (drop r.end s)) unfit
+  pub fits : many operand (length (drop at s)) (drop at s) ≡ took items (drop r.end s)
   pub listed : Listed r (map operand_item items) (map slot_of items)
   pub need : r.need ≡ past (map slot_of items)
   pub own : r.own ≡ any takes_first items
+
+abbrev pub OperandsAt : List ℕ → ℕ → Option Items → Type 0
+OperandsAt s at None = many operand (length (drop at s)) (drop at s) ≡ unfit
+OperandsAt s at (Some r) = Operands s at r

@@ -1,21 +1,22 @@
 // One line by its form: the form is found by a few bytes, and then tried alone.
 #![tactic(auto, unfolding(crate::specs::Words::plain, rules::specs::Lists::all))]
 
-ghost use Rattle.std.specs.Prelude.{◌≡◌, false, cond, ◌+◌, ◌≤◌, eqb, length, drop};
-ghost use Rattle.rules.specs.Templates.{took, unfit, fit, script_t};
-ghost use Rattle.grammar.specs.Decoded.{FormAt, EitherFormAt, PlaceRest, let_form, only_form, LineAt};
+ghost use Rattle.std.specs.Prelude.{◌≡◌, true, false, ◌+◌, ◌≤◌, ◌++◌, length, drop, IfSome};
+ghost use Rattle.rules.specs.Templates.{fit, script_t};
+ghost use Rattle.rules.specs.Forms.{form_number};
+ghost use Rattle.rules.specs.Text.{bytes};
+ghost use Rattle.grammar.specs.Words.{plain};
+ghost use Rattle.grammar.specs.Decoded.{FormAt, OpenerAt, OperandLineAt, PlaceLineAt, let_form, only_form, LineAt, told_end};
 
-use super::parts::{
-    cap_at, long_operand_at, most, number_at, numbers_at, operand_at, operands_at, over,
-};
-use super::words::{begins_at, both, byte, either};
+use super::parts::{cap_at, number_at, numbers_at, operand_at, operands_at, over};
+use super::words::{byte, either, word_at, words_at};
+use rules::Form;
 
-// A decoded line: whether it fits its form; the form's number and the parts' words, as in the table; whether the line by itself exceeds a
-// most; one more than the highest slot that it names; whether it takes slot 0; and the place after its LF.
+// A decoded line: its form and the parts' words, as in the table (a to f, since the crates that read a script have no arrays); whether the line by
+// itself exceeds a most; one more than the highest slot that it names; whether it takes slot 0; and the place after its LF.
 #[derive(Clone, Copy)]
 pub struct Line {
-    pub ok: bool,
-    pub form: u16,
+    pub form: Form,
     pub a: u16,
     pub b: u16,
     pub c: u16,
@@ -29,391 +30,295 @@ pub struct Line {
 }
 
 // A line that names no slot and has at most three words.
-fn short_line(ok: bool, form: u16, a: u16, b: u16, c: u16, end: usize) -> Line
-    ensures ok_value { (result.ok ≡ ok) × (result.form ≡ form) × (result.a ≡ a) × (result.b ≡ b) × (result.c ≡ c) × (result.d ≡ 0) × (result.e ≡ 0) × (result.f ≡ 0) }
-    ensures over_value { (result.over ≡ false) × (result.need ≡ 0) × (result.own ≡ false) × (result.end ≡ end) }
+fn short_line(form: Form, a: u16, b: u16, c: u16, end: usize) -> Line
+    ensures words { (result.form ≡ form) × (result.a ≡ a) × (result.b ≡ b) × (result.c ≡ c) × (result.d ≡ 0) × (result.e ≡ 0) × (result.f ≡ 0) }
+    ensures rest { (result.over ≡ false) × (result.need ≡ 0) × (result.own ≡ false) × (result.end ≡ end) }
 {
     Line {
-        ok: ok,
-        form: form,
-        a: a,
-        b: b,
-        c: c,
+        form,
+        a,
+        b,
+        c,
         d: 0,
         e: 0,
         f: 0,
         over: false,
         need: 0,
         own: false,
-        end: end,
+        end,
     }
 }
 
 // (kind (fields F) (does B ..))
-fn kind_at(s: &[u8], at: usize) -> Line
+fn kind_at(s: &[u8], at: usize) -> Option<Line>
     requires { (8 ≤ length s.now) × (length s.now ≤ 65536) × (at ≤ length s.now) }
     ensures { FormAt 0 s.now at result }
 {
-    let opened = begins_at(s, at, b"(kind (");
-    let named = begins_at(s, at + 7, b"fields ");
-    let fields = number_at(s, at + 14);
-    let parted = begins_at(s, fields.end, b") (does");
-    let methods = numbers_at(s, fields.end + 7);
-    let closed = begins_at(s, methods.end, b"))\n");
-    let ok = both(
-        opened,
-        both(
-            named,
-            both(fields.ok, both(parted, both(methods.ok, closed))),
-        ),
-    );
-    let mut l = short_line(
-        ok,
-        rules::forms::KIND,
-        fields.word,
-        methods.a,
-        methods.b,
-        methods.end + 3,
-    );
+    let first = words_at(s, at, b"(kind (", b"fields ")?;
+    let fields = number_at(s, first)?;
+    let next = word_at(s, fields.end, b") (does")?;
+    let methods = numbers_at(s, next)?;
+    let end = word_at(s, methods.end, b"))\n")?;
+    let mut l = short_line(Form::Kind, fields.word, methods.a, methods.b, end);
     l.d = methods.c;
     l.e = methods.d;
     l.over = either(4 < fields.word, methods.over);
-    l
+    Some(l)
 }
 
-// (thread)
-fn thread_at(s: &[u8], at: usize) -> Line
-    requires { (8 ≤ length s.now) × (length s.now ≤ 65536) × (at ≤ length s.now) }
-    ensures { FormAt 1 s.now at result }
+// (thread) or (method), by the word
+fn opener_at(s: &[u8], at: usize, w: &[u8], form: Form) -> Option<Line>
+    requires { (8 ≤ length s.now) × (length s.now ≤ 65536) × (at ≤ length s.now) × (length w.now ≤ 7) × (plain w.now ≡ true) }
+    ensures { OpenerAt form w.now s.now at result }
 {
-    let opened = begins_at(s, at, b"(thread");
-    let closed = begins_at(s, at + 7, b")\n");
-    short_line(both(opened, closed), rules::forms::THREAD, 0, 0, 0, at + 9)
+    let first = word_at(s, at, w)?;
+    let end = word_at(s, first, b")\n")?;
+    Some(short_line(form, 0, 0, 0, end))
 }
 
-// (method)
-fn method_at(s: &[u8], at: usize) -> Line
-    requires { (8 ≤ length s.now) × (length s.now ≤ 65536) × (at ≤ length s.now) }
-    ensures { FormAt 2 s.now at result }
+// (give W) or (let W), by the word
+fn operand_line(s: &[u8], at: usize, w: &[u8], form: Form) -> Option<Line>
+    requires { (8 ≤ length s.now) × (length s.now ≤ 65536) × (at ≤ length s.now) × (length w.now ≤ 7) × (plain w.now ≡ true) }
+    ensures { OperandLineAt form w.now s.now at result }
 {
-    let opened = begins_at(s, at, b"(method");
-    let closed = begins_at(s, at + 7, b")\n");
-    short_line(both(opened, closed), rules::forms::METHOD, 0, 0, 0, at + 9)
-}
-
-// (give W) or (let W), by the form's number
-fn give_or_value_at(s: &[u8], at: usize, form: u16) -> Line
-    requires { (8 ≤ length s.now) × (length s.now ≤ 65536) × (at ≤ length s.now) }
-    ensures { EitherFormAt 3 form s.now at result }
-{
-    let mut opened = begins_at(s, at, b"(let ");
-    let mut rest = at + 5;
-    if form == rules::forms::GIVE {
-        opened = begins_at(s, at, b"(give ");
-        rest = at + 6;
-    }
-    let w = operand_at(s, rest);
-    let closed = begins_at(s, w.end, b")\n");
-    let ok = both(opened, both(w.ok, closed));
-    let slot = w.word / 2;
-    let mut l = short_line(ok, form, w.word, 0, 0, w.end + 2);
+    let first = word_at(s, at, w)?;
+    let given = operand_at(s, first)?;
+    let end = word_at(s, given.end, b")\n")?;
+    let slot = given.word / 2;
+    let mut l = short_line(form, given.word, 0, 0, end);
     l.over = over(slot);
     l.need = slot + 1;
-    l.own = w.word == 1;
-    l
+    l.own = given.word == 1;
+    Some(l)
 }
 
 // (let (field S F))
-fn field_at(s: &[u8], at: usize) -> Line
+fn field_at(s: &[u8], at: usize) -> Option<Line>
     requires { (8 ≤ length s.now) × (length s.now ≤ 65536) × (at ≤ length s.now) }
     ensures { FormAt 5 s.now at result }
 {
-    let opened = begins_at(s, at, b"(let (");
-    let named = begins_at(s, at + 6, b"field ");
-    let target = number_at(s, at + 12);
-    let parted = begins_at(s, target.end, b" ");
-    let field = number_at(s, target.end + 1);
-    let closed = begins_at(s, field.end, b"))\n");
-    let ok = both(
-        opened,
-        both(named, both(target.ok, both(parted, both(field.ok, closed)))),
-    );
-    let mut l = short_line(
-        ok,
-        rules::forms::FIELD,
-        target.word,
-        field.word,
-        0,
-        field.end + 3,
-    );
+    let first = words_at(s, at, b"(let (", b"field ")?;
+    let target = number_at(s, first)?;
+    let next = word_at(s, target.end, b" ")?;
+    let field = number_at(s, next)?;
+    let end = word_at(s, field.end, b"))\n")?;
+    let mut l = short_line(Form::Field, target.word, field.word, 0, end);
     l.over = either(over(target.word), over(field.word));
     l.need = target.word + 1;
-    l
+    Some(l)
 }
 
-// S N W))LF, the rest of a swap and of a call
-fn place_rest(s: &[u8], at: usize, before: bool, form: u16) -> Line
-    requires { (8 ≤ length s.now) × (length s.now ≤ 65536) × (at ≤ 65600) }
-    ensures { PlaceRest form before s.now at result }
+// (let (swap S F W)) or (let (call S M W)), by the word
+#[inline(always)]
+fn place_line(s: &[u8], at: usize, w: &[u8], form: Form) -> Option<Line>
+    requires { (8 ≤ length s.now) × (length s.now ≤ 65536) × (at ≤ length s.now) × (length w.now ≤ 7) × (plain w.now ≡ true) }
+    ensures { PlaceLineAt form (bytes "(let (" ++ w.now) s.now at result }
 {
-    let target = number_at(s, at);
-    let parted = begins_at(s, target.end, b" ");
-    let number = number_at(s, target.end + 1);
-    let spaced = begins_at(s, number.end, b" ");
-    let w = operand_at(s, number.end + 1);
-    let closed = begins_at(s, w.end, b"))\n");
-    let ok = both(
-        before,
-        both(
-            target.ok,
-            both(parted, both(number.ok, both(spaced, both(w.ok, closed)))),
-        ),
-    );
-    let slot = w.word / 2;
-    let mut l = short_line(ok, form, target.word, number.word, w.word, w.end + 3);
+    let first = words_at(s, at, b"(let (", w)?;
+    let target = number_at(s, first)?;
+    let next = word_at(s, target.end, b" ")?;
+    let number = number_at(s, next)?;
+    let last = word_at(s, number.end, b" ")?;
+    let given = operand_at(s, last)?;
+    let end = word_at(s, given.end, b"))\n")?;
+    let slot = given.word / 2;
+    let mut l = short_line(form, target.word, number.word, given.word, end);
     l.over = either(either(over(target.word), over(slot)), over(number.word));
-    l.need = most(target.word + 1, slot + 1);
-    l.own = w.word == 1;
-    l
-}
-
-// (let (swap S F W)) or (let (call S M W)), by the form's number
-fn swap_or_call_at(s: &[u8], at: usize, form: u16) -> Line
-    requires { (8 ≤ length s.now) × (length s.now ≤ 65536) × (at ≤ length s.now) }
-    ensures { EitherFormAt 6 form s.now at result }
-{
-    let opened = begins_at(s, at, b"(let (");
-    let mut named = begins_at(s, at + 6, b"call ");
-    if form == rules::forms::SWAP {
-        named = begins_at(s, at + 6, b"swap ");
-    }
-    place_rest(s, at + 11, both(opened, named), form)
+    l.need = (target.word + 1).max(slot + 1);
+    l.own = given.word == 1;
+    Some(l)
 }
 
 // (let (new K N W ..))
-fn new_at(s: &[u8], at: usize) -> Line
+fn new_at(s: &[u8], at: usize) -> Option<Line>
     requires { (8 ≤ length s.now) × (length s.now ≤ 65536) × (at ≤ length s.now) }
     ensures { FormAt 8 s.now at result }
 {
-    let opened = begins_at(s, at, b"(let (");
-    let named = begins_at(s, at + 6, b"new ");
-    let cap = cap_at(s, at + 10);
-    let parted = begins_at(s, cap.end, b" ");
-    let kind = number_at(s, cap.end + 1);
-    let given = operands_at(s, kind.end);
-    let closed = begins_at(s, given.end, b"))\n");
-    let ok = both(
-        opened,
-        both(
-            named,
-            both(cap.ok, both(parted, both(kind.ok, both(given.ok, closed)))),
-        ),
-    );
-    let mut l = short_line(
-        ok,
-        rules::forms::NEW,
-        cap.word,
-        kind.word,
-        given.a,
-        given.end + 3,
-    );
+    let first = words_at(s, at, b"(let (", b"new ")?;
+    let cap = cap_at(s, first)?;
+    let next = word_at(s, cap.end, b" ")?;
+    let kind = number_at(s, next)?;
+    let given = operands_at(s, kind.end)?;
+    let end = word_at(s, given.end, b"))\n")?;
+    let mut l = short_line(Form::New, cap.word, kind.word, given.a, end);
     l.d = given.b;
     l.e = given.c;
     l.f = given.d;
     l.over = either(given.over, over(kind.word));
     l.need = given.need;
     l.own = given.own;
-    l
+    Some(l)
 }
 
 // (let (cast K W))
-fn cast_at(s: &[u8], at: usize) -> Line
+fn cast_at(s: &[u8], at: usize) -> Option<Line>
     requires { (8 ≤ length s.now) × (length s.now ≤ 65536) × (at ≤ length s.now) }
     ensures { FormAt 9 s.now at result }
 {
-    let opened = begins_at(s, at, b"(let (");
-    let named = begins_at(s, at + 6, b"cast ");
-    let cap = cap_at(s, at + 11);
-    let parted = begins_at(s, cap.end, b" ");
-    let w = long_operand_at(s, cap.end + 1); // called here too: so the compiler keeps it out of operand_at
-    let closed = begins_at(s, w.end, b"))\n");
-    let ok = both(
-        opened,
-        both(named, both(cap.ok, both(parted, both(w.ok, closed)))),
-    );
-    let slot = w.word / 2;
-    let mut l = short_line(ok, rules::forms::CAST, cap.word, w.word, 0, w.end + 3);
+    let first = words_at(s, at, b"(let (", b"cast ")?;
+    let cap = cap_at(s, first)?;
+    let next = word_at(s, cap.end, b" ")?;
+    let given = operand_at(s, next)?;
+    let end = word_at(s, given.end, b"))\n")?;
+    let slot = given.word / 2;
+    let mut l = short_line(Form::Cast, cap.word, given.word, 0, end);
     l.over = over(slot);
     l.need = slot + 1;
-    l.own = w.word == 1;
-    l
+    l.own = given.word == 1;
+    Some(l)
 }
 
 // (let (spawn B))
-fn spawn_at(s: &[u8], at: usize) -> Line
+fn spawn_at(s: &[u8], at: usize) -> Option<Line>
     requires { (8 ≤ length s.now) × (length s.now ≤ 65536) × (at ≤ length s.now) }
     ensures { FormAt 10 s.now at result }
 {
-    let opened = begins_at(s, at, b"(let (");
-    let named = begins_at(s, at + 6, b"spawn ");
-    let block = number_at(s, at + 12);
-    let closed = begins_at(s, block.end, b"))\n");
-    let ok = both(opened, both(named, both(block.ok, closed)));
-    let mut l = short_line(ok, rules::forms::SPAWN, block.word, 0, 0, block.end + 3);
+    let first = words_at(s, at, b"(let (", b"spawn ")?;
+    let block = number_at(s, first)?;
+    let end = word_at(s, block.end, b"))\n")?;
+    let mut l = short_line(Form::Spawn, block.word, 0, 0, end);
     l.over = over(block.word);
-    l
+    Some(l)
 }
 
 // (let (send S W))
-fn send_at(s: &[u8], at: usize) -> Line
+fn send_at(s: &[u8], at: usize) -> Option<Line>
     requires { (8 ≤ length s.now) × (length s.now ≤ 65536) × (at ≤ length s.now) }
     ensures { FormAt 11 s.now at result }
 {
-    let opened = begins_at(s, at, b"(let (");
-    let named = begins_at(s, at + 6, b"send ");
-    let target = number_at(s, at + 11);
-    let parted = begins_at(s, target.end, b" ");
-    let w = operand_at(s, target.end + 1);
-    let closed = begins_at(s, w.end, b"))\n");
-    let ok = both(
-        opened,
-        both(named, both(target.ok, both(parted, both(w.ok, closed)))),
-    );
-    let slot = w.word / 2;
-    let mut l = short_line(ok, rules::forms::SEND, target.word, w.word, 0, w.end + 3);
+    let first = words_at(s, at, b"(let (", b"send ")?;
+    let target = number_at(s, first)?;
+    let next = word_at(s, target.end, b" ")?;
+    let given = operand_at(s, next)?;
+    let end = word_at(s, given.end, b"))\n")?;
+    let slot = given.word / 2;
+    let mut l = short_line(Form::Send, target.word, given.word, 0, end);
     l.over = either(over(target.word), over(slot));
-    l.need = most(target.word + 1, slot + 1);
-    l.own = w.word == 1;
-    l
+    l.need = (target.word + 1).max(slot + 1);
+    l.own = given.word == 1;
+    Some(l)
 }
 
 // (let (recv S))
-fn recv_at(s: &[u8], at: usize) -> Line
+fn recv_at(s: &[u8], at: usize) -> Option<Line>
     requires { (8 ≤ length s.now) × (length s.now ≤ 65536) × (at ≤ length s.now) }
     ensures { FormAt 12 s.now at result }
 {
-    let opened = begins_at(s, at, b"(let (");
-    let named = begins_at(s, at + 6, b"recv ");
-    let target = number_at(s, at + 11);
-    let closed = begins_at(s, target.end, b"))\n");
-    let ok = both(opened, both(named, both(target.ok, closed)));
-    let mut l = short_line(ok, rules::forms::RECV, target.word, 0, 0, target.end + 3);
+    let first = words_at(s, at, b"(let (", b"recv ")?;
+    let target = number_at(s, first)?;
+    let end = word_at(s, target.end, b"))\n")?;
+    let mut l = short_line(Form::Recv, target.word, 0, 0, end);
     l.over = over(target.word);
     l.need = target.word + 1;
-    l
+    Some(l)
 }
 
 // (let (copy K S))
-fn copy_at(s: &[u8], at: usize) -> Line
+fn copy_at(s: &[u8], at: usize) -> Option<Line>
     requires { (8 ≤ length s.now) × (length s.now ≤ 65536) × (at ≤ length s.now) }
     ensures { FormAt 13 s.now at result }
 {
-    let opened = begins_at(s, at, b"(let (");
-    let named = begins_at(s, at + 6, b"copy ");
-    let cap = cap_at(s, at + 11);
-    let parted = begins_at(s, cap.end, b" ");
-    let slot = number_at(s, cap.end + 1);
-    let closed = begins_at(s, slot.end, b"))\n");
-    let ok = both(
-        opened,
-        both(named, both(cap.ok, both(parted, both(slot.ok, closed)))),
-    );
-    let mut l = short_line(ok, rules::forms::COPY, cap.word, slot.word, 0, slot.end + 3);
+    let first = words_at(s, at, b"(let (", b"copy ")?;
+    let cap = cap_at(s, first)?;
+    let next = word_at(s, cap.end, b" ")?;
+    let slot = number_at(s, next)?;
+    let end = word_at(s, slot.end, b"))\n")?;
+    let mut l = short_line(Form::Copy, cap.word, slot.word, 0, end);
     l.over = over(slot.word);
     l.need = slot.word + 1;
-    l
+    Some(l)
 }
 
-// The number of the only form that a let can fit, by the letters of its word.
-fn let_form(s: &[u8], at: usize) -> u16
+// The only form that a let can fit, by the letters of its word.
+fn let_form(s: &[u8], at: usize) -> Form
     requires { at ≤ 65536 }
-    ensures { result ≡ let_form (drop at s.now) }
+    ensures { form_number result ≡ let_form (drop at s.now) }
 {
     let first = byte(s, at + 6);
     match first {
-        b'f' => rules::forms::FIELD,
-        b'n' => rules::forms::NEW,
+        b'f' => Form::Field,
+        b'n' => Form::New,
         b'c' => {
             if byte(s, at + 8) == b'l' {
-                rules::forms::CALL
+                Form::Call
             } else {
                 if byte(s, at + 7) == b'o' {
-                    rules::forms::COPY
+                    Form::Copy
                 } else {
-                    rules::forms::CAST
+                    Form::Cast
                 }
             }
         }
         b's' => {
             let second = byte(s, at + 7);
             match second {
-                b'w' => rules::forms::SWAP,
-                b'p' => rules::forms::SPAWN,
-                _ => rules::forms::SEND,
+                b'w' => Form::Swap,
+                b'p' => Form::Spawn,
+                _ => Form::Send,
             }
         }
         b'r' => {
             if byte(s, at + 8) == b'c' {
-                rules::forms::RECV
+                Form::Recv
             } else {
-                rules::forms::VALUE
+                Form::Value
             }
         }
-        _ => rules::forms::VALUE,
+        _ => Form::Value,
     }
 }
 
-// The number of the only form that a line can fit.
-fn form_at(s: &[u8], at: usize) -> u16
+// The only form that a line can fit.
+fn form_at(s: &[u8], at: usize) -> Form
     requires { at ≤ 65536 }
-    ensures { result ≡ only_form (drop at s.now) }
+    ensures { form_number result ≡ only_form (drop at s.now) }
 {
     let first = byte(s, at + 1);
     match first {
-        b'k' => rules::forms::KIND,
-        b't' => rules::forms::THREAD,
-        b'm' => rules::forms::METHOD,
-        b'g' => rules::forms::GIVE,
+        b'k' => Form::Kind,
+        b't' => Form::Thread,
+        b'm' => Form::Method,
+        b'g' => Form::Give,
         _ => let_form(s, at),
     }
 }
 
-// The line that starts at a place. (No line has fewer than nine bytes.)
-pub fn line_at(s: &[u8], at: usize) -> Line
+// The line that starts at a place, if one does. (No line has fewer than nine bytes.)
+pub fn line_at(s: &[u8], at: usize) -> Option<Line>
     requires { (length s.now ≤ 65536) × (at ≤ length s.now) }
     ensures { LineAt s.now at result }
 {
     if s.len() < 9 {
-        return short_line(false, 0, 0, 0, 0, 0);
+        return None;
     }
     let form = form_at(s, at);
     match form {
-        rules::forms::KIND => kind_at(s, at),
-        rules::forms::THREAD => thread_at(s, at),
-        rules::forms::METHOD => method_at(s, at),
-        rules::forms::GIVE | rules::forms::VALUE => give_or_value_at(s, at, form),
-        rules::forms::FIELD => field_at(s, at),
-        rules::forms::SWAP | rules::forms::CALL => swap_or_call_at(s, at, form),
-        rules::forms::NEW => new_at(s, at),
-        rules::forms::CAST => cast_at(s, at),
-        rules::forms::SPAWN => spawn_at(s, at),
-        rules::forms::SEND => send_at(s, at),
-        rules::forms::RECV => recv_at(s, at),
-        rules::forms::COPY => copy_at(s, at),
-        _ => short_line(false, 0, 0, 0, 0, 0),
+        Form::NoForm => None, // no text tells this one
+        Form::Kind => kind_at(s, at),
+        Form::Thread => opener_at(s, at, b"(thread", Form::Thread),
+        Form::Method => opener_at(s, at, b"(method", Form::Method),
+        Form::Give => operand_line(s, at, b"(give ", Form::Give),
+        Form::Value => operand_line(s, at, b"(let ", Form::Value),
+        Form::Field => field_at(s, at),
+        Form::Swap => place_line(s, at, b"swap ", Form::Swap),
+        Form::Call => place_line(s, at, b"call ", Form::Call),
+        Form::New => new_at(s, at),
+        Form::Cast => cast_at(s, at),
+        Form::Spawn => spawn_at(s, at),
+        Form::Send => send_at(s, at),
+        Form::Recv => recv_at(s, at),
+        Form::Copy => copy_at(s, at),
     }
 }
 
-// The place after the line that a text in script form 2 begins with, or 0 where it does not begin so. (That line has eleven bytes.)
-pub fn script_end(s: &[u8]) -> usize
+// Where the text's first line is (script 2): the place after it.
+pub fn script_end(s: &[u8]) -> Option<usize>
     requires { length s.now ≤ 65536 }
-    ensures s_value { fit script_t s.now ≡ cond (eqb result 0) unfit (took tt (drop result s.now)) }
-    ensures upper_bound { result ≤ length s.now }
+    ensures s_value { fit script_t s.now ≡ told_end s.now result }
+    ensures upper_bound { IfSome result (λ e. e ≤ length s.now) }
 {
     if s.len() < 11 {
-        return 0;
+        return None;
     }
-    let opened = begins_at(s, 0, b"(script");
-    let closed = begins_at(s, 7, b" 2)\n");
-    if both(opened, closed) { 11 } else { 0 }
+    words_at(s, 0, b"(script", b" 2)\n")
 }

@@ -1,27 +1,27 @@
 // The parts of a form: numbers, operands, capabilities, and lists of numbers and of operands.
 #![tactic(auto, unfolding(crate::specs::Words::plain, rules::specs::Lists::all))]
 
-ghost use Rattle.std.specs.Prelude.{◌≡◌, true, false, cond, [], ◌+◌, ◌%◌, ◌≤◌, max, ltb, length, drop};
-ghost use Rattle.rules.specs.Templates.{took, unfit, digit_of, number, operand, capability};
+ghost use Rattle.std.specs.Prelude.{◌≡◌, true, false, cond, [], ◌+◌, ◌≤◌, ltb, length, drop, IfSome};
+ghost use Rattle.rules.specs.Templates.{took, unfit, number, operand, capability};
 ghost use Rattle.rules.specs.Mosts as Most;
 ghost use Rattle.rules.specs.Tables.{operand_of, cap_of};
+ghost use Rattle.grammar.specs.Parts.{Digit, told};
 ghost use Rattle.grammar.specs.Items.{Listed, Adds, NumbersAt, OperandsAt};
 
 use super::words::{begins_at, both, byte, either};
 
-// What a part reads at a place: whether it fits there, its word, and the place after it.
+// What a part reads at a place: its word, and the place after it.
 #[derive(Clone, Copy)]
 pub struct Part {
-    pub ok: bool,
     pub word: u16,
     pub end: usize,
 }
 
-// What a list reads at a place: whether it fits, how many items it has (at most four are counted), the words of its first four items (each one more, 0 after the last), whether a most is
-// exceeded, one more than its highest slot, whether it takes slot 0, and the place after it.
+// What a list reads at a place: how many items it has (at most four are counted), the words of its first four items (each one more, 0 after the
+// last; a to d, since the crates that read a script have no arrays), whether a most is exceeded, one more than its highest slot, whether it takes
+// slot 0, and the place after it.
 #[derive(Clone, Copy)]
 pub struct Items {
-    pub ok: bool,
     pub n: u16,
     pub a: u16,
     pub b: u16,
@@ -33,138 +33,124 @@ pub struct Items {
     pub end: usize,
 }
 
-fn is_digit(b: u8) -> bool
-    ensures { result ≡ ltb (digit_of b) 10 }
+// The value of a digit.
+fn digit(b: u8) -> Option<u16>
+    ensures { Digit b result }
 {
-    if b < b'0' {
-        return false;
+    if b.is_ascii_digit() {
+        Some(u16::from(b - b'0'))
+    } else {
+        None
     }
-    b <= b'9'
-}
-
-fn value(b: u8) -> u16
-    ensures upper_bound { result ≤ 9 }
-    ensures value { result ≡ digit_of b % 10 }
-{
-    if is_digit(b) { (b - b'0') as u16 } else { 0 }
 }
 
 // "A number is decimal, one to three digits, no needless leading zero".
-pub fn number_at(s: &[u8], at: usize) -> Part
+pub fn number_at(s: &[u8], at: usize) -> Option<Part>
     requires { at ≤ 131072 }
-    ensures s_value { number (drop at s.now) ≡ cond result.ok (took result.word (drop result.end s.now)) unfit }
-    ensures word_bound { (result.word ≤ 999) × (at ≤ result.end) × (result.end ≤ at + 3) }
+    ensures s_value { number (drop at s.now) ≡ told (λ n. n) s.now result }
+    ensures word_bound { IfSome result (λ p. (p.word ≤ 999) × (at ≤ p.end) × (p.end ≤ at + 3)) }
 {
-    let a = byte(s, at);
-    if !is_digit(a) {
-        return Part {
-            ok: false,
-            word: 0,
-            end: at,
-        };
-    }
-    let b = byte(s, at + 1);
-    if !is_digit(b) {
-        return Part {
-            ok: true,
-            word: value(a),
+    let a = digit(byte(s, at))?;
+    let Some(b) = digit(byte(s, at + 1)) else {
+        return Some(Part {
+            word: a,
             end: at + 1,
-        };
+        });
+    };
+    if a == 0 {
+        return None;
     }
-    if a == b'0' {
-        return Part {
-            ok: false,
-            word: 0,
-            end: at,
-        };
-    }
-    let c = byte(s, at + 2);
-    if !is_digit(c) {
-        return Part {
-            ok: true,
-            word: value(a) * 10 + value(b),
+    let Some(c) = digit(byte(s, at + 2)) else {
+        return Some(Part {
+            word: a * 10 + b,
             end: at + 2,
-        };
+        });
+    };
+    if digit(byte(s, at + 3)).is_some() {
+        return None;
     }
-    let d = byte(s, at + 3);
-    Part {
-        ok: !is_digit(d),
-        word: value(a) * 100 + value(b) * 10 + value(c),
+    Some(Part {
+        word: a * 100 + b * 10 + c,
         end: at + 3,
-    }
+    })
 }
 
 // "Operand W: (read S) or (take S)": twice its slot, and one more where it takes. Of a slot with any number of digits.
-pub fn long_operand_at(s: &[u8], at: usize) -> Part
+#[inline(never)]
+fn long_operand_at(s: &[u8], at: usize) -> Option<Part>
     requires { (8 ≤ length s.now) × (at ≤ 131000) }
-    ensures s_value { operand (drop at s.now) ≡ cond result.ok (took (operand_of result.word) (drop result.end s.now)) unfit }
-    ensures word_bound { (result.word ≤ 1999) × (at ≤ result.end) × (result.end ≤ at + 10) }
+    ensures s_value { operand (drop at s.now) ≡ told operand_of s.now result }
+    ensures word_bound { IfSome result (λ p. (p.word ≤ 1999) × (at ≤ p.end) × (p.end ≤ at + 10)) }
 {
     let reads = begins_at(s, at, b"(read ");
     let takes = begins_at(s, at, b"(take "); // and any slot
-    let slot = number_at(s, at + 6);
+    let slot = number_at(s, at + 6)?;
     let closed = begins_at(s, slot.end, b")");
-    let taken: u16 = if takes { 1 } else { 0 };
-    Part {
-        ok: both(either(reads, takes), both(slot.ok, closed)),
-        word: slot.word * 2 + taken,
-        end: slot.end + 1,
+    if !both(either(reads, takes), closed) {
+        return None;
     }
+    Some(Part {
+        word: slot.word * 2 + u16::from(takes),
+        end: slot.end + 1,
+    })
 }
 
-// The same, at once where the slot has one digit: a digit and a closing bracket stand at their places. (It is small, so that the compiler
-// writes it out in every form.)
-pub fn operand_at(s: &[u8], at: usize) -> Part
+// The same, at once where the slot has one digit: a digit and a closing bracket stand at their places.
+#[inline(always)]
+pub fn operand_at(s: &[u8], at: usize) -> Option<Part>
     requires { (8 ≤ length s.now) × (at ≤ 131000) }
-    ensures s_value { operand (drop at s.now) ≡ cond result.ok (took (operand_of result.word) (drop result.end s.now)) unfit }
-    ensures word_bound { (result.word ≤ 1999) × (at ≤ result.end) × (result.end ≤ at + 10) }
+    ensures s_value { operand (drop at s.now) ≡ told operand_of s.now result }
+    ensures word_bound { IfSome result (λ p. (p.word ≤ 1999) × (at ≤ p.end) × (p.end ≤ at + 10)) }
 {
-    let digit = byte(s, at + 6);
-    if !both(is_digit(digit), byte(s, at + 7) == b')') {
+    let Some(slot) = digit(byte(s, at + 6)) else {
+        return long_operand_at(s, at);
+    };
+    if byte(s, at + 7) != b')' {
         return long_operand_at(s, at);
     }
     let reads = begins_at(s, at, b"(read ");
     let takes = begins_at(s, at, b"(take "); // and one digit
-    let taken: u16 = if takes { 1 } else { 0 };
-    Part {
-        ok: either(reads, takes),
-        word: value(digit) * 2 + taken,
-        end: at + 8,
+    if !either(reads, takes) {
+        return None;
     }
+    Some(Part {
+        word: slot * 2 + u16::from(takes),
+        end: at + 8,
+    })
 }
 
 // "K is one of the words imm, iso, local, unsafe."
-pub fn cap_at(s: &[u8], at: usize) -> Part
+#[inline(always)]
+pub fn cap_at(s: &[u8], at: usize) -> Option<Part>
     requires { (8 ≤ length s.now) × (at ≤ 131000) }
-    ensures s_value { capability (drop at s.now) ≡ cond result.ok (took (cap_of result.word) (drop result.end s.now)) unfit }
-    ensures word_bound { (result.word ≤ 3) × (at ≤ result.end) × (result.end ≤ at + 6) }
+    ensures s_value { capability (drop at s.now) ≡ told cap_of s.now result }
+    ensures word_bound { IfSome result (λ p. (p.word ≤ 3) × (at ≤ p.end) × (p.end ≤ at + 6)) }
 {
     if begins_at(s, at, b"imm") {
-        return Part {
-            ok: true,
+        return Some(Part {
             word: 0,
             end: at + 3,
-        };
+        });
     }
     if begins_at(s, at, b"iso") {
-        return Part {
-            ok: true,
+        return Some(Part {
             word: 1,
             end: at + 3,
-        };
+        });
     }
     if begins_at(s, at, b"local") {
-        return Part {
-            ok: true,
+        return Some(Part {
             word: 2,
             end: at + 5,
-        };
+        });
     }
-    Part {
-        ok: begins_at(s, at, b"unsafe"),
-        word: 3,
-        end: at + 6,
+    if begins_at(s, at, b"unsafe") {
+        return Some(Part {
+            word: 3,
+            end: at + 6,
+        });
     }
+    None
 }
 
 // Whether a number exceeds 255.
@@ -174,19 +160,11 @@ pub fn over(n: u16) -> bool
     255 < n
 }
 
-// The larger of two numbers.
-pub fn most(a: u16, b: u16) -> u16
-    ensures { result ≡ max a b }
-{
-    if a < b { b } else { a }
-}
-
 fn no_items(at: usize) -> Items
     ensures listed { Listed result [] [] }
-    ensures ok_value { (result.ok ≡ true) × (result.need ≡ 0) × (result.own ≡ false) × (result.end ≡ at) }
+    ensures ends { (result.need ≡ 0) × (result.own ≡ false) × (result.end ≡ at) }
 {
     Items {
-        ok: true,
         n: 0,
         a: 0,
         b: 0,
@@ -202,12 +180,11 @@ fn no_items(at: usize) -> Items
 // One item more: its word in the table and its number. Past the fourth only the excess is noted.
 fn with_item(l: Items, item: u16, number: u16) -> Items
     ensures adds { Adds l item number result }
-    ensures ok_value { (result.ok ≡ l.ok) × (result.need ≡ l.need) × (result.own ≡ l.own) × (result.end ≡ l.end) }
+    ensures ends { (result.need ≡ l.need) × (result.own ≡ l.own) × (result.end ≡ l.end) }
 {
     let mut next = l;
     next.over = either(l.over, over(number));
-    let n = l.n;
-    match n {
+    match l.n {
         0 => {
             next.n = 1;
             next.a = item;
@@ -232,42 +209,36 @@ fn with_item(l: Items, item: u16, number: u16) -> Items
 }
 
 // " B ..": the method blocks of a kind.
-pub fn numbers_at(s: &[u8], at: usize) -> Items
+pub fn numbers_at(s: &[u8], at: usize) -> Option<Items>
     requires { (length s.now ≤ 65536) × (at ≤ 65800) }
     ensures numbers_at { NumbersAt s.now at result }
-    ensures at_le_end { (at ≤ result.end) × (result.end ≤ 65800) }
+    ensures at_le_end { IfSome result (λ l. (at ≤ l.end) × (l.end ≤ 65800)) }
 {
     let mut l = no_items(at);
-    let mut more = byte(s, at) == b' ';
-    while more {
-        let w = number_at(s, l.end + 1);
+    while byte(s, l.end) == b' ' {
+        let w = number_at(s, l.end + 1)?;
         let mut next = with_item(l, w.word + 1, w.word);
-        next.ok = w.ok;
         next.end = w.end;
         l = next;
-        more = both(w.ok, byte(s, w.end) == b' ');
     }
-    l
+    Some(l)
 }
 
 // " W ..": the operands of a new.
-pub fn operands_at(s: &[u8], at: usize) -> Items
+pub fn operands_at(s: &[u8], at: usize) -> Option<Items>
     requires { (8 ≤ length s.now) × (length s.now ≤ 65536) × (at ≤ 65800) }
     ensures operands_at { OperandsAt s.now at result }
-    ensures at_le_end { (at ≤ result.end) × (result.end ≤ 65800) }
+    ensures at_le_end { IfSome result (λ l. (at ≤ l.end) × (l.end ≤ 65800)) }
 {
     let mut l = no_items(at);
-    let mut more = byte(s, at) == b' ';
-    while more {
-        let w = operand_at(s, l.end + 1);
+    while byte(s, l.end) == b' ' {
+        let w = operand_at(s, l.end + 1)?;
         let slot = w.word / 2;
         let mut next = with_item(l, w.word + 1, slot);
-        next.ok = w.ok;
         next.end = w.end;
-        next.need = most(l.need, slot + 1);
+        next.need = l.need.max(slot + 1);
         next.own = either(l.own, w.word == 1);
         l = next;
-        more = both(w.ok, byte(s, w.end) == b' ');
     }
-    l
+    Some(l)
 }

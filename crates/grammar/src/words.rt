@@ -1,47 +1,42 @@
 // Bytes of the text, one by one and eight at a time, and fixed words compared with them.
-ghost use Rattle.std.specs.Prelude.{◌≡◌, true, ◌&&◌, ◌||◌, ◌+◌, ◌^◌, ◌≤◌, ◌<◌, length, take, drop, get_or};
+ghost use Rattle.std.specs.Prelude.{◌≡◌, true, ◌&&◌, ◌||◌, ◌+◌, ◌^◌, ◌≤◌, ◌<◌, ◌++◌, length, take, drop, get_or};
 ghost use Rattle.rules.specs.Lists.{Every};
-ghost use Rattle.grammar.specs.Words.{Byte, word_of, begins, plain};
-
-fn wide(b: u8) -> u64
-    ensures { (result ≡ b) × (result ≤ 255) }
-{
-    b as u64
-}
+ghost use Rattle.grammar.specs.Words.{Byte, word_of, begins, plain, After};
 
 // Both, and at least one.
 pub fn both(a: bool, b: bool) -> bool
     ensures { result ≡ (a && b) }
 {
-    if a { b } else { false }
+    a && b
 }
 
 pub fn either(a: bool, b: bool) -> bool
     ensures { result ≡ (a || b) }
 {
-    if a { true } else { b }
+    a || b
 }
 
 // The byte at a place, or 0 past the end.
 pub fn byte(s: &[u8], at: usize) -> u8
     ensures { result ≡ get_or s.now at 0 }
 {
-    if at < s.len() { s[at] } else { 0 }
+    s.get(at).copied().unwrap_or(0)
 }
 
-// Eight bytes as one number, low byte first. (The compiler makes one load of it.)
+// Eight bytes as one number, low byte first. (The compiler makes one load of it. `u64::from_le_bytes` takes an array, and there is none in the crates
+// that read a script.)
 fn load(s: &[u8], at: usize) -> u64
     requires { at + 8 ≤ length s.now }
     ensures { (result ≡ word_of (take 8 (drop at s.now))) × Every Byte (take 8 (drop at s.now)) }
 {
-    wide(s[at])
-        + wide(s[at + 1]) * 256
-        + wide(s[at + 2]) * 65536
-        + wide(s[at + 3]) * 16777216
-        + wide(s[at + 4]) * 4294967296
-        + wide(s[at + 5]) * 1099511627776
-        + wide(s[at + 6]) * 281474976710656
-        + wide(s[at + 7]) * 72057594037927936
+    u64::from(s[at])
+        + u64::from(s[at + 1]) * 256
+        + u64::from(s[at + 2]) * 65536
+        + u64::from(s[at + 3]) * 16777216
+        + u64::from(s[at + 4]) * 4294967296
+        + u64::from(s[at + 5]) * 1099511627776
+        + u64::from(s[at + 6]) * 281474976710656
+        + u64::from(s[at + 7]) * 72057594037927936
 }
 
 // The same where fewer than eight are left: the text's last eight, without those before the place.
@@ -73,10 +68,8 @@ fn word(w: &[u8]) -> u64
     ensures { (result ≡ word_of w.now) × Every Byte w.now }
 {
     let mut x: u64 = 0;
-    let mut i = w.len();
-    while 0 < i {
-        i -= 1;
-        x = x * 256 + wide(w[i]);
+    for i in (0..w.len()).rev() {
+        x = x * 256 + u64::from(w[i]);
     }
     x
 }
@@ -85,19 +78,37 @@ fn span(w: &[u8]) -> u64
     requires { length w.now ≤ 7 }
     ensures { result ≡ 256 ^ length w.now }
 {
-    let mut x: u64 = 1;
-    let mut i: usize = 0;
-    while i < w.len() {
-        x = x * 256;
-        i += 1;
-    }
-    x
+    1u64 << (w.len() * 8) as u32
 }
 
-// Whether the fixed word w stands at a place.
+// Whether the fixed word w stands at a place. (Not by `starts_with`, which takes a seventh more instructions to read a script.)
+#[inline(always)]
 pub fn begins_at(s: &[u8], at: usize, w: &[u8]) -> bool
     requires { (8 ≤ length s.now) × (at ≤ 131072) × (length w.now ≤ 7) × (plain w.now ≡ true) }
     ensures { result ≡ begins w.now (drop at s.now) }
 {
     eight(s, at) % span(w) == word(w)
+}
+
+// The place after the fixed word w, where it stands at a place.
+#[inline(always)]
+pub fn word_at(s: &[u8], at: usize, w: &[u8]) -> Option<usize>
+    requires { (8 ≤ length s.now) × (at ≤ 131072) × (length w.now ≤ 7) × (plain w.now ≡ true) }
+    ensures { After w.now s.now at result }
+{
+    if begins_at(s, at, w) {
+        Some(at + w.len())
+    } else {
+        None
+    }
+}
+
+// The same of two fixed words, one after the other.
+#[inline(always)]
+pub fn words_at(s: &[u8], at: usize, v: &[u8], w: &[u8]) -> Option<usize>
+    requires { (8 ≤ length s.now) × (at ≤ 131000) × (length v.now ≤ 7) × (plain v.now ≡ true) × (length w.now ≤ 7) × (plain w.now ≡ true) }
+    ensures { After (v.now ++ w.now) s.now at result }
+{
+    let next = word_at(s, at, v)?;
+    word_at(s, next, w)
 }

@@ -1,27 +1,32 @@
--- Each part is read where the one before it ends; the list tells its own words, its highest slot and what is over.
-use native.Mathlib.Omega.{arith}
-use mathlib.Core.Path.{refl, ◌∙◌}
-use Rattle.rules.specs.Lists.{all}
+-- Each part is read where the one before it ends; where one does not fit, the form does not. The list tells its own words, its highest slot and what is over.
 use Rattle.rules.specs.Text.{bytes}
 use Rattle.rules.specs.Tables.{cap_of}
-use Rattle.grammar.specs.Words.{plain}
-use Rattle.grammar.proofs.Told.{fits_as, two_words, word, last, a_number, a_cap, some_operands}
+use Rattle.grammar.proofs.Told.{no_line, fits_at, done, word, no_word, past, a_number, past_number, no_number, a_cap, past_cap, no_cap, some_operands, past_operands, no_operands}
 use Rattle.grammar.proofs.Telling.{new_tells}
 use Rattle.grammar.proofs.forms.new_at.Goals as goal
 
-pub begins_at-closed-requires : goal.begins_at-closed-requires
-unfolding plain all
-begins_at-closed-requires c = (c.requires.0, omega arith, omega arith, refl)
+pub returns-in_err-first : goal.returns-in_err-first
+returns-in_err-first c = no_line 8 c.args.at _ c.from_residual.ensures (no_word (bytes "(let (new ") _ c.in_err-first.ensures)
+
+pub returns-in_err-cap : goal.returns-in_err-cap
+returns-in_err-cap c = no_line 8 c.args.at _ c.from_residual-in_err-cap.ensures (past (bytes "(let (new ") c.in_ok-first.ensures (no_cap c.in_err-cap.ensures.s_value))
+
+pub returns-in_err-next : goal.returns-in_err-next
+returns-in_err-next c = no_line 8 c.args.at _ c.from_residual-in_err-next.ensures (past (bytes "(let (new ") c.in_ok-first.ensures (past_cap c.in_ok-cap.ensures.s_value (no_word (bytes " ") _ c.in_err-next.ensures)))
+
+pub returns-in_err-kind : goal.returns-in_err-kind
+returns-in_err-kind c = no_line 8 c.args.at _ c.from_residual-in_err-kind.ensures (past (bytes "(let (new ") c.in_ok-first.ensures (past_cap c.in_ok-cap.ensures.s_value (past (bytes " ") c.in_ok-next.ensures (no_number c.in_err-kind.ensures.s_value))))
+
+pub returns-in_err-given : goal.returns-in_err-given
+returns-in_err-given c = no_line 8 c.args.at _ c.from_residual-in_err-given.ensures (past (bytes "(let (new ") c.in_ok-first.ensures (past_cap c.in_ok-cap.ensures.s_value (past (bytes " ") c.in_ok-next.ensures (past_number c.in_ok-kind.ensures.s_value (no_operands c.in_err-given.ensures.operands_at)))))
+
+pub returns-in_err-end : goal.returns-in_err-end
+returns-in_err-end c = no_line 8 c.args.at _ c.from_residual-in_err-end.ensures (past (bytes "(let (new ") c.in_ok-first.ensures (past_cap c.in_ok-cap.ensures.s_value (past (bytes " ") c.in_ok-next.ensures (past_number c.in_ok-kind.ensures.s_value (past_operands c.in_ok-given.ensures.operands_at.fits (no_word (bytes "))\n") _ c.in_err-end.ensures))))))
 
 pub returns : goal.returns
-returns c =
-    record {
-      parts = (cap_of c.cap_at-cap.result.word, (c.number_at-kind.result.word, (c.operands_at-given.ensures.operands_at.items, tt)));
-      fits = fits_as c.args.at
-          (two_words (bytes "(let (") (bytes "new ") c.begins_at-opened.ensures c.begins_at-named.ensures
-          (a_cap c.cap_at-cap.result c.cap_at-cap.ensures.s_value (word (bytes " ") c.begins_at-parted.ensures
-          (a_number c.number_at-kind.result c.number_at-kind.ensures.s_value (some_operands c.operands_at-given.ensures.operands_at (last (bytes "))\n") c.begins_at-closed.ensures))))))
-          (c.short_line-l.ensures.ok_value.0 ∙ rw (c.both-ok.ensures, c.both-5.ensures, c.both-4.ensures, c.both-3.ensures, c.both-2.ensures, c.both.ensures)) c.short_line-l.ensures.over_value.3;
-      tells = new_tells c.cap_at-cap.result.word c.cap_at-cap.ensures.word_bound.0 c.number_at-kind.result.word c.operands_at-given.ensures.operands_at.items c.operands_at-given.ensures.operands_at.listed (rw (c.short_line-l.ensures.ok_value.1, c.short_line-l.ensures.ok_value.2, c.short_line-l.ensures.ok_value.3, c.short_line-l.ensures.ok_value.4))
-          (rw (c.either.ensures, c.over.ensures)) c.operands_at-given.ensures.operands_at.need c.operands_at-given.ensures.operands_at.own;
-    }
+returns c = record {
+  parts = (cap_of c.in_ok-cap.cap.word, (c.in_ok-kind.kind.word, (c.in_ok-given.ensures.operands_at.items, tt)));
+  fits = fits_at _ (word (bytes "(let (new ") c.in_ok-first.ensures (a_cap c.in_ok-cap.ensures.s_value (word (bytes " ") c.in_ok-next.ensures (a_number c.in_ok-kind.ensures.s_value (some_operands c.in_ok-given.ensures.operands_at.fits (word (bytes "))\n") c.in_ok-end.ensures done)))))) c.short_line-l.ensures.rest.3;
+  tells = new_tells c.in_ok-cap.cap.word c.in_ok-cap.ensures.word_bound.0 c.in_ok-kind.kind.word c.in_ok-given.ensures.operands_at.items c.in_ok-given.ensures.operands_at.listed
+      (let w = c.short_line-l.ensures.words in rw (w.0, w.1, w.2, w.3)) (rw (c.either.ensures, c.over.ensures)) c.in_ok-given.ensures.operands_at.need c.in_ok-given.ensures.operands_at.own;
+}

@@ -1,17 +1,21 @@
--- Each part is read where the one before it ends.
-use mathlib.Core.Path.{◌∙◌}
+-- Each part is read where the one before it ends; where one does not fit, the form does not.
 use Rattle.rules.specs.Text.{bytes}
-use Rattle.grammar.proofs.Told.{fits_as, two_words, last, a_number}
+use Rattle.grammar.proofs.Told.{no_line, fits_at, done, word, no_word, past, a_number, past_number, no_number}
 use Rattle.grammar.proofs.Telling.{short_row, spawn_tells}
 use Rattle.grammar.proofs.forms.spawn_at.Goals as goal
 
+pub returns-in_err-first : goal.returns-in_err-first
+returns-in_err-first c = no_line 10 c.args.at _ c.from_residual.ensures (no_word (bytes "(let (spawn ") _ c.in_err-first.ensures)
+
+pub returns-in_err-block : goal.returns-in_err-block
+returns-in_err-block c = no_line 10 c.args.at _ c.from_residual-in_err-block.ensures (past (bytes "(let (spawn ") c.in_ok-first.ensures (no_number c.in_err-block.ensures.s_value))
+
+pub returns-in_err-end : goal.returns-in_err-end
+returns-in_err-end c = no_line 10 c.args.at _ c.from_residual-in_err-end.ensures (past (bytes "(let (spawn ") c.in_ok-first.ensures (past_number c.in_ok-block.ensures.s_value (no_word (bytes "))\n") _ c.in_err-end.ensures)))
+
 pub returns : goal.returns
-returns c =
-    record {
-      parts = (c.number_at-block.result.word, tt);
-      fits = fits_as c.args.at
-          (two_words (bytes "(let (") (bytes "spawn ") c.begins_at-opened.ensures c.begins_at-named.ensures
-          (a_number c.number_at-block.result c.number_at-block.ensures.s_value (last (bytes "))\n") c.begins_at-closed.ensures)))
-          (c.short_line-l.ensures.ok_value.0 ∙ rw (c.both-ok.ensures, c.both-2.ensures, c.both.ensures)) c.short_line-l.ensures.over_value.3;
-      tells = spawn_tells c.number_at-block.result.word (short_row c.short_line-l.result c.short_line-l.ensures.ok_value) c.over.ensures c.short_line-l.ensures.over_value.1 c.short_line-l.ensures.over_value.2;
-    }
+returns c = record {
+  parts = (c.in_ok-block.block.word, tt);
+  fits = fits_at _ (word (bytes "(let (spawn ") c.in_ok-first.ensures (a_number c.in_ok-block.ensures.s_value (word (bytes "))\n") c.in_ok-end.ensures done))) c.short_line-l.ensures.rest.3;
+  tells = spawn_tells c.in_ok-block.block.word (short_row c.short_line-l.result c.short_line-l.ensures.words) c.over.ensures c.short_line-l.ensures.rest.1 c.short_line-l.ensures.rest.2;
+}

@@ -5,4 +5,4 @@ use Rattle.grammar.proofs.parts.no_items.Goals as goal
 
 pub returns : goal.returns
 unfolding any pad
-returns c = record { listed = record { count = refl; words = refl; over = refl; same = refl }; ok_value = (refl, refl, refl, refl) }
+returns c = record { listed = record { count = refl; words = refl; over = refl; same = refl }; ends = (refl, refl, refl) }

@@ -8,51 +8,56 @@ use Rattle.rules.specs.Tables.{operand_item, operand_of}
 use Rattle.rules.specs.Reading.{slot_of, takes_first}
 use Rattle.rules.proofs.TableWords.{slot_of_word}
 use Rattle.grammar.specs.Items.{past}
-use Rattle.grammar.proofs.Many.{read_none, read_inside, read_more, read_all, operand_shortens}
-use Rattle.grammar.proofs.ItemLists.{any_more, past_more, listed_more}
 use Rattle.grammar.proofs.OperandWords.{operand_item_lem, operand_first}
+use Rattle.grammar.proofs.ItemLists.{any_more, past_more, listed_more}
+use Rattle.grammar.proofs.Many.{read_none, read_inside, read_more, read_fails, read_all, operand_shortens}
 use Rattle.grammar.proofs.parts.operands_at.Goals as goal
 
-pub loop-more-init : goal.loop-more-init
+pub loop-l-init : goal.loop-l-init
 unfolding past any
-loop-more-init c =
+loop-l-init c = record {
+  items = [];
+  read = read_none c.no_items-l.ensures.ends.2;
+  listed = c.no_items-l.ensures.listed;
+  need = c.no_items-l.ensures.ends.0;
+  own = c.no_items-l.ensures.ends.1;
+  start = omega arith;
+  limit = omega arith;
+}
+
+pub loop-l-smaller : goal.loop-l-smaller
+loop-l-smaller c =
+    let inside = read_inside c.loop-l.invariant.read c.byte.ensures c.loop-l-test.true in
+    omega (arith, c.in_ok-w.ensures.word_bound)
+
+pub loop-l-preserved : goal.loop-l-preserved
+loop-l-preserved c =
+    let inside = read_inside c.loop-l.invariant.read c.byte.ensures c.loop-l-test.true in
+    let w = operand_of c.in_ok-w.w.word in
     record {
-      items = [];
-      read = read_none c.no_items-l.ensures.ok_value.0 c.no_items-l.ensures.ok_value.3 c.byte-more.ensures;
-      listed = c.no_items-l.ensures.listed;
-      need = c.no_items-l.ensures.ok_value.1;
-      own = c.no_items-l.ensures.ok_value.2;
-      start = omega arith;
-      limit = omega arith;
+      items = c.loop-l.invariant.items ++ (w ∷ []);
+      read = read_more c.loop-l.invariant.read c.byte.ensures w operand_shortens c.loop-l-test.true c.in_ok-w.ensures.s_value;
+      listed = listed_more operand_item slot_of c.loop-l.invariant.items w c.loop-l.invariant.listed c.with_item-next.ensures.adds (operand_item_lem c.in_ok-w.w.word) (sym (slot_of_word c.in_ok-w.w.word)) refl refl refl;
+      need = c.max.ensures ∙ past_more slot_of c.loop-l.invariant.items w c.loop-l.invariant.need (sym (slot_of_word c.in_ok-w.w.word));
+      own = c.either.ensures ∙ any_more takes_first c.loop-l.invariant.items w c.loop-l.invariant.own (sym (operand_first c.in_ok-w.w.word));
+      start = omega (arith, c.in_ok-w.ensures.word_bound);
+      limit = omega (arith, c.in_ok-w.ensures.word_bound);
     }
 
-pub loop-more-smaller : goal.loop-more-smaller
-loop-more-smaller c =
-    let inside = read_inside c.loop-more.invariant.read c.loop-more-test.true in
-    omega arith
-
-pub loop-more-preserved : goal.loop-more-preserved
-loop-more-preserved c =
-    let inside = read_inside c.loop-more.invariant.read c.loop-more-test.true in
-    let w = operand_of c.operand_at-w.result.word in
-    record {
-      items = c.loop-more.invariant.items ++ (w ∷ []);
-      read = read_more c.loop-more.invariant.read w operand_shortens c.loop-more-test.true c.operand_at-w.ensures.s_value c.byte.ensures c.both-more.ensures;
-      listed = listed_more operand_item slot_of c.loop-more.invariant.items w c.loop-more.invariant.listed c.with_item-next.ensures.adds (operand_item_lem c.operand_at-w.result.word) (sym (slot_of_word c.operand_at-w.result.word)) refl refl refl;
-      need = c.most.ensures ∙ past_more slot_of c.loop-more.invariant.items w c.loop-more.invariant.need (sym (slot_of_word c.operand_at-w.result.word));
-      own = c.either.ensures ∙ any_more takes_first c.loop-more.invariant.items w c.loop-more.invariant.own (sym (operand_first c.operand_at-w.result.word));
-      start = omega arith;
-      limit = omega arith;
-    }
+pub returns-in_err-w : goal.returns-in_err-w
+returns-in_err-w c = record {
+  operands_at = rw c.from_residual.ensures (read_fails c.loop-l.invariant.read c.byte.ensures operand_shortens (operand_of 0) c.loop-l-test.true c.in_err-w.ensures.s_value);
+  at_le_end = rw c.from_residual.ensures tt;
+}
 
 pub returns : goal.returns
 returns c = record {
   operands_at = record {
-    items = c.loop-more.invariant.items;
-    fits = read_all _ c.loop-more.invariant.read c.loop-more-test.false;
-    listed = c.loop-more.invariant.listed;
-    need = c.loop-more.invariant.need;
-    own = c.loop-more.invariant.own;
+    items = c.loop-l.invariant.items;
+    fits = read_all c.loop-l.invariant.read c.byte.ensures c.loop-l-test.false;
+    listed = c.loop-l.invariant.listed;
+    need = c.loop-l.invariant.need;
+    own = c.loop-l.invariant.own;
   };
-  at_le_end = (c.loop-more.invariant.start, c.loop-more.invariant.limit);
+  at_le_end = (c.loop-l.invariant.start, c.loop-l.invariant.limit);
 }

@@ -8,7 +8,7 @@ use Rattle.grammar.proofs.words.load.Goals as goal
 pub returns : goal.returns
 returns c = (
   word_eight c.args.s.now c.args.at c.requires
-      c.wide.ensures.0 c.wide-2.ensures.0 c.wide-3.ensures.0 c.wide-4.ensures.0
-      c.wide-5.ensures.0 c.wide-6.ensures.0 c.wide-7.ensures.0 c.wide-8.ensures.0,
+      c.from.ensures c.from-2.ensures c.from-3.ensures c.from-4.ensures
+      c.from-5.ensures c.from-6.ensures c.from-7.ensures c.from-8.ensures,
   every_take Byte 8 (drop c.args.at c.args.s.now) (every_drop Byte c.args.at c.args.s.now (every_byte c.args.s.now (λ i. (c.type_inv.s i).fits))),
 )

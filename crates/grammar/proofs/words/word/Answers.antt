@@ -12,28 +12,15 @@ unfolding word_of
 loop-i-init c =
     (omega arith, rw (drop-length c.args.w.now), every_byte c.args.w.now (λ i. (c.type_inv.w i).fits))
 
-pub overflow_sub-i : goal.overflow_sub-i
-overflow_sub-i c = omega arith
-
 pub overflow_mul-x : goal.overflow_mul-x
 overflow_mul-x c = omega (arith, six_bytes c.args.w.now c.loop-i.i c.loop-i.invariant.2 c.loop-i-test.true c.requires)
 
-pub bounds-w-i : goal.bounds-w-i
-bounds-w-i c = omega arith
-
-pub wide-requires : goal.wide-requires
-wide-requires c = tt
-
 pub overflow_add-x : goal.overflow_add-x
-overflow_add-x c =
-    omega (arith, six_bytes c.args.w.now c.loop-i.i c.loop-i.invariant.2 c.loop-i-test.true c.requires)
-
-pub loop-i-smaller : goal.loop-i-smaller
-loop-i-smaller c = omega arith
+overflow_add-x c = omega (arith, six_bytes c.args.w.now c.loop-i.i c.loop-i.invariant.2 c.loop-i-test.true c.requires)
 
 pub loop-i-preserved : goal.loop-i-preserved
 loop-i-preserved c =
-    (omega arith, word_earlier c.args.w.now c.loop-i.i c.loop-i-test.true c.loop-i.invariant.0 c.loop-i.invariant.1 c.wide.ensures.0, c.loop-i.invariant.2)
+    (omega arith, word_earlier c.args.w.now c.loop-i.i c.loop-i-test.true c.loop-i.invariant.0 c.loop-i.invariant.1 c.from.ensures, c.loop-i.invariant.2)
 
 pub returns : goal.returns
 returns c =

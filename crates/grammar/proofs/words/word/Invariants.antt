@@ -8,6 +8,3 @@ use Rattle.grammar.proofs.words.word.Given as goal
 
 abbrev pub invariant-loop-i : goal.invariant-loop-i
 invariant-loop-i l = (l.i ≤ length l.w) × (l.x ≡ word_of (drop l.i l.w)) × Every Byte l.w
-
-abbrev pub decreases-loop-i : goal.decreases-loop-i
-decreases-loop-i l = l.i
