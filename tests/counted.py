@@ -20,7 +20,7 @@ READING = ['grammar', 'reader']
 ITSELF = 'calls itself'
 ALLOWED = [
     ('table::release_slots', 'for i in 0..n', 'the slots of the one frame that ends'),
-    ('table::clear_frame', 's[at..at + 19].fill', 'the words of the one frame that ends'),
+    ('table::clear_frame', 's[h.frame..h.frame + 19].fill', 'the words of the one frame that ends'),
     ('table::copy_table', 't[..8192].copy_from_slice', 'the words of a run that was made, handed out'),
     ('walk::walk', 'for j in 0..4', 'the fields of one object that a copy meets'),
     ('walk::walk', ITSELF, 'the objects that a copy meets, each once'),
@@ -77,7 +77,7 @@ PASSED = [
     ('run', 'fn all_finished(s: &[u16]) -> bool {\n    let mut t: usize = 0;\n    while t < 16 { // every thread\n        t += 1;\n    }\n    true\n}'),
     ('walk', 'pub fn walk(s: &[u16], v: Value) {\n    for j in 0..4 {\n        walk(s, v);\n    }\n}'),
     ('table', 'pub fn erase_state(s: &mut [u16]) {\n    for o in 0..256 {\n        erase_object(s, o);\n    }\n}'),
-    ('table', 'fn clear_frame(s: &mut [u16]) {\n    s[at..at + 19].fill(0);\n}'),
+    ('table', 'fn clear_frame(s: &mut [u16]) {\n    s[h.frame..h.frame + 19].fill(0);\n}'),
     ('rules', 'fn number(self) -> u16 {\n    self as u16\n}\n\nimpl From<u16> for Form {\n    fn from(n: u16) -> Form {\n        Form::Kind\n    }\n}'),
 ]
 

@@ -67,18 +67,18 @@ module _ {l rest : List ℕ} {N : ℕ → ℕ} {S : State} (held : Counted l N S
   none_inside inner = get_or-eq_default (outermost_first (thread_at S t).frames) no_frame (omega (arith, length_outermost (thread_at S t).frames, inner.frames))
 
   -- the words of a frame that was not there: four are written, the others are zero
-  callee_written : (b at : ℕ) (x y : Value) → k < 15 → Innermost t k S → at ≡ 2058 + t * 306 + k * 19
-      → set (set (set (set l (at + 19) b) (at + 21) 2) (at + 22) (word x)) (at + 23) (word y) ≡ splice l (2058 + t * 306 + suc k * 19) (frame_words (callee b x y))
+  callee_written : (b at : ℕ) (x y : Value) → k < 15 → Innermost t k S → at ≡ 2058 + t * 306 + suc k * 19
+      → set (set (set (set l at b) (at + 2) 2) (at + 3) (word x)) (at + 4) (word y) ≡ splice l (2058 + t * 306 + suc k * 19) (frame_words (callee b x y))
   callee_written b at x y h inner e =
       let next : ℕ = 2058 + t * 306 + suc k * 19 in
       let none : Part l next 19 (frame_words no_frame) l = rw (none_inside inner) at (frame_part held t (suc k) few (omega arith)) in
-      let head = part_set (part_set none 0 (at + 19) b (omega arith) (omega arith)) 2 (at + 21) 2 (omega arith) (omega arith) in
-      (part_set (part_set head 3 (at + 22) (word x) (omega arith) (omega arith)) 4 (at + 23) (word y) (omega arith) (omega arith)).is
+      let head = part_set (part_set none 0 at b (omega arith) (omega arith)) 2 (at + 2) 2 (omega arith) (omega arith) in
+      (part_set (part_set head 3 (at + 3) (word x) (omega arith) (omega arith)) 4 (at + 4) (word y) (omega arith) (omega arith)).is
       ∙ ap (splice l next) (callee_words b x y)
 
   -- a frame is pushed
-  pub frame_called : (b at wx wy : ℕ) (x y : Value) → wx ≡ word x → wy ≡ word y → k < 15 → Innermost t k S → at ≡ 2058 + t * 306 + k * 19
-      → Counted (set (set (set (set (set (set l (at + 19) b) (at + 21) 2) (at + 22) wx) (at + 23) wy) (2056 + t * 306) (k + 2)) (2057 + t * 306) 0) N (called t (callee b x y) S) rest
+  pub frame_called : (b at wx wy : ℕ) (x y : Value) → wx ≡ word x → wy ≡ word y → k < 15 → Innermost t k S → at ≡ 2058 + t * 306 + suc k * 19
+      → Counted (set (set (set (set (set (set l at b) (at + 2) 2) (at + 3) wx) (at + 4) wy) (2056 + t * 306) (k + 2)) (2057 + t * 306) 0) N (called t (callee b x y) S) rest
   unfolding called
   frame_called b at wx wy x y first second h inner e =
       rw (first, second, callee_written b at x y h inner e) (made_ready S t _ _ inner.thread few (frame_pushed held t k (callee b x y) few h inner))

@@ -15,13 +15,11 @@ use rules::{Cap, Value};
 fn unpack(w: u16) -> Value
     ensures { (result ≡ value_of w) × InTable result }
 {
-    if w == 0 {
-        return Value::Absent;
+    match w {
+        0 => Value::Absent,
+        1..=256 => Value::Obj(w - 1),
+        _ => Value::Chan((w - 257) % 16),
     }
-    if w < 257 {
-        return Value::Obj(w - 1);
-    }
-    Value::Chan((w - 257) % 16)
 }
 
 fn pack(v: Value) -> u16
@@ -111,8 +109,7 @@ pub fn slot(s: &[u16], h: Here, i: usize) -> Value
     ensures value { (result ≡ value_of (slice_index s.now (h.frame + 3 + i))) × InTable result }
     ensures sees { Sees s.now (λ S. InTable (slot_at (frame_at S h.thread h.depth).slots i)) (λ S. slot_at (frame_at S h.thread h.depth).slots i) result }
 {
-    let at = h.frame;
-    unpack(s[at + 3 + i])
+    unpack(s[h.frame + 3 + i])
 }
 
 // Slot i of frame k of thread t; absent where it is not filled.
@@ -232,7 +229,7 @@ pub fn locate(p: &[u16], s: &[u16], t: usize, d: u16) -> Here
     let first = super::program::first_line(p, b);
     Here {
         thread: t,
-        depth: depth,
+        depth,
         frame: 2058 + t * 306 + depth * 19,
         row: (72 + (first + l) * 8) % 8192,
     }
@@ -274,8 +271,7 @@ pub fn clear_slot(s: &mut [u16], h: Here, i: usize)
     ensures s_after { s.new ≡ slice_set s.old (h.frame + 3 + i) 0 }
     ensures becomes { Becomes s.old (HasSlot h.thread h.depth i) (cleared h.thread h.depth i) s.new }
 {
-    let at = h.frame;
-    s[at + 3 + i] = 0;
+    s[h.frame + 3 + i] = 0;
 }
 
 // Field j of object o takes this value.
@@ -292,12 +288,10 @@ pub fn put_message(s: &mut [u16], h: Here, c: u16, v: Value)
     requires { (8192 ≤ length s.old) × (c < 16) × InTable v }
     ensures { Becomes s.old (Puts h.thread c) (λ S. sending h.thread ((channel_at S c).number + 1) (channelled c v ((channel_at S c).number + 1) S)) s.new }
 {
-    let t = h.thread;
-    let x = pack(v);
     let n = s[6953 + c as usize * 2] % 32768 + 1;
-    s[6952 + c as usize * 2] = x;
+    s[6952 + c as usize * 2] = pack(v);
     s[6953 + c as usize * 2] = n;
-    s[2057 + t * 306] = n + 1;
+    s[2057 + h.thread * 306] = n + 1;
 }
 
 // Channel c is emptied.
@@ -354,16 +348,13 @@ pub fn push_frame(s: &mut [u16], h: Here, b: u16, target: Value, v: Value)
     requires { (8192 ≤ length s.old) × (h.depth < 15) × InTable target × InTable v }
     ensures { Becomes s.old (Innermost h.thread h.depth) (called h.thread (callee b target v)) s.new }
 {
-    let at = h.frame;
-    let t = h.thread;
-    let x = pack(target);
-    let y = pack(v);
-    s[at + 19] = b;
-    s[at + 21] = 2;
-    s[at + 22] = x;
-    s[at + 23] = y;
-    s[2056 + t * 306] = h.depth as u16 + 2;
-    s[2057 + t * 306] = 0;
+    let at = h.frame + 19;
+    s[at] = b;
+    s[at + 2] = 2;
+    s[at + 3] = pack(target);
+    s[at + 4] = pack(v);
+    s[2056 + h.thread * 306] = h.depth as u16 + 2;
+    s[2057 + h.thread * 306] = 0;
 }
 
 // The innermost frame's words are zero again.
@@ -371,11 +362,9 @@ fn clear_frame(s: &mut [u16], h: Here)
     requires { (8192 ≤ length s.old) }
     ensures { Becomes s.old (Innermost h.thread h.depth) (left h.thread) s.new }
 {
-    let at = h.frame;
-    let t = h.thread;
-    s[at..at + 19].fill(0);
-    s[2056 + t * 306] = h.depth as u16;
-    s[2057 + t * 306] = 0;
+    s[h.frame..h.frame + 19].fill(0);
+    s[2056 + h.thread * 306] = h.depth as u16;
+    s[2057 + h.thread * 306] = 0;
 }
 
 // Each value in the innermost frame's slots gets a holder less.

@@ -9,4 +9,8 @@ returns c =
     let words = a.form ∷ a.a ∷ a.b ∷ a.c ∷ a.d ∷ a.e ∷ a.f ∷ 0 ∷ [] in
     let after : (72 + a.n * 8) + 8 ≡ 80 + a.n * 8 = omega arith in
     let written = eight_set a.t.now (72 + a.n * 8) a.form a.a a.b a.c a.d a.e a.f 0 (omega arith)
-    ∙ ap (λ i. take (72 + a.n * 8) a.t.now ++ (words ++ drop i a.t.now)) after in record { t_after = written; line_added = record { added = λ counts rest Fs F filled here room same none. line_added filled a.n here room F words _ written same none } }
+    ∙ ap (λ i. take (72 + a.n * 8) a.t.now ++ (words ++ drop i a.t.now)) after in
+    record {
+      t_after = written;
+      line_added = record { added = λ counts rest Fs F filled here room same none. line_added filled a.n here room F words _ written same none };
+    }

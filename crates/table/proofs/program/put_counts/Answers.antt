@@ -6,4 +6,8 @@ use Rattle.table.proofs.program.put_counts.Goals as goal
 
 pub returns : goal.returns
 returns c =
-    let a = c.args in record { t_after = sets-eq (a.kinds ∷ a.blocks ∷ a.lines ∷ a.edition ∷ []) a.t.now 0 (omega arith); counted = record { counted = λ rest Fs filled. counts_added filled a.kinds a.blocks a.lines a.edition _ refl } }
+    let a = c.args in
+    record {
+      t_after = sets-eq (a.kinds ∷ a.blocks ∷ a.lines ∷ a.edition ∷ []) a.t.now 0 (omega arith);
+      counted = record { counted = λ rest Fs filled. counts_added filled a.kinds a.blocks a.lines a.edition _ refl };
+    }

@@ -3,12 +3,11 @@ use Rattle.std.proofs.Common.{refl, arith}
 use Rattle.table.proofs.StateFrames.{on_its_line}
 use Rattle.table.proofs.state.locate.Goals as goal
 
-pub returns : goal.returns
-returns c = record {
-  thread = refl;
-  stands = record {
-    depth = λ S rest held e few. omega arith;
-    row = λ P S counts rest₁ rest₂ filled held there few.
-        on_its_line P filled there (c.frame_block.ensures.sees.sees S rest₂ held tt) (c.frame_line-l.ensures.sees.sees S rest₂ held tt) c.first_line-first.ensures.value.0 refl few;
-  };
+pub returns-clause-stands : goal.returns-clause-stands
+returns-clause-stands c = record {
+  depth = λ S rest held e few. omega arith;
+  row = λ P S counts rest₁ rest₂ filled held there few.
+      let block = c.frame_block.ensures.sees.sees S rest₂ held tt in
+      let line = c.frame_line-l.ensures.sees.sees S rest₂ held tt in
+      on_its_line P filled there block line c.first_line-first.ensures.value.0 refl few;
 }

@@ -5,4 +5,4 @@ use Rattle.table.proofs.state.put_message.Goals as goal
 
 pub returns : goal.returns
 returns c =
-    record { becomes = λ S rest held puts. message_put held c.args.h.thread c.args.c _ _ c.args.h.placed.thread (omega arith) c.pack-x.ensures puts }
+    record { becomes = λ S rest held puts. message_put held c.args.h.thread c.args.c _ _ c.args.h.placed.thread (omega arith) c.pack.ensures puts }
