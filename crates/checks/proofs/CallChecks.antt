@@ -1,26 +1,30 @@
 -- Each way out of the checks of call and spawn, and the method that a call looks up: under the facts of that way the rule computes to the check's answer.
-use Prim.Native.Nat.{ℕ, zero, suc, ◌/◌, ◌%◌, ◌≤◌, ◌<◌}
+use Prim.Native.Nat.{ℕ, zero, suc, ◌-◌, ◌/◌, ◌%◌, ◌≤◌, ◌<◌}
 use native.Mathlib.Nat.{mod-eq_of_lt}
 use native.Mathlib.Omega.{arith}
 use mathlib.Core.Path.{◌≡◌, refl, sym, ap, ◌∙◌}
 use mathlib.Core.Bool.{Bool, true, false}
 use mathlib.Core.List.{List, [], ◌∷◌, map}
 use lib.Dec.{ltb}
-use lib.ListN.{length, get_or, length-map, get_or-eq_default}
+use lib.ListN.{length, get_or}
 use borrow.Author.Tests.{lt-ltb, le-ltb}
 use Rattle.rules.specs.Numbers as No
 use Rattle.rules.specs.declared.Value.{Value}
-use Rattle.rules.specs.declared.Value.TheVariants.{Absent, Obj, Chan}
+use Rattle.rules.specs.declared.Value.TheVariants.{Obj}
 use Rattle.rules.specs.Script.{Program, lines_of, kind_at}
 use Rattle.rules.specs.State.{State, Frame, object_at}
+use Rattle.rules.specs.Mosts.{mosts}
+use Rattle.rules.specs.Valid.{Valid}
 use Rattle.rules.specs.Tables.{operand_of}
 use Rattle.rules.specs.Turn.{Res, stop, ok, ◌>>=◌, ◌>>◌, check, permit, is_foreign, as_object, object, call_line}
 use Rattle.rules.proofs.ListLaws.{impossible}
 use Rattle.rules.proofs.Keeps.{kind_ok}
 use Rattle.table.specs.declared.standing.Here.{Here}
 use Rattle.table.specs.ProgramTable.{Filled, KindMethod}
-use Rattle.table.specs.StateTable.{Sees, Any}
-use Rattle.checks.specs.Checked.{outcome_of, passed, Made, Few, Stand, here_at, Named, MethodItem}
+use Rattle.table.specs.StateTable.{Held, Sees, Any}
+use Rattle.std.proofs.lemmas.Option.{slice_get_past}
+use Rattle.std.specs.Prelude.{Option, None, Some, slice_get}
+use Rattle.checks.specs.Checked.{outcome_of, passed, Made, Few, Stand, here_at, Named, MethodBlock}
 use Rattle.checks.proofs.CheckLaws.{stays, as_outcome}
 use Rattle.checks.proofs.Standing.{TargetSeen, OperandChecked, kind_is_there, target_read, target_object, operand_goes}
 
@@ -37,39 +41,62 @@ module _ {s : List ℕ} {k : ℕ} (count : Sees s Any (λ S. length S.threads) k
 
 -- ---- The method
 
--- an item of a list is 0 where the list has no such place
-no_item : (ms : List ℕ) (j : ℕ) → get_or (map suc ms) j 0 ≡ 0 → length ms ≤ j
-no_item [] j e = omega arith
+-- an item of a list is 0 where the list has no such place, and one more than what stands there
+no_item : (ms : List ℕ) (j : ℕ) → get_or (map suc ms) j 0 ≡ 0 → None ≡ slice_get ms j
+no_item [] j e = refl
 no_item (x ∷ ms) zero e = impossible cc
-no_item (x ∷ ms) (suc j) e = omega (arith, no_item ms j e)
+no_item (x ∷ ms) (suc j) e = no_item ms j e
 
-some_item : (ms : List ℕ) (j : ℕ) → (get_or (map suc ms) j 0 ≡ 0 → ⊥) → j < length ms
+some_item : (ms : List ℕ) (j : ℕ) → (get_or (map suc ms) j 0 ≡ 0 → ⊥) → Some (get_or (map suc ms) j 0 - 1) ≡ slice_get ms j
 some_item [] j some = absurd (some refl)
-some_item (x ∷ ms) zero some = omega arith
-some_item (x ∷ ms) (suc j) some = omega (arith, some_item ms j some)
+some_item (x ∷ ms) zero some = ap Some (omega arith)
+some_item (x ∷ ms) (suc j) some = some_item ms j some
 
 -- no kind has a fifth method
-pub no_fifth_method : (p s : List ℕ) (n : ℕ) {j : ℕ} → 4 ≤ j → MethodItem p s n j 0
+pub no_fifth_method : (p s : List ℕ) (n : ℕ) {j : ℕ} → 4 ≤ j → MethodBlock p s n j None
 no_fifth_method p s n {j} past =
     record {
       is = λ P S counts rest₁ rest₂ filled held valid made there.
           let k = (object_at S.objects n).kind in
           let few = (kind_ok _ P valid k there).few_methods in
-          let ms = (kind_at P k).methods in
-          sym (get_or-eq_default (map suc ms) 0 (omega (arith, few, length-map ms suc)));
+          sym (slice_get_past (kind_at P k).methods j (omega (arith, few, past)));
     }
 
--- the kind k of object n is one of 32
-pub method_of_kind : {p s : List ℕ} {n k r : ℕ} (j : ℕ) → Sees s (λ S. n < length S.objects) (λ S. (object_at S.objects n).kind) k → KindMethod p (k % 32) j r → MethodItem p s n j r
-method_of_kind {k = k} j kind method =
-    record {
-      is = λ P S counts rest₁ rest₂ filled held valid made there.
-          let k-is = kind.sees S rest₂ held made in
-          let same : k % 32 ≡ (object_at S.objects _).kind = ap (◌% 32) k-is ∙ mod-eq_of_lt (omega (arith, there, valid.few_kinds)) in
-          method.is P counts rest₁ filled (rw same there) ∙ ap (λ k. get_or (map suc (kind_at P k).methods) j 0) same;
-    }
+-- the kind k of object n is one of 32; its item is r
+module _ {p s : List ℕ} {n k r : ℕ} (j : ℕ) (kind : Sees s (λ S. n < length S.objects) (λ S. (object_at S.objects n).kind) k) (method : KindMethod p (k % 32) j r) where
+  item_is : (P : Program) (S : State) (counts rest₁ rest₂ : List ℕ) → Filled p counts (lines_of P) rest₁ → Held s S rest₂ → Valid mosts P → n < length S.objects
+      → (object_at S.objects n).kind < length P.kinds → r ≡ get_or (map suc (kind_at P (object_at S.objects n).kind).methods) j 0
+  item_is P S counts rest₁ rest₂ filled held valid made there =
+      let k-is = kind.sees S rest₂ held made in
+      let same : k % 32 ≡ (object_at S.objects _).kind = ap (◌% 32) k-is ∙ mod-eq_of_lt (omega (arith, there, valid.few_kinds)) in
+      method.is P counts rest₁ filled (rw same there) ∙ ap (λ k. get_or (map suc (kind_at P k).methods) j 0) same
+
+  pub no_such_method : r ≡ 0 → MethodBlock p s n j None
+  no_such_method none =
+      record {
+        is = λ P S counts rest₁ rest₂ filled held valid made there.
+            no_item (kind_at P (object_at S.objects n).kind).methods j (sym (item_is P S counts rest₁ rest₂ filled held valid made there) ∙ none);
+      }
+
+  pub such_method : (r ≡ 0 → ⊥) → MethodBlock p s n j (Some (r - 1))
+  such_method some =
+      record {
+        is = λ P S counts rest₁ rest₂ filled held valid made there.
+            let is = item_is P S counts rest₁ rest₂ filled held valid made there in
+            ap (λ (i : ℕ). Some (i - 1)) is ∙ some_item (kind_at P (object_at S.objects n).kind).methods j (λ e. some (is ∙ e));
+      }
 
 -- ---- call
+
+got_none : (ms : List ℕ) (j : ℕ) → slice_get ms j ≡ None → length ms ≤ j
+got_none [] j e = omega arith
+got_none (x ∷ ms) zero e = impossible cc
+got_none (x ∷ ms) (suc j) e = omega (arith, got_none ms j e)
+
+got_some : (ms : List ℕ) (j : ℕ) {x : ℕ} → slice_get ms j ≡ Some x → j < length ms
+got_some [] j e = impossible cc
+got_some (y ∷ ms) zero e = omega arith
+got_some (y ∷ ms) (suc j) e = omega (arith, got_some ms j e)
 
 -- the checks of a call of method j on the target in slot i answer k
 pub record ChecksCall (p s : List ℕ) (h : Here) (i j w : ℕ) (k : Res (Unit {0})) : Type 0 where
@@ -84,43 +111,38 @@ module _ {p s : List ℕ} {h : Here} (i j w : ℕ) {k : Res (Unit {0})} (first :
   call_no_operand fails = record { checks = λ P n S f fs counts rest₁ rest₂ filled st named. stays _ _ fails (first.checks P n S f fs rest₂ st named.1) }
 
   module _ {v : Value} (goes : passed k ≡ true) (target : TargetSeen s h i w v) where
-    pub call_no_target : v ≡ Absent → ChecksCall p s h i j w (stop No.absent)
-    unfolding call_line as_object ◌>>=◌
-    call_no_target is =
-        record { checks = λ P n S f fs counts rest₁ rest₂ filled st named. rw (operand_goes st w first goes named.1.0, target_read st i w target named.0 ∙ is) refl }
+    pub call_no_object : {n : ℕ} → stop n ≡ as_object v → ChecksCall p s h i j w (stop n)
+    unfolding call_line ◌>>=◌
+    call_no_object is =
+        record { checks = λ P n S f fs counts rest₁ rest₂ filled st named. rw (operand_goes st w first goes named.1.0, target_read st i w target named.0, ← is) refl }
 
-    pub call_of_channel : {c : ℕ} → v ≡ Chan c → ChecksCall p s h i j w (stop No.wrong_thing)
-    unfolding call_line as_object ◌>>=◌
-    call_of_channel is =
-        record { checks = λ P n S f fs counts rest₁ rest₂ filled st named. rw (operand_goes st w first goes named.1.0, target_read st i w target named.0 ∙ is) refl }
-
-    -- object o, whose method is the item m
-    module _ {o m : ℕ} (is : v ≡ Obj o) (method : MethodItem p s o j m) where
+    -- object o, whose method is the block m
+    module _ {o : ℕ} {m : Option ℕ} (is : v ≡ Obj o) (method : MethodBlock p s o j m) where
       module _ {P : Program} {n : ℕ} {S : State} {f : Frame} {fs : List Frame} {counts rest₁ rest₂ : List ℕ}
           (filled : Filled p counts (lines_of P) rest₁) (st : Stand s h P n S f fs rest₂) (named : Named (i ∷ w / 2 ∷ []) f) where
         made : o < length S.objects
         made = target_object st i w o (target_read st i w target named.0 ∙ is)
 
-        item_is : get_or (map suc (kind_at P (object_at S.objects o).kind).methods) j 0 ≡ m
-        item_is = sym (method.is P S counts rest₁ rest₂ filled st.held st.valid made (kind_is_there st o made))
+        method_is : m ≡ slice_get (kind_at P (object_at S.objects o).kind).methods j
+        method_is = method.is P S counts rest₁ rest₂ filled st.held st.valid made (kind_is_there st o made)
 
-      pub call_no_method : m ≡ 0 → ChecksCall p s h i j w (stop No.no_method)
+      pub call_no_method : m ≡ None → ChecksCall p s h i j w (stop No.no_method)
       unfolding call_line as_object object check ◌>>=◌ ◌>>◌
       call_no_method none =
           record {
             checks = λ P n S f fs counts rest₁ rest₂ filled st named.
                 let ms = (kind_at P (object_at S.objects o).kind).methods in
-                let has = le-ltb j (length ms) (no_item ms j (item_is filled st named ∙ none)) in
+                let has = le-ltb j (length ms) (got_none ms j (sym (method_is filled st named) ∙ none)) in
                 rw (operand_goes st w first goes named.1.0, target_read st i w target named.0 ∙ is, has) refl;
           }
 
-      module _ {b : Bool} (some : m ≡ 0 → ⊥) (away : Sees s (Made o) (λ S. is_foreign h.thread (object_at S.objects o)) b) where
+      module _ {b : Bool} {x : ℕ} (some : m ≡ Some x) (away : Sees s (Made o) (λ S. is_foreign h.thread (object_at S.objects o)) b) where
         module _ {P : Program} {n : ℕ} {S : State} {f : Frame} {fs : List Frame} {counts rest₁ rest₂ : List ℕ}
             (filled : Filled p counts (lines_of P) rest₁) (st : Stand s h P n S f fs rest₂) (named : Named (i ∷ w / 2 ∷ []) f) where
           has_method : ltb j (length (kind_at P (object_at S.objects o).kind).methods) ≡ true
           has_method =
               let ms = (kind_at P (object_at S.objects o).kind).methods in
-              lt-ltb j (length ms) (some_item ms j λ e. some (sym (item_is filled st named) ∙ e))
+              lt-ltb j (length ms) (got_some ms j (sym (method_is filled st named) ∙ some))
 
           foreign_is : is_foreign h.thread (object_at S.objects o) ≡ b
           foreign_is = sym (away.sees S rest₂ st.held (made filled st named))

@@ -5,10 +5,9 @@ use mathlib.Core.Bool.{Bool, true, false}
 use mathlib.Core.List.{List, [], ◌∷◌}
 use lib.ListN.{length}
 use borrow.Author.Tests.{eq-eqb, ne_eqb}
-use Rattle.rules.specs.Numbers as No
 use Rattle.rules.specs.declared.Cap.{Cap}
 use Rattle.rules.specs.declared.Value.{Value}
-use Rattle.rules.specs.declared.Value.TheVariants.{Absent, Obj, Chan}
+use Rattle.rules.specs.declared.Value.TheVariants.{Obj, Chan}
 use Rattle.rules.specs.State.{State, object_at, channel_at}
 use Rattle.rules.specs.Tables.{operand_of}
 use Rattle.rules.specs.Turn.{Res, wait, stop, ok, ◌>>=◌, ◌>>◌, wait_unless, permit, is_local, is_absent, as_object, as_channel, object, recv_line, sent_line, put_line}
@@ -22,21 +21,13 @@ use Rattle.checks.proofs.Standing.{SlotSeen, TargetSeen, MessageSeen, OperandChe
 -- ---- recv and sent: the target v in slot i, its message u
 
 module _ {s : List ℕ} {h : Here} (i : ℕ) {v : Value} (target : SlotSeen s h (i % 16) v) where
-  pub recv_no_target : v ≡ Absent → Checks s h (i ∷ []) (λ P H. recv_line H i) (stop No.absent)
-  unfolding recv_line as_channel ◌>>=◌
-  recv_no_target is = record { checks = λ P n S f fs rest st named. rw (slot_read st i _ refl target named.0 ∙ is) refl }
+  pub recv_no_channel : {n : ℕ} → stop n ≡ as_channel v → Checks s h (i ∷ []) (λ P H. recv_line H i) (stop n)
+  unfolding recv_line ◌>>=◌
+  recv_no_channel is = record { checks = λ P n S f fs rest st named. rw (slot_read st i _ refl target named.0, ← is) refl }
 
-  pub recv_of_object : {n : ℕ} → v ≡ Obj n → Checks s h (i ∷ []) (λ P H. recv_line H i) (stop No.wrong_thing)
-  unfolding recv_line as_channel ◌>>=◌
-  recv_of_object is = record { checks = λ P n S f fs rest st named. rw (slot_read st i _ refl target named.0 ∙ is) refl }
-
-  pub sent_no_target : (d : ℕ) → v ≡ Absent → Checks s h (i ∷ []) (λ P H. sent_line H i d) (stop No.absent)
-  unfolding sent_line as_channel ◌>>=◌
-  sent_no_target d is = record { checks = λ P n S f fs rest st named. rw (slot_read st i _ refl target named.0 ∙ is) refl }
-
-  pub sent_of_object : (d : ℕ) {n : ℕ} → v ≡ Obj n → Checks s h (i ∷ []) (λ P H. sent_line H i d) (stop No.wrong_thing)
-  unfolding sent_line as_channel ◌>>=◌
-  sent_of_object d is = record { checks = λ P n S f fs rest st named. rw (slot_read st i _ refl target named.0 ∙ is) refl }
+  pub sent_no_channel : (d : ℕ) {n : ℕ} → stop n ≡ as_channel v → Checks s h (i ∷ []) (λ P H. sent_line H i d) (stop n)
+  unfolding sent_line ◌>>=◌
+  sent_no_channel d is = record { checks = λ P n S f fs rest st named. rw (slot_read st i _ refl target named.0, ← is) refl }
 
   module _ {c : ℕ} {u : Value} (is : v ≡ Chan c) (message : MessageSeen s c u) where
     pub recv_empty : is_absent u ≡ true → Checks s h (i ∷ []) (λ P H. recv_line H i) wait
@@ -73,14 +64,9 @@ module _ {s : List ℕ} {h : Here} (i : ℕ) {v : Value} (target : SlotSeen s h 
 abbrev PutSeen : List ℕ → ℕ → Value → Res (Unit {0}) → Type 0
 PutSeen s c v k = Sees s (λ S. InObjects v S × InTable (channel_at S c).message) (λ S. outcome_of (put_into S c v)) k
 
-module _ (s : List ℕ) (c : ℕ) {v : Value} where
-  pub put_nothing : v ≡ Absent → PutSeen s c v (stop No.absent)
-  unfolding put_into as_object ◌>>=◌
-  put_nothing is = record { sees = λ S rest held there. rw is refl }
-
-  pub put_channel_lem : {d : ℕ} → v ≡ Chan d → PutSeen s c v (stop No.wrong_thing)
-  unfolding put_into as_object ◌>>=◌
-  put_channel_lem is = record { sees = λ S rest held there. rw is refl }
+pub put_no_object : (s : List ℕ) (c : ℕ) (v : Value) {n : ℕ} → stop n ≡ as_object v → PutSeen s c v (stop n)
+unfolding put_into ◌>>=◌
+put_no_object s c v is = record { sees = λ S rest held there. rw (← is) refl }
 
 module _ {s : List ℕ} (c : ℕ) {v : Value} {n : ℕ} {k : Cap} {b : Bool} (is : v ≡ Obj n) (cap : Sees s (λ S. n < length S.objects) (λ S. (object_at S.objects n).cap) k)
     (local : b ≡ is_local k) where
@@ -109,13 +95,9 @@ module _ {s : List ℕ} {h : Here} (i w : ℕ) {k : Res (Unit {0})} (first : Ope
   put_no_operand fails = record { checks = λ P n S f fs rest st named. stays _ _ fails (first.checks P n S f fs rest st named.1) }
 
   module _ {v : Value} (goes : passed k ≡ true) (target : TargetSeen s h i w v) where
-    pub put_no_target : v ≡ Absent → Checks s h (i ∷ w / 2 ∷ []) (λ P H. put_line H i (operand_of w)) (stop No.absent)
-    unfolding put_line as_channel ◌>>=◌
-    put_no_target is = record { checks = λ P n S f fs rest st named. rw (operand_goes st w first goes named.1.0, target_read st i w target named.0 ∙ is) refl }
-
-    pub put_of_object : {n : ℕ} → v ≡ Obj n → Checks s h (i ∷ w / 2 ∷ []) (λ P H. put_line H i (operand_of w)) (stop No.wrong_thing)
-    unfolding put_line as_channel ◌>>=◌
-    put_of_object is = record { checks = λ P n S f fs rest st named. rw (operand_goes st w first goes named.1.0, target_read st i w target named.0 ∙ is) refl }
+    pub put_no_channel : {n : ℕ} → stop n ≡ as_channel v → Checks s h (i ∷ w / 2 ∷ []) (λ P H. put_line H i (operand_of w)) (stop n)
+    unfolding put_line ◌>>=◌
+    put_no_channel is = record { checks = λ P n S f fs rest st named. rw (operand_goes st w first goes named.1.0, target_read st i w target named.0, ← is) refl }
 
     -- the value u, read at the place j
     pub put_to_channel : {c j : ℕ} {u : Value} {r : Res (Unit {0})} → v ≡ Chan c → j ≡ w / 2 % 16 → SlotSeen s h j u → PutSeen s c u r

@@ -1,5 +1,5 @@
 -- A rule's result as a check: where its first part does not pass, the whole answers the same; an operand that passes gives its slot's value.
-use Prim.Native.Nat.{ℕ, ◌/◌}
+use Prim.Native.Nat.{ℕ, ◌/◌, ◌<◌}
 use mathlib.Core.Path.{◌≡◌, refl, sym, ap, ◌∙◌}
 use mathlib.Core.Bool.{true, false}
 use mathlib.Core.List.{List}
@@ -10,7 +10,7 @@ use Rattle.rules.specs.Script.{Operand, reads, takes}
 use Rattle.rules.specs.Reading.{slot_of}
 use Rattle.rules.specs.State.{Object, slot_at}
 use Rattle.rules.specs.Tables.{operand_of}
-use Rattle.rules.specs.Turn.{Res, ok, wait, stop, ◌>>=◌, ◌>>◌, check, permit, is_iso_object, present, operand, left_by}
+use Rattle.rules.specs.Turn.{Res, ok, wait, stop, ◌>>=◌, ◌>>◌, check, permit, is_iso_object, present, as_object, as_channel, operand, left_by}
 use Rattle.rules.proofs.ListLaws.{impossible, by_bool}
 use Rattle.rules.proofs.TableWords.{slot_of_word}
 use Rattle.std.specs.Prelude.{Result}
@@ -20,6 +20,7 @@ use Rattle.rules.specs.Numbers as No
 use Rattle.rules.specs.declared.faults.Fault.{Fault}
 use Rattle.checks.specs.declared.form_checks.Halt.{Halt}
 use Rattle.checks.specs.declared.form_checks.Halt.TheVariants.{Stops}
+use Rattle.table.specs.StateTable.{InTable}
 use Rattle.checks.specs.Checked.{result_of, checked, outcome_of, passed}
 
 -- ---- Values
@@ -29,6 +30,26 @@ abbrev pub number_of : Value → ℕ
 number_of Absent = 0
 number_of (Obj n) = n
 number_of (Chan c) = c
+
+-- where the code found an object or a channel, it is that; a capability or a value compared as the rule does
+pub object_is : {v : Value} {n : ℕ} → ok n ≡ as_object v → v ≡ Obj n
+unfolding as_object
+object_is {v = Absent} e = impossible cc
+object_is {v = Obj m} e = cc
+object_is {v = Chan c} e = impossible cc
+
+pub channel_is : {v : Value} {c : ℕ} → ok c ≡ as_channel v → v ≡ Chan c
+unfolding as_channel
+channel_is {v = Absent} e = impossible cc
+channel_is {v = Obj n} e = impossible cc
+channel_is {v = Chan d} e = cc
+
+-- and so it has a place in the table
+pub object_place : (v : Value) (n : ℕ) → ok n ≡ as_object v → InTable v → n < 256
+object_place v n is place = rw (object_is is) at place
+
+pub channel_place : (v : Value) (c : ℕ) → ok c ≡ as_channel v → InTable v → c < 16
+channel_place v c is place = rw (channel_is is) at place
 
 -- ---- Any two parts
 

@@ -1,6 +1,7 @@
 -- Why the checks answer what the rules do.
 -- checks one after the other; what a state of a run says of the place where a thread stands
 pub mod CheckLaws
+pub mod Equal
 pub mod Standing
 -- operands and casts; fields and swaps; channels; calls
 mod OperandChecks

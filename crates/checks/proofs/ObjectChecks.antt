@@ -1,7 +1,7 @@
 -- Each way out of the checks of field and swap: under the facts of that way the rule computes to the check's answer.
 use Prim.Native.Nat.{ℕ, ◌/◌, ◌%◌, ◌<◌}
 use mathlib.Core.Path.{◌≡◌, refl, sym, ◌∙◌, subst}
-use mathlib.Core.Bool.{Bool, true, false, not, ◌&&◌, ◌||◌}
+use mathlib.Core.Bool.{Bool, true, false, not, ◌||◌}
 use mathlib.Core.List.{List, [], ◌∷◌}
 use lib.Dec.{ltb, eqb}
 use lib.ListN.{length, get_or, get_or-eq_default}
@@ -43,13 +43,9 @@ has_field o vs j h = by_bool (ltb j (length vs))
 -- ---- field: the target x in slot i
 
 module _ {s : List ℕ} {h : Here} (i j : ℕ) {x : Value} (target : SlotSeen s h (i % 16) x) where
-  pub field_no_target : x ≡ Absent → Checks s h (i ∷ []) (λ P H. field_line H i j) (stop No.absent)
-  unfolding field_line as_object ◌>>=◌
-  field_no_target is = record { checks = λ P n S f fs rest st named. rw (slot_read st i _ refl target named.0 ∙ is) refl }
-
-  pub field_of_channel : {c : ℕ} → x ≡ Chan c → Checks s h (i ∷ []) (λ P H. field_line H i j) (stop No.wrong_thing)
-  unfolding field_line as_object ◌>>=◌
-  field_of_channel is = record { checks = λ P n S f fs rest st named. rw (slot_read st i _ refl target named.0 ∙ is) refl }
+  pub field_no_object : {n : ℕ} → stop n ≡ as_object x → Checks s h (i ∷ []) (λ P H. field_line H i j) (stop n)
+  unfolding field_line ◌>>=◌
+  field_no_object is = record { checks = λ P n S f fs rest st named. rw (slot_read st i _ refl target named.0, ← is) refl }
 
   -- object o, whose field j reads v
   module _ {o : ℕ} {v : Value} (is : x ≡ Obj o) (field : Sees s (FieldIn o j) (λ S. slot_at (object_at S.objects o).fields j) v) where
@@ -87,21 +83,25 @@ module _ {s : List ℕ} {h : Here} (i j : ℕ) {x : Value} (target : SlotSeen s 
 
 -- ---- swap: what may go into what
 
--- objects n and m, as they are seen: both local with other creators, or not, since the first is not local
-module _ {s : List ℕ} {n : ℕ} (m : ℕ) {k : Cap} (cap : Sees s (Made n) (λ S. (object_at S.objects n).cap) k) where
-  pub apart_seen : {l : Cap} {a b : ℕ} {r : Bool} → is_local k ≡ true → Sees s (Made m) (λ S. (object_at S.objects m).cap) l → r ≡ is_local l
-      → Sees s (Made n) (λ S. (object_at S.objects n).creator) a → Sees s (Made m) (λ S. (object_at S.objects m).creator) b
-      → Sees s (λ S. Made n S × Made m S) (λ S. are_apart (object_at S.objects n) (object_at S.objects m)) (r && not (eqb a b))
-  unfolding are_apart
-  apart_seen local value-cap is creator value-creator =
-      record {
-        sees = λ S rest held made.
-            rw (← cap.sees S rest held made.0, ← value-cap.sees S rest held made.1, ← creator.sees S rest held made.0, ← value-creator.sees S rest held made.1, local, is) refl;
-      }
-
+-- objects n and m, as they are seen: both local with other creators, or not, since one of them is not local
+module _ {s : List ℕ} {n m : ℕ} {k : Cap} (cap : Sees s (Made n) (λ S. (object_at S.objects n).cap) k) where
   pub not_local_not_apart : is_local k ≡ false → Sees s (λ S. Made n S × Made m S) (λ S. are_apart (object_at S.objects n) (object_at S.objects m)) false
   unfolding are_apart
   not_local_not_apart not_local = record { sees = λ S rest held made. rw (← cap.sees S rest held made.0, not_local) refl }
+
+  module _ {l : Cap} (local : is_local k ≡ true) (value-cap : Sees s (Made m) (λ S. (object_at S.objects m).cap) l) where
+    pub value_not_local : is_local l ≡ false → Sees s (λ S. Made n S × Made m S) (λ S. are_apart (object_at S.objects n) (object_at S.objects m)) false
+    unfolding are_apart
+    value_not_local not_local = record { sees = λ S rest held made. rw (← cap.sees S rest held made.0, ← value-cap.sees S rest held made.1, local, not_local) refl }
+
+    pub apart_seen : {a b : ℕ} → is_local l ≡ true → Sees s (Made n) (λ S. (object_at S.objects n).creator) a → Sees s (Made m) (λ S. (object_at S.objects m).creator) b
+        → Sees s (λ S. Made n S × Made m S) (λ S. are_apart (object_at S.objects n) (object_at S.objects m)) (not (eqb a b))
+    unfolding are_apart
+    apart_seen value-local creator value-creator =
+        record {
+          sees = λ S rest held made.
+              rw (← cap.sees S rest held made.0, ← value-cap.sees S rest held made.1, ← creator.sees S rest held made.0, ← value-creator.sees S rest held made.1, local, value-local) refl;
+        }
 
 -- object u into object o, by thread t
 pub into_answered : (t : ℕ) (o u : Object) (k : Res (Unit {0})) {far imm holds : Bool} → far ≡ (is_foreign t o || are_apart o u) → imm ≡ is_imm o.cap → holds ≡ may_hold o.cap u.cap
@@ -111,13 +111,9 @@ into_answered t o u k foreign imm may_hold_lem permission = rw (← foreign, ←
 
 -- into field j of object n
 module _ (t : ℕ) (os : List Object) (n j : ℕ) where
-  pub into_absent : (stop No.absent) ≡ outcome_of (swap_into t os n j Absent)
-  unfolding swap_into as_object ◌>>=◌
-  into_absent = refl
-
-  pub into_channel : (c : ℕ) → (stop No.wrong_thing) ≡ outcome_of (swap_into t os n j (Chan c))
-  unfolding swap_into as_object ◌>>=◌
-  into_channel c = refl
+  pub into_no_object : (v : Value) {m : ℕ} → stop m ≡ as_object v → stop m ≡ outcome_of (swap_into t os n j v)
+  unfolding swap_into ◌>>=◌
+  into_no_object v is = rw (← is) refl
 
   module _ (m : ℕ) (fields : Every (IsObject mosts.objects) (object_at os n).fields) where
     pub into_missing : is_absent (slot_at (object_at os n).fields j) ≡ true → (stop No.no_field) ≡ outcome_of (swap_into t os n j (Obj m))
@@ -136,13 +132,9 @@ module _ {s : List ℕ} {h : Here} (i j w : ℕ) {k : Res (Unit {0})} (first : O
   swap_no_operand fails = record { checks = λ P n S f fs rest st named. stays _ _ fails (first.checks P n S f fs rest st named.1) }
 
   module _ {x : Value} (goes : passed k ≡ true) (target : TargetSeen s h i w x) where
-    pub swap_no_target : x ≡ Absent → Checks s h (i ∷ w / 2 ∷ []) (λ P H. swap_line H i j (operand_of w)) (stop No.absent)
-    unfolding swap_line as_object ◌>>=◌
-    swap_no_target is = record { checks = λ P n S f fs rest st named. rw (operand_goes st w first goes named.1.0, target_read st i w target named.0 ∙ is) refl }
-
-    pub swap_of_channel : {c : ℕ} → x ≡ Chan c → Checks s h (i ∷ w / 2 ∷ []) (λ P H. swap_line H i j (operand_of w)) (stop No.wrong_thing)
-    unfolding swap_line as_object ◌>>=◌
-    swap_of_channel is = record { checks = λ P n S f fs rest st named. rw (operand_goes st w first goes named.1.0, target_read st i w target named.0 ∙ is) refl }
+    pub swap_no_object : {n : ℕ} → stop n ≡ as_object x → Checks s h (i ∷ w / 2 ∷ []) (λ P H. swap_line H i j (operand_of w)) (stop n)
+    unfolding swap_line ◌>>=◌
+    swap_no_object is = record { checks = λ P n S f fs rest st named. rw (operand_goes st w first goes named.1.0, target_read st i w target named.0, ← is) refl }
 
     -- the value v, read at the place r; nothing after its own checks can stop
     pub swap_of_object : {o r : ℕ} {v : Value} {a : Res (Unit {0})} → x ≡ Obj o → r ≡ w / 2 % 16 → SlotSeen s h r v

@@ -13,7 +13,7 @@ use Rattle.rules.specs.Numbers as No
 use Rattle.rules.specs.declared.Cap.{Cap}
 use Rattle.rules.specs.declared.Value.{Value}
 use Rattle.rules.specs.declared.Value.TheVariants.{Absent, Obj, Chan}
-use Rattle.rules.specs.Script.{Program, rank}
+use Rattle.rules.specs.Script.{Program}
 use Rattle.rules.specs.State.{Frame, State, object_at, slot_at}
 use Rattle.rules.specs.Tables.{operand_of}
 use Rattle.rules.specs.Turn.{Res, ok, stop, ◌>>=◌, ◌>>◌, check, permit, is_iso, is_local, same_cap, is_foreign, is_iso_object, present, as_object, operand, left_by, object, cast_line}
@@ -109,35 +109,30 @@ module _ {s : List ℕ} {h : Here} {k : Res (Unit {0})} (w : ℕ) (c : Cap) (fir
   cast_no_operand fails = record { checks = λ P n S f fs rest st named. stays _ _ fails (first.checks P n S f fs rest st named) }
 
   module _ {r : ℕ} {v : Value} (goes : passed k ≡ true) (place : r ≡ w / 2 % 16) (slot : SlotSeen s h r v) where
-    pub cast_of_absent : v ≡ Absent → CastGives (stop No.absent)
-    unfolding cast_line as_object ◌>>=◌
-    cast_of_absent is = record { checks = λ P n S f fs rest st named. rw (operand_goes st w first goes named.0, slot_read st (w / 2) _ place slot named.0 ∙ is) refl }
-
-    pub cast_of_channel : {d : ℕ} → v ≡ Chan d → CastGives (stop No.wrong_thing)
-    unfolding cast_line as_object ◌>>=◌
-    cast_of_channel is = record { checks = λ P n S f fs rest st named. rw (operand_goes st w first goes named.0, slot_read st (w / 2) _ place slot named.0 ∙ is) refl }
+    pub cast_no_object : {n : ℕ} → stop n ≡ as_object v → CastGives (stop n)
+    unfolding cast_line ◌>>=◌
+    cast_no_object is = record { checks = λ P n S f fs rest st named. rw (operand_goes st w first goes named.0, slot_read st (w / 2) _ place slot named.0, ← is) refl }
 
     module _ {o : ℕ} {a : Cap} (is : v ≡ Obj o) (cap : Sees s (λ S. o < length S.objects) (λ S. (object_at S.objects o).cap) a) where
       same_is : {P : Program} {n : ℕ} {S : State} {f : Frame} {fs : List Frame} {rest : List ℕ} → Stand s h P n S f fs rest → w / 2 < length f.slots
-          → same_cap (object_at S.objects o).cap c ≡ eqb (rank a) (rank c)
-      unfolding same_cap
+          → same_cap (object_at S.objects o).cap c ≡ same_cap a c
       same_is {S = S} {rest = rest} st filled =
           ap (λ (b : Cap). same_cap b c) (sym (cap.sees S rest st.held (slot_object st (w / 2) o (slot_read st (w / 2) _ place slot filled ∙ is))))
 
-      pub cast_same : rank a ≡ rank c → CastGives (ok tt)
+      pub cast_same : same_cap a c ≡ true → CastGives (ok tt)
       unfolding cast_line as_object object check ◌>>=◌ ◌>>◌
       cast_same same =
           record {
             checks = λ P n S f fs rest st named.
-                rw (operand_goes st w first goes named.0, slot_read st (w / 2) _ place slot named.0 ∙ is, same_is st named.0 ∙ eq-eqb (rank a) (rank c) same) refl;
+                rw (operand_goes st w first goes named.0, slot_read st (w / 2) _ place slot named.0 ∙ is, same_is st named.0 ∙ same) refl;
           }
 
-      pub cast_other : (rank a ≡ rank c → ⊥) → CastGives (stop No.cast)
+      pub cast_other : same_cap a c ≡ false → CastGives (stop No.cast)
       unfolding cast_line as_object object check ◌>>=◌ ◌>>◌
       cast_other other =
           record {
             checks = λ P n S f fs rest st named.
-                rw (operand_goes st w first goes named.0, slot_read st (w / 2) _ place slot named.0 ∙ is, same_is st named.0 ∙ ne_eqb (rank a) (rank c) other) refl;
+                rw (operand_goes st w first goes named.0, slot_read st (w / 2) _ place slot named.0 ∙ is, same_is st named.0 ∙ other) refl;
           }
 
 -- ---- Capabilities, as they are seen

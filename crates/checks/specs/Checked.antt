@@ -1,5 +1,5 @@
 -- What the checks of a line answer: the rule's own result, read off the tables.
-use Rattle.std.specs.Prelude.{ℕ, suc, ◌≤◌, ◌<◌, ◌≡◌, Bool, true, false, List, ◌∷◌, map, ltb, length, get_or, Result, Ok, Err}
+use Rattle.std.specs.Prelude.{ℕ, ◌≤◌, ◌<◌, ◌≡◌, Bool, true, false, List, ◌∷◌, ltb, length, slice_get, Option, Result, Ok, Err}
 use Rattle.rules.specs.declared.Value.{Value}
 use Rattle.rules.specs.declared.Value.TheVariants.{Absent, Obj, Chan}
 use Rattle.rules.specs.declared.faults.Fault.{Fault}
@@ -29,16 +29,20 @@ abbrev pub result_of : {A : Type 0} → Result A Halt → Res (Unit {0})
 result_of (Ok a) = ok tt
 result_of (Err h) = halted h
 
--- and of a check that cannot wait
-abbrev pub checked : {A : Type 0} → Result A Fault → Res (Unit {0})
-checked (Ok a) = ok tt
-checked (Err f) = stop (No.number f)
-
 -- a result of the rules, its value aside
 abbrev pub outcome_of : {A : Type 0} → Res A → Res (Unit {0})
 outcome_of (ok a) = ok tt
 outcome_of wait = wait
 outcome_of (stop n) = stop n
+
+-- the answer of what cannot wait, as a result of the rules; and its value aside
+abbrev pub answered : {A : Type 0} → Result A Fault → Res A
+answered (Ok a) = ok a
+answered (Err f) = stop (No.number f)
+
+abbrev pub checked : {A : Type 0} → Result A Fault → Res (Unit {0})
+checked (Ok a) = ok tt
+checked (Err f) = stop (No.number f)
 
 abbrev pub passed : Res (Unit {0}) → Bool
 passed (ok a) = true
@@ -112,7 +116,7 @@ pub record Checks {A : Type 0} (s : List ℕ) (h : Here) (is : List ℕ) (line :
   pub checks : (P : Program) (n : ℕ) (S : State) (f : Frame) (fs : List Frame) (rest : List ℕ) → Stand s h P n S f fs rest → Named is f
       → k ≡ outcome_of (line P (here_at S h.thread f fs))
 
--- method j of object n's kind, as an item
-pub record MethodItem (p s : List ℕ) (n j r : ℕ) : Type 0 where
+-- the block of method j of object n's kind, if there is one
+pub record MethodBlock (p s : List ℕ) (n j : ℕ) (r : Option ℕ) : Type 0 where
   pub is : (P : Program) (S : State) (counts rest₁ rest₂ : List ℕ) → Filled p counts (lines_of P) rest₁ → Held s S rest₂ → Valid mosts P → n < length S.objects
-      → (object_at S.objects n).kind < length P.kinds → r ≡ get_or (map suc (kind_at P (object_at S.objects n).kind).methods) j 0
+      → (object_at S.objects n).kind < length P.kinds → r ≡ slice_get (kind_at P (object_at S.objects n).kind).methods j

@@ -4,10 +4,10 @@ ghost use Rattle.rules.specs.Mosts.{mosts};
 ghost use Rattle.rules.specs.Numbers as No;
 ghost use Rattle.rules.specs.State.{object_at, channel_at, slot_at};
 ghost use Rattle.rules.specs.Tables.{operand_of};
-ghost use Rattle.rules.specs.Turn.{check, is_imm, is_iso, is_local, is_foreign, is_absent, is_iso_object, permit, operand, left_by, are_apart, permit_swap, cast_line, put_line, sent_line, recv_line};
+ghost use Rattle.rules.specs.Turn.{check, is_foreign, is_iso_object, as_object, as_channel, permit, operand, left_by, are_apart, permit_swap, cast_line, put_line, sent_line, recv_line};
 ghost use Rattle.table.specs.StateTable.{InTable, Sees, frame_at};
 ghost use Rattle.checks.specs.declared.form_checks.Halt.TheVariants.{Stops};
-ghost use Rattle.checks.specs.Checked.{result_of, outcome_of, checked, Made, Fielded, InObjects, Few, swap_into, put_into, MethodItem, Checks};
+ghost use Rattle.checks.specs.Checked.{result_of, outcome_of, answered, checked, Made, Fielded, InObjects, Few, swap_into, put_into, MethodBlock, Checks};
 
 use rules::{Cap, Fault, Value};
 use table::Here;
@@ -36,46 +36,27 @@ pub fn slot_of(w: u16) -> usize
     w as usize / 2 % 16
 }
 
-pub fn is_absent(v: Value) -> bool
-    ensures { result ≡ is_absent v }
+// The object that a value is: "absent 10; a channel 13".
+#[tactic(auto, unfolding(rules::specs::Turn::as_object))]
+pub fn as_object(v: Value) -> Result<u16, Fault>
+    ensures { answered result ≡ as_object v }
 {
     match v {
-        Value::Absent => true,
-        Value::Obj(_) => false,
-        Value::Chan(_) => false,
+        Value::Absent => Err(Fault::Absent),
+        Value::Chan(_) => Err(Fault::WrongThing),
+        Value::Obj(n) => Ok(n),
     }
 }
 
-fn is_imm(c: Cap) -> bool
-    ensures { result ≡ is_imm c }
+// The channel that a value is: "absent 10; an object 13".
+#[tactic(auto, unfolding(rules::specs::Turn::as_channel))]
+pub fn as_channel(v: Value) -> Result<u16, Fault>
+    ensures { answered result ≡ as_channel v }
 {
-    match c {
-        Cap::Imm => true,
-        Cap::Iso => false,
-        Cap::Local => false,
-        Cap::Unsafe => false,
-    }
-}
-
-fn is_iso(c: Cap) -> bool
-    ensures { result ≡ is_iso c }
-{
-    match c {
-        Cap::Imm => false,
-        Cap::Iso => true,
-        Cap::Local => false,
-        Cap::Unsafe => false,
-    }
-}
-
-fn is_local(c: Cap) -> bool
-    ensures { result ≡ is_local c }
-{
-    match c {
-        Cap::Imm => false,
-        Cap::Iso => false,
-        Cap::Local => true,
-        Cap::Unsafe => false,
+    match v {
+        Value::Absent => Err(Fault::Absent),
+        Value::Obj(_) => Err(Fault::WrongThing),
+        Value::Chan(c) => Ok(c),
     }
 }
 
@@ -84,10 +65,7 @@ pub fn is_foreign(s: &[u16], t: usize, n: u16) -> bool
     requires { (8192 ≤ length s.now) × (n < 256) }
     ensures { Sees s.now (Made n) (λ S. is_foreign t (object_at S.objects n)) result }
 {
-    if is_local(table::cap(s, n)) {
-        return table::creator(s, n) as usize != t;
-    }
-    false // not local
+    table::cap(s, n) == Cap::Local && table::creator(s, n) as usize != t
 }
 
 // Whether a value is an iso object.
@@ -98,7 +76,7 @@ pub fn is_iso_object(s: &[u16], v: Value) -> bool
     match v {
         Value::Absent => false,
         Value::Chan(_) => false,
-        Value::Obj(n) => is_iso(table::cap(s, n)),
+        Value::Obj(n) => table::cap(s, n) == Cap::Iso,
     }
 }
 
@@ -142,7 +120,7 @@ pub fn operand_check(s: &[u16], h: Here, w: u16) -> Result<(), Fault>
             if w % 2 == 1 {
                 return Ok(());
             }
-            permission_check(false, is_iso(table::cap(s, n)), false)
+            permission_check(false, table::cap(s, n) == Cap::Iso, false)
         }
     }
 }
@@ -167,17 +145,11 @@ pub fn cast_check(s: &[u16], h: Here, k: Cap, w: u16) -> Result<(), Fault>
     ensures { Checks s.now h (w / 2 ∷ []) (λ P H. cast_line H k (operand_of w)) (checked result) }
 {
     operand_check(s, h, w)?;
-    let v = operand(s, h, w);
-    match v {
-        Value::Absent => Err(Fault::Absent),
-        Value::Chan(_) => Err(Fault::WrongThing),
-        Value::Obj(n) => {
-            if rules::cap_rank(table::cap(s, n)) == rules::cap_rank(k) {
-                return Ok(());
-            }
-            Err(Fault::Cast)
-        }
+    let n = as_object(operand(s, h, w))?;
+    if table::cap(s, n) == k {
+        return Ok(());
     }
+    Err(Fault::Cast)
 }
 
 // Objects n and m are "both local with other creators".
@@ -185,10 +157,9 @@ fn are_apart(s: &[u16], n: u16, m: u16) -> bool
     requires { (8192 ≤ length s.now) × (n < 256) × (m < 256) }
     ensures { Sees s.now (λ S. Made n S × Made m S) (λ S. are_apart (object_at S.objects n) (object_at S.objects m)) result }
 {
-    if is_local(table::cap(s, n)) {
-        return is_local(table::cap(s, m)) & (table::creator(s, n) != table::creator(s, m));
-    }
-    false
+    table::cap(s, n) == Cap::Local
+        && table::cap(s, m) == Cap::Local
+        && table::creator(s, n) != table::creator(s, m)
 }
 
 // Object m into object n: "A target local to another thread becomes 20, and so do swap's two locals with other creators".
@@ -196,10 +167,7 @@ fn is_foreign_swap(s: &[u16], t: usize, n: u16, m: u16) -> bool
     requires { (8192 ≤ length s.now) × (n < 256) × (m < 256) }
     ensures { Sees s.now (λ S. Made n S × Made m S) (λ S. is_foreign t (object_at S.objects n) || are_apart (object_at S.objects n) (object_at S.objects m)) result }
 {
-    if is_foreign(s, t, n) {
-        return true;
-    }
-    are_apart(s, n, m)
+    is_foreign(s, t, n) || are_apart(s, n, m)
 }
 
 // The same, and "target imm, or .. value above the target, .. 14".
@@ -210,7 +178,7 @@ fn swap_permission(s: &[u16], t: usize, n: u16, m: u16) -> Result<(), Fault>
     let a = table::cap(s, n);
     let b = table::cap(s, m);
     let foreign = is_foreign_swap(s, t, n, m);
-    let other = is_imm(a) | !rules::may_hold(a, b);
+    let other = (a == Cap::Imm) | !rules::may_hold(a, b);
     permission_check(foreign, false, other)
 }
 
@@ -219,27 +187,26 @@ pub fn swap_into(s: &[u16], t: usize, n: u16, j: u16, v: Value) -> Result<(), Fa
     requires { (8192 ≤ length s.now) × (n < 256) × InTable v }
     ensures { Sees s.now (λ S. Fielded n S × InObjects v S) (λ S. outcome_of (swap_into t S.objects n j v)) (checked result) }
 {
-    match v {
-        Value::Absent => Err(Fault::Absent),
-        Value::Chan(_) => Err(Fault::WrongThing),
-        Value::Obj(m) => {
-            if is_absent(table::field(s, n, j)) {
-                return Err(Fault::NoField);
-            }
-            swap_permission(s, t, n, m)
-        }
+    let m = as_object(v)?;
+    if table::field(s, n, j) == Value::Absent {
+        return Err(Fault::NoField);
     }
+    swap_permission(s, t, n, m)
 }
 
-// One more than the block of method j of object n's kind, or 0.
-pub fn method_item(p: &[u16], s: &[u16], n: u16, j: u16) -> u16
+// The block of method j of object n's kind.
+pub fn method_block(p: &[u16], s: &[u16], n: u16, j: u16) -> Option<u16>
     requires { (8192 ≤ length p.now) × (8192 ≤ length s.now) × (n < 256) }
-    ensures { MethodItem p.now s.now n j result }
+    ensures { MethodBlock p.now s.now n j result }
 {
     if 4 <= j {
-        return 0;
+        return None;
     }
-    table::kind_method(p, table::kind(s, n) as usize % 32, j as usize)
+    let item = table::kind_method(p, table::kind(s, n) as usize % 32, j as usize);
+    if item == 0 {
+        return None;
+    }
+    Some(item - 1)
 }
 
 // "spawn: threads used up 16".
@@ -258,17 +225,11 @@ pub fn recv_check(s: &[u16], h: Here, i: u16) -> Result<(), Halt>
     requires { 8192 ≤ length s.now }
     ensures { Checks s.now h (i ∷ []) (λ P H. recv_line H i) (result_of result) }
 {
-    let x = table::slot(s, h, i as usize % 16);
-    match x {
-        Value::Absent => Err(Halt::Stops(Fault::Absent)),
-        Value::Obj(_) => Err(Halt::Stops(Fault::WrongThing)),
-        Value::Chan(c) => {
-            if is_absent(table::message(s, c)) {
-                return Err(Halt::Waits); // empty
-            }
-            Ok(())
-        }
+    let c = as_channel(table::slot(s, h, i as usize % 16))?;
+    if table::message(s, c) == Value::Absent {
+        return Err(Halt::Waits); // empty
     }
+    Ok(())
 }
 
 // "waits while the channel still holds the message with that number": the sender's word is d.
@@ -276,20 +237,14 @@ pub fn sent_check(s: &[u16], h: Here, i: u16, d: u16) -> Result<(), Halt>
     requires { (8192 ≤ length s.now) × (1 ≤ d) }
     ensures { Checks s.now h (i ∷ []) (λ P H. sent_line H i (d - 1)) (result_of result) }
 {
-    let x = table::slot(s, h, i as usize % 16);
-    match x {
-        Value::Absent => Err(Halt::Stops(Fault::Absent)),
-        Value::Obj(_) => Err(Halt::Stops(Fault::WrongThing)),
-        Value::Chan(c) => {
-            if is_absent(table::message(s, c)) {
-                return Ok(());
-            }
-            if table::message_number(s, c) == d - 1 {
-                return Err(Halt::Waits);
-            }
-            Ok(())
-        }
+    let c = as_channel(table::slot(s, h, i as usize % 16))?;
+    if table::message(s, c) == Value::Absent {
+        return Ok(());
     }
+    if table::message_number(s, c) == d - 1 {
+        return Err(Halt::Waits);
+    }
+    Ok(())
 }
 
 // The value into channel c: "value a channel 13; value local 14; channel full: waits".
@@ -297,17 +252,12 @@ pub fn put_into(s: &[u16], c: u16, v: Value) -> Result<(), Halt>
     requires { (8192 ≤ length s.now) × (c < 16) × InTable v }
     ensures { Sees s.now (λ S. InObjects v S × InTable (channel_at S c).message) (λ S. outcome_of (put_into S c v)) (result_of result) }
 {
-    match v {
-        Value::Absent => Err(Halt::Stops(Fault::Absent)),
-        Value::Chan(_) => Err(Halt::Stops(Fault::WrongThing)),
-        Value::Obj(n) => {
-            permission_check(false, false, is_local(table::cap(s, n)))?;
-            if is_absent(table::message(s, c)) {
-                return Ok(());
-            }
-            Err(Halt::Waits)
-        }
+    let n = as_object(v)?;
+    permission_check(false, false, table::cap(s, n) == Cap::Local)?;
+    if table::message(s, c) == Value::Absent {
+        return Ok(());
     }
+    Err(Halt::Waits)
 }
 
 // "send: target absent 10; an object 13; value a channel 13; value local 14; channel full: waits."
@@ -317,10 +267,6 @@ pub fn put_check(s: &[u16], h: Here, i: u16, w: u16) -> Result<(), Halt>
 {
     operand_check(s, h, w)?;
     let v = operand(s, h, w); // what is sent
-    let x = seen(s, h, i, w);
-    match x {
-        Value::Absent => Err(Halt::Stops(Fault::Absent)),
-        Value::Obj(_) => Err(Halt::Stops(Fault::WrongThing)),
-        Value::Chan(c) => put_into(s, c, v),
-    }
+    let c = as_channel(seen(s, h, i, w))?;
+    put_into(s, c, v)
 }

@@ -3,8 +3,8 @@
 use Prim.Native.Nat.{ℕ, suc, ◌-◌, ◌/◌, ◌%◌, ◌<◌}
 use native.Mathlib.Omega.{arith}
 use mathlib.Core.Path.{◌≡◌, refl, sym, ap, ◌∙◌, subst}
-use mathlib.Core.List.{List, [], ◌∷◌, map}
-use lib.ListN.{length, length-map, get_or, get_or-append, get_or-map}
+use mathlib.Core.List.{List, [], ◌∷◌}
+use lib.ListN.{length, get_or, get_or-append}
 use lib.Seq.{get_or_at}
 use borrow.Author.Tests.{ne_eqb, eq-eqb}
 use Rattle.rules.specs.declared.Value.{Value}
@@ -19,7 +19,7 @@ use Rattle.rules.specs.Script.{Operand, Program, call, bind, give, kind_at}
 use Rattle.rules.specs.State.{Frame, Sender, ready, Thread, State, object_at, thread_at, slot_at}
 use Rattle.rules.specs.Tables.{operand_of, outermost_first, no_frame}
 use Rattle.rules.specs.Turn.{Res, left_by, object, put_thread, filled, with_slots, is_absent, give_line, let_line, perform}
-use Rattle.rules.proofs.ListLaws.{get_there, every_map}
+use Rattle.rules.proofs.ListLaws.{every_map}
 use Rattle.rules.proofs.Moves.{left_was_there, MethodCalled, Step, by_call, by_return, by_finish}
 use Rattle.rules.proofs.Keeps.{block_ok}
 use Rattle.rules.proofs.TableWords.{length_outermost}
@@ -27,7 +27,10 @@ use Rattle.table.specs.declared.standing.Here.{Here}
 use Rattle.table.specs.StateTable.{InTable, Counted, Becomes, frame_at, on_frame, edit_frame, HasFrame, HasRoom, HasSlot, Innermost, given, callee, called, left, raised, all_raised, all_lowered, Counts, Drops}
 use Rattle.table.proofs.StateEdits.{thread_put, put_put}
 use Rattle.table.proofs.Places.{has_place}
-use Rattle.checks.specs.Checked.{here_at, Stand, MethodItem}
+use Rattle.std.specs.Prelude.{Option, Some}
+use Rattle.std.specs.Option.{unwrap_or}
+use Rattle.std.proofs.lemmas.Option.{unwrap_or-slice_get}
+use Rattle.checks.specs.Checked.{here_at, Stand, MethodBlock}
 use Rattle.checks.proofs.CheckLaws.{number_of, then_gives}
 use Rattle.checks.proofs.CallChecks.{ChecksCall}
 use Rattle.checks.proofs.Standing.{SlotSeen, TargetSeen, fits_here, slots_few, OperandChecked, target_read, slot_object, kind_is_there}
@@ -173,12 +176,8 @@ called_then_emptied {t} {k} {f} {fs} {S} in_frame g w =
     ∙ ap (put_thread R t frames) (ap (λ (u : Thread). u.sender) (thread_put S t (g ∷ f ∷ fs) ready in_frame.thread))
     ∙ put_put S t (g ∷ f ∷ fs) frames ready ready)
 
--- the item of a method that is there
-item_there : (ms : List ℕ) (j : ℕ) → j < length ms → get_or (map suc ms) j 0 ≡ suc (get_or ms j 0)
-item_there ms j there = get_there (map suc ms) j 0 1 (rw (length-map ms suc) there) ∙ get_or-map suc ms j 0
-
--- the target is object o, the method's item m
-module _ {p s : List ℕ} {h : Here} {o m : ℕ} {a : Value} (i j w : ℕ) (target : TargetSeen s h i w a) (is : a ≡ Obj o) (method : MethodItem p s o j m) where
+-- the target is object o, the method's block m
+module _ {p s : List ℕ} {h : Here} {o m : ℕ} {a : Value} (i j w : ℕ) (target : TargetSeen s h i w a) (is : a ≡ Obj o) (method : MethodBlock p s o j (Some m)) where
   module _ {P : Program} {n : ℕ} {S : State} {f : Frame} {fs : List Frame} {rest : List ℕ} {b : ℕ} {v : Value} {vs : List Value} (loaded : Loaded p P)
       (st : Stand s h P n S f fs rest) (named : i < length f.slots) (passed : MethodCalled P (here_at S h.thread f fs) i j (operand_of w) b v vs) where
     target_left : slot_at (left_by f.slots (operand_of w)) i ≡ Obj b
@@ -191,27 +190,26 @@ module _ {p s : List ℕ} {h : Here} {o m : ℕ} {a : Value} (i j w : ℕ) (targ
     number_is : o ≡ b
     number_is = ap number_of (sym (target_read st i w target named ∙ is) ∙ target_left)
 
-    item_is : m ≡ suc (get_or (kind_at P (object_at S.objects b).kind).methods j 0)
-    unfolding object
-    item_is =
+    block_is : m ≡ get_or (kind_at P (object_at S.objects b).kind).methods j 0
+    block_is =
         let made = slot_object st i b target_was_there in
-        let is = subst (λ (x : ℕ). MethodItem p s x j m) number_is method in
-        is.is P S loaded.counts loaded.rest rest loaded.filled st.held st.valid made (kind_is_there st b made)
-        ∙ item_there (kind_at P (object_at S.objects b).kind).methods j passed.has_method
+        let method = subst (λ (x : ℕ). MethodBlock p s x j (Some m)) number_is method in
+        let found = method.is P S loaded.counts loaded.rest rest loaded.filled st.held st.valid made (kind_is_there st b made) in
+        ap (λ (r : Option ℕ). unwrap_or r 0) found ∙ unwrap_or-slice_get (kind_at P (object_at S.objects b).kind).methods j 0
 
   -- the frame is pushed with the target and the operand's value, the target is held there, then the operand's slot is left
   module _ {s₁ s₂ s₃ : List ℕ} {v : Value} (read : SlotSeen s h (w / 2 % 16) v)
-      (pushes : Becomes s (Innermost h.thread h.depth) (called h.thread (callee (m - 1) (Obj o) v)) s₁)
+      (pushes : Becomes s (Innermost h.thread h.depth) (called h.thread (callee m (Obj o) v)) s₁)
       (holds : Counts (raised (Obj o)) s₁ s₂) (leaves : Leaves h.thread h.depth w v s₂ s₃) where
     frame_called : {P : Program} {n : ℕ} {S : State} {f : Frame} {fs : List Frame} {rest : List ℕ} → Stand s h P n S f fs rest → w / 2 < length f.slots
         → Written s₃ S (Obj o ∷ operand_gained f.slots (operand_of w)) []
-        (put_thread S h.thread (callee (m - 1) (Obj o) v ∷ with_slots f (left_by f.slots (operand_of w)) ∷ fs) ready) rest
+        (put_thread S h.thread (callee m (Obj o) v ∷ with_slots f (left_by f.slots (operand_of w)) ∷ fs) ready) rest
     unfolding called all_raised
     frame_called {S = S} {f = f} {fs = fs} {rest = rest} st there =
         let t = h.thread in
         let k = h.depth in
         let here = inside st in
-        let g : Frame = callee (m - 1) (Obj o) v in
+        let g : Frame = callee m (Obj o) v in
         let first = holds.counts (called t g S) rest (pushes.becomes S rest st.held (innermost here)) in
         let in-call : Inside t (suc k) g (f ∷ fs) (called t g S) = rw here.frames (called_by here g) in
         let has : HasSlot t k (w / 2) (called t g S) = record { has = has_caller in-call; slot = rw (caller_frame in-call) there } in
@@ -223,7 +221,7 @@ module _ {p s : List ℕ} {h : Here} {o m : ℕ} {a : Value} (i j w : ℕ) (targ
         → Written s₃ S (slot_at f.slots i ∷ operand_gained f.slots (operand_of w)) [] S₁ rest × Went h.thread f fs S₁ Turned
     unfolding object
     call_moved {P} {n} {S} {f} {fs} {rest} loaded st named there S₁ (by_call _ _ u b x vs passed) =
-        let block : get_or (kind_at P (object_at S.objects b).kind).methods j 0 ≡ m - 1 = omega (arith, item_is loaded st named passed) in
+        let block : get_or (kind_at P (object_at S.objects b).kind).methods j 0 ≡ m = sym (block_is loaded st named passed) in
         let is-target : slot_at f.slots i ≡ Obj o = target_was_there loaded st named passed ∙ ap Obj (sym (number_is loaded st named passed)) in
         let is-value : x ≡ v = operand_gave st w read there passed.gave in
         (rw (block, is-target, ← number_is loaded st named passed, is-value, passed.gave.slots) (frame_called st there), to_other)

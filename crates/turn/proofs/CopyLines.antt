@@ -34,9 +34,9 @@ use Rattle.table.specs.StateTable.{Counted, Held, Sees, Any, Becomes, HasRoom, g
 use Rattle.walk.specs.Walking.{tally, Numbered, Walks, Of}
 use Rattle.walk.proofs.Numbers.{number_at}
 use Rattle.walk.proofs.FromNothing.{walk_from_nothing}
-use Rattle.std.specs.Prelude.{Result, Ok, Err}
+use Rattle.std.specs.Prelude.{Result, Ok}
 use Rattle.std.specs.Result.{IsErrAnd}
-use Rattle.rules.specs.declared.faults.Fault.TheVariants as F
+use Rattle.rules.specs.declared.faults.Fault.{Fault}
 use Rattle.checks.specs.declared.form_checks.Halt.{Halt}
 use Rattle.checks.specs.declared.form_checks.Halt.TheVariants.{Stops}
 use Rattle.checks.specs.Checked.{halted, outcome_of, passed, Made, here_at, Stand}
@@ -45,7 +45,7 @@ use Rattle.checks.proofs.Standing.{SlotSeen, made_fielded, slot_read, slot_objec
 use Rattle.turn.specs.Performed.{Went, to_next, Always, Performs}
 use Rattle.turn.specs.Copied.{AllMade, renamed_by, all_copied, fields_copied, CanCopyAll, CopiesAll, copy_from, CopiesFrom}
 use Rattle.turn.proofs.Settled.{Written, only_gained, raised_append}
-use Rattle.turn.proofs.TurnSteps.{Answers, line_halts, line_hands_on, line_moves, let_names, let_room, line_few}
+use Rattle.turn.proofs.TurnSteps.{Answers, line_hands_on, line_moves, let_names, let_room, line_few}
 use Rattle.turn.proofs.Frames.{Inside, inside, inside_objects, has_room, stands_put, given_inside}
 use Rattle.turn.proofs.CopiesMade.{foreign_in}
 use Rattle.turn.specs.declared.Move.{Move}
@@ -173,13 +173,10 @@ held_last {s₁} {rest} {S} {S₁} {vs} {v} held =
     record { counts = last.counts; held = last.held; tally = λ small n. let sum = last.tally small n in omega (arith, sum, count_append n vs (v ∷ [])) }
 
 module _ {s : List ℕ} {h : Here} (k : Cap) (i : ℕ) {x : Value} (target : SlotSeen s h (i % 16) x) where
-  pub copy_no_source : x ≡ Absent → Performs Always s h (bind (copy k i)) (Err (Stops F.Absent)) s
-  unfolding perform let_line copy_line as_object ◌>>=◌
-  copy_no_source is = line_halts (record { answers = λ P n S f fs rest q st at_line. rw (slot_read st i _ refl target (let_names st at_line).0 ∙ is) refl })
-
-  pub copy_of_channel : {c : ℕ} → x ≡ Chan c → Performs Always s h (bind (copy k i)) (Err (Stops F.WrongThing)) s
-  unfolding perform let_line copy_line as_object ◌>>=◌
-  copy_of_channel is = line_halts (record { answers = λ P n S f fs rest q st at_line. rw (slot_read st i _ refl target (let_names st at_line).0 ∙ is) refl })
+  pub copy_no_object : {r : Result Move Halt} (e : Fault) → IsErrAnd r (λ i. i ≡ Stops e) → stop (No.number e) ≡ as_object x → Performs Always s h (bind (copy k i)) r s
+  unfolding perform let_line copy_line ◌>>=◌
+  copy_no_object e handed is =
+      line_hands_on (Stops e) handed (record { answers = λ P n S f fs rest q st at_line. rw (slot_read st i _ refl target (let_names st at_line).0, ← is) refl })
 
   -- object n, whose copies answer r
   module _ {n cap : ℕ} {r : Res (Unit {0})} {s₁ : List ℕ} (is : x ≡ Obj n) (does : CopiesFrom h.thread cap n s r s₁) where

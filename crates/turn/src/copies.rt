@@ -125,16 +125,10 @@ pub fn copy_line(s: &mut [u16], h: Here, k: Cap, i: u16) -> Result<Move, Halt>
     requires { 8192 ≤ length s.old }
     ensures { Performs Always s.old h (bind (copy k i)) result s.new }
 {
-    let x = table::slot(s, h, i as usize % 16);
-    match x {
-        Value::Absent => Err(Halt::Stops(Fault::Absent)),
-        Value::Chan(_) => Err(Halt::Stops(Fault::WrongThing)),
-        Value::Obj(n) => {
-            let first = table::object_count(s) % 256;
-            copy_from(s, h.thread, k.rank() as u16, n)?;
-            table::give_value(s, h, Value::Obj(first));
-            table::hold(s, Value::Obj(first));
-            Ok(Move::Next)
-        }
-    }
+    let n = checks::as_object(table::slot(s, h, i as usize % 16))?;
+    let first = table::object_count(s) % 256;
+    copy_from(s, h.thread, k.rank() as u16, n)?;
+    table::give_value(s, h, Value::Obj(first));
+    table::hold(s, Value::Obj(first));
+    Ok(Move::Next)
 }

@@ -55,23 +55,17 @@ pub fn field_line(s: &mut [u16], h: Here, i: u16, j: u16) -> Result<Move, Halt>
     requires { 8192 ≤ length s.old }
     ensures { Performs Always s.old h (bind (field i j)) result s.new }
 {
-    let x = table::slot(s, h, i as usize % 16);
-    match x {
-        Value::Absent => Err(Halt::Stops(Fault::Absent)),
-        Value::Chan(_) => Err(Halt::Stops(Fault::WrongThing)),
-        Value::Obj(n) => {
-            let v = table::field(s, n, j);
-            if checks::is_absent(v) {
-                return Err(Halt::Stops(Fault::NoField));
-            }
-            let foreign = checks::is_foreign(s, h.thread, n);
-            let alias = checks::is_iso_object(s, v);
-            checks::permission_check(foreign, alias, false)?;
-            table::give_value(s, h, v);
-            table::hold(s, v);
-            Ok(Move::Next)
-        }
+    let n = checks::as_object(table::slot(s, h, i as usize % 16))?;
+    let v = table::field(s, n, j);
+    if v == Value::Absent {
+        return Err(Halt::Stops(Fault::NoField));
     }
+    let foreign = checks::is_foreign(s, h.thread, n);
+    let alias = checks::is_iso_object(s, v);
+    checks::permission_check(foreign, alias, false)?;
+    table::give_value(s, h, v);
+    table::hold(s, v);
+    Ok(Move::Next)
 }
 
 // "swap: target absent 10; target a channel 13; .. It stores the value and gives the old one."
@@ -81,19 +75,13 @@ pub fn swap_line(s: &mut [u16], h: Here, i: u16, j: u16, w: u16) -> Result<Move,
 {
     checks::operand_check(s, h, w)?;
     let v = checks::operand(s, h, w);
-    let x = checks::seen(s, h, i, w);
-    match x {
-        Value::Absent => Err(Halt::Stops(Fault::Absent)),
-        Value::Chan(_) => Err(Halt::Stops(Fault::WrongThing)),
-        Value::Obj(n) => {
-            checks::swap_into(s, h.thread, n, j, v)?;
-            let old = table::field(s, n, j);
-            table::give_value(s, h, old); // it moves from the field to the slot
-            table::store_field(s, n, j % 4, v);
-            leave(s, h, w, v);
-            Ok(Move::Next)
-        }
-    }
+    let n = checks::as_object(checks::seen(s, h, i, w))?;
+    checks::swap_into(s, h.thread, n, j, v)?;
+    let old = table::field(s, n, j);
+    table::give_value(s, h, old); // it moves from the field to the slot
+    table::store_field(s, n, j % 4, v);
+    leave(s, h, w, v);
+    Ok(Move::Next)
 }
 
 // "call: target absent 10; a channel 13; no such method 12; target local to another thread 20; frames used up 16. The new frame holds target and
@@ -103,26 +91,19 @@ pub fn call_line(p: &[u16], s: &mut [u16], h: Here, i: u16, j: u16, w: u16) -> R
     ensures { Performs (λ P S. Loaded p.now P) s.old h (bind (call i j (operand_of w))) result s.new }
 {
     checks::operand_check(s, h, w)?;
-    let x = checks::seen(s, h, i, w);
-    match x {
-        Value::Absent => Err(Halt::Stops(Fault::Absent)),
-        Value::Chan(_) => Err(Halt::Stops(Fault::WrongThing)),
-        Value::Obj(n) => {
-            let m = checks::method_item(p, s, n, j);
-            if m == 0 {
-                return Err(Halt::Stops(Fault::NoMethod));
-            }
-            checks::permission_check(checks::is_foreign(s, h.thread, n), false, false)?;
-            if 15 <= h.depth {
-                return Err(Halt::Stops(Fault::UsedUp));
-            }
-            let v = checks::operand(s, h, w);
-            table::push_frame(s, h, m - 1, Value::Obj(n), v);
-            table::hold(s, Value::Obj(n)); // the caller's slot keeps the target
-            leave(s, h, w, v);
-            Ok(Move::Turned)
-        }
+    let n = checks::as_object(checks::seen(s, h, i, w))?;
+    let Some(b) = checks::method_block(p, s, n, j) else {
+        return Err(Halt::Stops(Fault::NoMethod));
+    };
+    checks::permission_check(checks::is_foreign(s, h.thread, n), false, false)?;
+    if 15 <= h.depth {
+        return Err(Halt::Stops(Fault::UsedUp));
     }
+    let v = checks::operand(s, h, w);
+    table::push_frame(s, h, b, Value::Obj(n), v);
+    table::hold(s, Value::Obj(n)); // the caller's slot keeps the target
+    leave(s, h, w, v);
+    Ok(Move::Turned)
 }
 
 pub fn new_line(
@@ -185,17 +166,11 @@ fn put_line(s: &mut [u16], h: Here, i: u16, w: u16) -> Result<Move, Halt>
 {
     checks::operand_check(s, h, w)?;
     let v = checks::operand(s, h, w);
-    let x = checks::seen(s, h, i, w);
-    match x {
-        Value::Absent => Err(Halt::Stops(Fault::Absent)),
-        Value::Obj(_) => Err(Halt::Stops(Fault::WrongThing)),
-        Value::Chan(c) => {
-            checks::put_into(s, c, v)?;
-            table::put_message(s, h, c, v);
-            leave(s, h, w, v);
-            Ok(Move::Stay)
-        }
-    }
+    let c = checks::as_channel(checks::seen(s, h, i, w))?;
+    checks::put_into(s, c, v)?;
+    table::put_message(s, h, c, v);
+    leave(s, h, w, v);
+    Ok(Move::Stay)
 }
 
 // A send by a thread that waits as a sender, whose word is d.
@@ -225,20 +200,14 @@ pub fn recv_line(s: &mut [u16], h: Here, i: u16) -> Result<Move, Halt>
     requires { 8192 ≤ length s.old }
     ensures { Performs Always s.old h (bind (recv i)) result s.new }
 {
-    let x = table::slot(s, h, i as usize % 16);
-    match x {
-        Value::Absent => Err(Halt::Stops(Fault::Absent)),
-        Value::Obj(_) => Err(Halt::Stops(Fault::WrongThing)),
-        Value::Chan(c) => {
-            let v = table::message(s, c);
-            if checks::is_absent(v) {
-                return Err(Halt::Waits);
-            }
-            table::give_value(s, h, v); // it moves from the channel to the slot
-            table::empty_channel(s, c);
-            Ok(Move::Next)
-        }
+    let c = checks::as_channel(table::slot(s, h, i as usize % 16))?;
+    let v = table::message(s, c);
+    if v == Value::Absent {
+        return Err(Halt::Waits);
     }
+    table::give_value(s, h, v); // it moves from the channel to the slot
+    table::empty_channel(s, c);
+    Ok(Move::Next)
 }
 
 // "A give ends the frame and fills the caller's slot. From the outermost frame it finishes the thread."

@@ -1,5 +1,5 @@
 // One turn of one thread on the tables.
-#![tactic(auto, using(table::proofs::StateReads::object_in_table, table::proofs::StateReads::channel_in_table))]
+#![tactic(auto, using(table::proofs::StateReads::object_in_table, table::proofs::StateReads::channel_in_table, checks::proofs::CheckLaws::object_place, checks::proofs::CheckLaws::channel_place))]
 
 mod copies;
 mod form_moves;
