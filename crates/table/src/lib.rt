@@ -1,7 +1,7 @@
 // The two tables: the only code that knows where a word stands. Everything above it speaks of the abstract program and state.
 // A table is lent as a slice, and each contract says `8192 ≤ length`. Kept (what may not change): an array type would be narrower than what the
-// public functions take. Numbers of objects, threads and frames are plain, each with its bound in the contract: a type for each would only wrap a
-// number that its caller has tested (kept: no plainer).
+// public functions take. Numbers of objects, threads and frames are plain, and values those of rules, each with its bound in the contract: a type
+// for each would only wrap what its caller has tested, and be taken off again at each index (kept: no plainer).
 #![tactic(auto)]
 
 mod program;
