@@ -359,7 +359,7 @@ pub fn push_frame(s: &mut [u16], h: Here, b: u16, target: Value, v: Value)
 
 // The innermost frame's words are zero again.
 fn clear_frame(s: &mut [u16], h: Here)
-    requires { (8192 ≤ length s.old) }
+    requires { 8192 ≤ length s.old }
     ensures { Becomes s.old (Innermost h.thread h.depth) (left h.thread) s.new }
 {
     s[h.frame..h.frame + 19].fill(0);
@@ -369,7 +369,7 @@ fn clear_frame(s: &mut [u16], h: Here)
 
 // Each value in the innermost frame's slots gets a holder less.
 fn release_slots(s: &mut [u16], h: Here)
-    requires { (8192 ≤ length s.old) }
+    requires { 8192 ≤ length s.old }
     ensures { Releases h.thread h.depth s.old s.new }
 {
     let n = slot_count(s, h.thread, h.depth) as usize % 17;
@@ -381,7 +381,7 @@ fn release_slots(s: &mut [u16], h: Here)
 
 // The innermost frame ends.
 pub fn drop_frame(s: &mut [u16], h: Here)
-    requires { (8192 ≤ length s.old) }
+    requires { 8192 ≤ length s.old }
     ensures { Drops h.thread h.depth s.old s.new }
 {
     release_slots(s, h);
