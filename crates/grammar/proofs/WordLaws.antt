@@ -9,7 +9,7 @@ use mathlib.Core.List.{List, [], ◌∷◌, ◌++◌}
 use lib.Dec.{eqb, ltb}
 use lib.ListN.{length, take, drop, get_or, length-append, length-drop}
 use lib.Pow.{pow-add}
-use lib.Seq.{drop-cons, drop-drop, take_all, take-take}
+use lib.Seq.{drop-cons, drop-drop, get_or-drop, take_all, take-take}
 use borrow.Author.Tests.{eqb-true, eqb-false, eq-eqb, ne_eqb, ltb-true}
 use Rattle.rules.specs.Lists.{all, Every}
 use Rattle.rules.specs.Templates.{took, unfit, literal}
@@ -110,6 +110,10 @@ begins_word w l h p e k =
     let s : take (length w) (take 8 l) ≡ take (length w) l = take-take (length w) 8 l (omega arith) in
     let b : Every Byte (take (length w) l) = rw s at (every_take Byte (length w) (take 8 l) k) in
     rw (word_front (length w) (take 8 l) (rw s b), s) (front_begins w l p e b)
+
+-- a byte past a place
+pub byte_past : (s : List ℕ) (at i : ℕ) → get_or (drop at s) i 0 ≡ get_or s (at + i) 0
+byte_past s at i = get_or-drop at s i 0
 
 -- ---- Eight bytes of a text
 

@@ -66,7 +66,8 @@ fn kind_at(s: &[u8], at: usize) -> Option<Line>
     Some(l)
 }
 
-// (thread) or (method), by the word
+// (thread) or (method), by the word. (Written out where it is called, as operand_line and place_line are: so the compiler knows the word.)
+#[inline(always)]
 fn opener_at(s: &[u8], at: usize, w: &[u8], form: Form) -> Option<Line>
     requires { (8 ≤ length s.now) × (length s.now ≤ 65536) × (at ≤ length s.now) × (length w.now ≤ 7) × (plain w.now ≡ true) }
     ensures { OpenerAt form w.now s.now at result }
@@ -77,6 +78,7 @@ fn opener_at(s: &[u8], at: usize, w: &[u8], form: Form) -> Option<Line>
 }
 
 // (give W) or (let W), by the word
+#[inline(always)]
 fn operand_line(s: &[u8], at: usize, w: &[u8], form: Form) -> Option<Line>
     requires { (8 ≤ length s.now) × (length s.now ≤ 65536) × (at ≤ length s.now) × (length w.now ≤ 7) × (plain w.now ≡ true) }
     ensures { OperandLineAt form w.now s.now at result }
@@ -230,33 +232,28 @@ fn copy_at(s: &[u8], at: usize) -> Option<Line>
 }
 
 // The only form that a let can fit, by the letters of its word.
+#[tactic(auto, unfolding(crate::specs::Decoded::let_form), using(crate::proofs::WordLaws::byte_past, std::proofs::lemmas::Bool::Decides::nat_tests))]
 fn let_form(s: &[u8], at: usize) -> Form
     requires { at ≤ 65536 }
     ensures { form_number result ≡ let_form (drop at s.now) }
 {
-    let first = byte(s, at + 6);
-    match first {
+    match byte(s, at + 6) {
         b'f' => Form::Field,
         b'n' => Form::New,
         b'c' => {
             if byte(s, at + 8) == b'l' {
                 Form::Call
+            } else if byte(s, at + 7) == b'o' {
+                Form::Copy
             } else {
-                if byte(s, at + 7) == b'o' {
-                    Form::Copy
-                } else {
-                    Form::Cast
-                }
+                Form::Cast
             }
         }
-        b's' => {
-            let second = byte(s, at + 7);
-            match second {
-                b'w' => Form::Swap,
-                b'p' => Form::Spawn,
-                _ => Form::Send,
-            }
-        }
+        b's' => match byte(s, at + 7) {
+            b'w' => Form::Swap,
+            b'p' => Form::Spawn,
+            _ => Form::Send,
+        },
         b'r' => {
             if byte(s, at + 8) == b'c' {
                 Form::Recv
@@ -269,12 +266,12 @@ fn let_form(s: &[u8], at: usize) -> Form
 }
 
 // The only form that a line can fit.
+#[tactic(auto, unfolding(crate::specs::Decoded::only_form), using(crate::proofs::WordLaws::byte_past, std::proofs::lemmas::Bool::Decides::nat_tests))]
 fn form_at(s: &[u8], at: usize) -> Form
     requires { at ≤ 65536 }
     ensures { form_number result ≡ only_form (drop at s.now) }
 {
-    let first = byte(s, at + 1);
-    match first {
+    match byte(s, at + 1) {
         b'k' => Form::Kind,
         b't' => Form::Thread,
         b'm' => Form::Method,
