@@ -1,13 +1,7 @@
 -- Laws of `Wrote`: nothing, a byte, one text after the other, the same text said otherwise, a text at the front.
-use Prim.Native.Nat.{ℕ, ◌+◌, ◌≤◌, ◌<◌}
-use native.Mathlib.Nat.{add-zero, zero-add, add_assoc}
-use native.Mathlib.Numerals.{add-one}
-use native.Mathlib.Omega.{arith}
-use mathlib.Core.Path.{◌≡◌, refl, sym, ap, ◌∙◌}
-use mathlib.Core.List.{List, [], ◌∷◌, ◌++◌, append_assoc}
-use lib.ListN.{length, take, drop, set, get_or, length-append, take-append-drop}
+use Rattle.std.proofs.Common.{ℕ, ◌+◌, ◌≤◌, ◌<◌, add-zero, zero-add, add_assoc, add-one, arith, ◌≡◌, refl, sym, ap, ◌∙◌, List, [], ◌∷◌, ◌++◌, append_assoc, length, take, drop, set, get_or, length-append, take-append-drop, length-take-le, drop-drop, take-suc}
 use borrow.Rule.Slice.PartMut.{put_mid}
-use lib.Seq.{length-take-le, take-append_seam, drop-append-add, drop-drop, set_split, take-suc}
+use Rattle.std.proofs.Math.Seq.{take-append_seam, drop-append-add, set_split}
 use Rattle.buffer.specs.Writing.{over, Wrote}
 
 over_none : (l : List ℕ) (at : ℕ) → l ≡ over l at []

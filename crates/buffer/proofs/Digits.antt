@@ -1,10 +1,5 @@
 -- The digits' codes rise from that of 0.
-use Prim.Native.Nat.{ℕ, zero, suc, ◌+◌, ◌<◌}
-use native.Mathlib.Nat.{add-zero, add-suc, suc-add}
-use native.Mathlib.Omega.{arith}
-use mathlib.Core.Path.{◌≡◌, sym, ◌∙◌}
-use mathlib.Core.List.{List, [], ◌∷◌}
-use lib.ListN.{get_or}
+use Rattle.std.proofs.Common.{ℕ, zero, suc, ◌+◌, ◌<◌, add-zero, add-suc, suc-add, arith, ◌≡◌, sym, ◌∙◌, List, [], ◌∷◌, get_or}
 use Rattle.rules.specs.Templates.{digit}
 
 -- k numbers from a on

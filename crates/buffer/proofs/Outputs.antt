@@ -1,9 +1,5 @@
 -- Laws of `Wrote` over an output: nothing, one text after the other, the same text said otherwise.
-use Prim.Native.Nat.{ℕ, ◌+◌, ◌≤◌}
-use native.Mathlib.Omega.{arith}
-use mathlib.Core.Path.{◌≡◌, refl, ◌∙◌}
-use mathlib.Core.List.{List, [], ◌++◌}
-use lib.ListN.{length}
+use Rattle.std.proofs.Common.{ℕ, ◌+◌, ◌≤◌, arith, ◌≡◌, refl, ◌∙◌, List, [], ◌++◌, length}
 use Rattle.buffer.specs.declared.Output.{Output}
 use Rattle.buffer.specs.Outputs.{Wrote}
 use Rattle.buffer.specs.Writing.{Wrote as WroteAt}

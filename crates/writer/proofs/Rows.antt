@@ -1,12 +1,6 @@
 -- The lines of a table, written one after the other: the text so far is that of the lines so far, and it is never longer than the whole. Before
 -- them stands what the edition's word says.
-use Prim.Native.Nat.{ℕ, zero, suc, ◌+◌, ◌%◌, ◌≤◌, ◌<◌}
-use native.Mathlib.Numerals.{add-one}
-use native.Mathlib.Omega.{arith}
-use mathlib.Core.Path.{◌≡◌, refl, sym, ap, ◌∙◌}
-use mathlib.Core.List.{List, [], ◌∷◌, ◌++◌, map, append_assoc, append-nil}
-use lib.ListN.{length, get_or, take, length-append}
-use lib.Seq.{take_all, take-suc}
+use Rattle.std.proofs.Common.{ℕ, zero, suc, ◌+◌, ◌%◌, ◌≤◌, ◌<◌, add-one, arith, ◌≡◌, refl, sym, ap, ◌∙◌, List, [], ◌∷◌, ◌++◌, map, append_assoc, append-nil, length, get_or, take, length-append, take_all, take-suc}
 use Rattle.rules.specs.Lists.{Every}
 use Rattle.rules.specs.Mosts as Most
 use Rattle.rules.specs.Text.{join}

@@ -1,15 +1,7 @@
 -- From what was written beside the buffer to the writer's answer. A text that reads to the table is what the table's words say, so it is the one
 -- that was written; read again it is accepted and gives the table's words. Where that fails, there is no such text.
-use Prim.Native.Nat.{ℕ, ◌≤◌, ◌<◌}
-use native.Mathlib.Omega.{arith}
-use mathlib.Core.Path.{◌≡◌, refl, sym, ap, ◌∙◌, subst}
-use mathlib.Core.Bool.{Bool, true, false}
-use mathlib.Core.List.{List, [], ◌∷◌, ◌++◌, map, append-nil}
-use mathlib.Core.Logic.{inl, inr}
-use lib.Dec.{ltb, leb}
-use lib.ListN.{length, take, drop, take-append-drop}
-use lib.Seq.{take-append_seam, drop-length, length-take-le}
-use borrow.Author.Tests.{ltb-false, lt-ltb, le-ltb}
+use Rattle.std.proofs.Common.{ℕ, ◌≤◌, ◌<◌, arith, ◌≡◌, refl, sym, ap, ◌∙◌, subst, Bool, true, false, List, [], ◌∷◌, ◌++◌, map, append-nil, inl, inr, ltb, leb, length, take, drop, take-append-drop, length-take-le, ltb-false, lt-ltb, le-ltb, Result, Ok, Err}
+use Rattle.std.proofs.Math.Seq.{take-append_seam, drop-length}
 use Rattle.rules.specs.declared.Mosts.{Mosts}
 use Rattle.rules.specs.Mosts as Most
 use Rattle.rules.specs.Mosts.{mosts}
@@ -30,7 +22,6 @@ use Rattle.buffer.proofs.Appends.{front_is}
 use Rattle.table.specs.ProgramTable.{Filled, Same}
 use Rattle.table.proofs.ProgramTable.{program_words_by_lines}
 use Rattle.table.proofs.ProgramLines.{blocks_of_lines}
-use Rattle.std.specs.Prelude.{Result, Ok, Err}
 use Rattle.std.specs.Result.{is_err}
 use Prim.{Unit}
 use Rattle.rules.specs.declared.faults.Refusal.{Refusal}

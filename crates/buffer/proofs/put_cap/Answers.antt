@@ -1,6 +1,5 @@
 -- `buffer::put_cap` meets its contract: a space, and the word of each capability.
-use native.Mathlib.Omega.{arith}
-use mathlib.Core.Path.{refl}
+use Rattle.std.proofs.Common.{arith, refl}
 use Rattle.buffer.proofs.Appends.{◌▹◌, same_text}
 use Rattle.buffer.proofs.put_cap.Goals as goal
 

@@ -1,10 +1,7 @@
 -- `buffer::put_digit` meets its contract: the number is below the place, or its digit there is written.
-use Prim.Native.Nat.{◌/◌, ◌%◌}
-use native.Mathlib.Omega.{arith}
-use borrow.Author.Tests.{lt-ltb, le-ltb}
+use Rattle.std.proofs.Common.{◌/◌, ◌%◌, arith, lt-ltb, le-ltb, rules}
 use Rattle.buffer.proofs.Appends.{nothing}
 use Rattle.buffer.proofs.Digits.{digit_code}
-use Rattle.std.proofs.Common.{rules}
 use Rattle.buffer.proofs.put_digit.Goals as goal
 
 pub returns-then-n-place : goal.returns-then-n-place

@@ -1,11 +1,6 @@
 -- `buffer::put_text` meets its contract: before turn i the first i bytes stand there.
-use Prim.Native.Nat.{◌≤◌}
-use native.Mathlib.Nat.{add-zero}
-use native.Mathlib.Omega.{arith}
-use lib.ListN.{length}
-use lib.Seq.{take_all}
+use Rattle.std.proofs.Common.{◌≤◌, add-zero, arith, length, take_all, rules}
 use Rattle.buffer.proofs.Appends.{nothing, one_more_byte, same_text}
-use Rattle.std.proofs.Common.{rules}
 use Rattle.buffer.proofs.put_text.Goals as goal
 
 pub loop-i-init : goal.loop-i-init

@@ -1,7 +1,5 @@
 -- `buffer::put_text` meets its contract: before turn i the first i bytes stand there.
-use Prim.Native.Nat.{◌+◌, ◌-◌, ◌≤◌}
-use mathlib.Core.Path.{◌≡◌}
-use lib.ListN.{length, take}
+use Rattle.std.proofs.Common.{◌+◌, ◌-◌, ◌≤◌, ◌≡◌, length, take}
 use Rattle.buffer.specs.Writing.{Wrote}
 use Rattle.buffer.proofs.put_text.Given as goal
 

@@ -1,10 +1,6 @@
 -- `writer::write` meets its contract: what is written beside the buffer is the only text that can read to the table; read again, it tells whether it does.
-use native.Mathlib.Omega.{arith}
-use mathlib.Core.Path.{refl, sym, ◌∙◌}
-use lib.ListN.{take}
-use lib.Seq.{length-take-le}
+use Rattle.std.proofs.Common.{arith, refl, sym, ◌∙◌, take, length-take-le, rules}
 use Rattle.writer.proofs.WriteOutcomes.{is_written, is_read, is_refused, is_short, script_fits, reads_to, refused_none, other_words_none, short_table_lem, short_buffer_lem, turned_away_lem, written_out}
-use Rattle.std.proofs.Common.{rules}
 use Rattle.writer.proofs.write.Goals as goal
 use Rattle.writer.proofs.write.Goals.{then-table-lt8192-via-then-table-lt8192, then-table-lt8192-via-else-table-lt8192+then-buffer-lt16384}
 use Rattle.writer.proofs.write.Goals.{then-is_err-via-then-is_err, then-is_err-via-else-is_err+then-not-same_table}

@@ -1,7 +1,6 @@
 -- `buffer::Output::put_byte` meets its contract: one byte is set.
-use mathlib.Core.Path.{refl}
+use Rattle.std.proofs.Common.{refl, rules}
 use Rattle.buffer.proofs.Appends.{byte}
-use Rattle.std.proofs.Common.{rules}
 use Rattle.buffer.proofs.Output.put_byte.Goals as goal
 
 pub returns : goal.returns

@@ -1,15 +1,10 @@
 -- `buffer::Output::put_cap` meets its contract: a space, and the word of the capability.
-use Prim.Native.Nat.{ℕ, ◌+◌, ◌≤◌}
-use native.Mathlib.Omega.{arith}
-use mathlib.Core.Path.{ap}
-use mathlib.Core.List.{◌∷◌}
-use lib.ListN.{length}
+use Rattle.std.proofs.Common.{ℕ, ◌+◌, ◌≤◌, arith, ap, ◌∷◌, length, rules}
 use Rattle.rules.specs.Text.{space}
 use Rattle.rules.specs.Templates.{cap_word}
 use Rattle.rules.specs.declared.Cap.{Cap}
 use Rattle.rules.specs.declared.Cap.TheVariants.{Imm, Iso, Local, Unsafe}
 use Rattle.buffer.proofs.Outputs.{◌▹◌, same_text}
-use Rattle.std.proofs.Common.{rules}
 use Rattle.buffer.proofs.Output.put_cap.Goals as goal
 
 short_word : (c : Cap) → length (cap_word c) ≤ 6

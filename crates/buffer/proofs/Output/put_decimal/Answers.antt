@@ -1,6 +1,5 @@
 -- `buffer::Output::put_decimal` meets its contract: the digits by place.
-use Prim.Native.Nat.{◌%◌}
-use native.Mathlib.Omega.{arith}
+use Rattle.std.proofs.Common.{◌%◌, arith}
 use Rattle.rules.specs.Templates.{decimal}
 use Rattle.buffer.proofs.Outputs.{◌▹◌}
 use Rattle.buffer.proofs.Digits.{digit_code}

@@ -1,9 +1,7 @@
 -- `buffer::Output::put_text` meets its contract: its range is set.
-use native.Mathlib.Omega.{arith}
-use mathlib.Core.Path.{refl}
+use Rattle.std.proofs.Common.{arith, refl, rules}
 use borrow.Rule.Slice.PartMut.{same_len_mid}
 use Rattle.buffer.proofs.Appends.{range}
-use Rattle.std.proofs.Common.{rules}
 use Rattle.buffer.proofs.Output.put_text.Goals as goal
 
 pub returns : goal.returns

@@ -1,13 +1,9 @@
 -- `writer::script_lines::put_form` meets its contract: each form has its own text, and no form has none.
-use Prim.Native.Nat.{ℕ}
-use native.Mathlib.Omega.{arith}
-use mathlib.Core.Path.{refl}
-use lib.ListN.{get_or}
+use Rattle.std.proofs.Common.{ℕ, arith, refl, get_or, rules}
 use Rattle.buffer.proofs.Outputs.{nothing, same_text}
 use Rattle.rules.specs.Templates.{print, show}
 use Rattle.writer.specs.Lines.{form_text}
 use Rattle.writer.proofs.Texts.{new_text}
-use Rattle.std.proofs.Common.{rules}
 use Rattle.writer.proofs.script_lines.put_form.Goals as goal
 
 pub returns-in-Kind : goal.returns-in-Kind

@@ -1,8 +1,7 @@
 -- `writer::script_lines::put_head` meets its contract: what the edition's word says.
-use native.Mathlib.Omega.{arith}
+use Rattle.std.proofs.Common.{arith, rules}
 use Rattle.buffer.proofs.Outputs.{nothing, same_text}
 use Rattle.writer.proofs.Texts.{head_text_lem, no_head_text}
-use Rattle.std.proofs.Common.{rules}
 use Rattle.writer.proofs.script_lines.put_head.Goals as goal
 
 pub returns-then-edition-eq2 : goal.returns-then-edition-eq2

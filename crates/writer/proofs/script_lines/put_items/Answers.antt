@@ -1,10 +1,8 @@
 -- `writer::script_lines::put_items` meets its contract: before turn i the first i items are written.
-use Prim.Native.Nat.{◌*◌}
-use native.Mathlib.Omega.{arith}
+use Rattle.std.proofs.Common.{◌*◌, rules}
 use Rattle.rules.specs.Templates.{print_many}
 use Rattle.buffer.proofs.Outputs.{nothing}
 use Rattle.writer.proofs.Texts.{an_item_more, no_item_more, room_left}
-use Rattle.std.proofs.Common.{rules}
 use Rattle.writer.proofs.script_lines.put_items.Goals as goal
 use Rattle.writer.proofs.script_lines.put_items.Goals.{then-item-ne0, else-item-ne0}
 

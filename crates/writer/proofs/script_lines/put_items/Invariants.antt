@@ -1,6 +1,5 @@
 -- trial
-use Prim.Native.Nat.{ℕ, ◌*◌}
-use lib.ListN.{take}
+use Rattle.std.proofs.Common.{◌*◌, take}
 use Rattle.rules.specs.Templates.{print_many}
 use Rattle.buffer.specs.Outputs.{Wrote}
 use Rattle.writer.specs.Lines.{items_of}

@@ -1,7 +1,6 @@
 -- `writer::script_lines::put_lines` meets its contract: before turn n the first n lines are written; where they are too long, no text that is short enough was begun.
-use native.Mathlib.Omega.{arith}
+use Rattle.std.proofs.Common.{arith, rules}
 use Rattle.writer.proofs.Rows.{none_yet, one_line_more, all_written, too_long}
-use Rattle.std.proofs.Common.{rules}
 use Rattle.writer.proofs.script_lines.put_lines.Goals as goal
 
 pub loop-n-init : goal.loop-n-init

@@ -1,5 +1,5 @@
 -- `writer::script_lines::put_lines` meets its contract: before turn n the first n lines are written; where they are too long, no text that is short enough was begun.
-use Prim.Native.Nat.{◌≤◌}
+use Rattle.std.proofs.Common.{◌≤◌}
 use Rattle.writer.proofs.Rows.{SoFar}
 use Rattle.writer.proofs.script_lines.put_lines.Given as goal
 

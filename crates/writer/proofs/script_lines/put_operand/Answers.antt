@@ -1,8 +1,7 @@
 -- `writer::script_lines::put_operand` meets its contract: an odd word takes, an even one reads, and half of it is the slot.
-use native.Mathlib.Omega.{arith}
+use Rattle.std.proofs.Common.{arith}
 use Rattle.buffer.proofs.Outputs.{◌▹◌, same_text}
 use Rattle.writer.proofs.Texts.{taken_operand, read_operand}
-use Rattle.std.proofs.Common.{rules}
 use Rattle.writer.proofs.script_lines.put_operand.Goals as goal
 use Rattle.writer.proofs.script_lines.put_operand.Goals.{then-w-eq1, else-w-eq1}
 

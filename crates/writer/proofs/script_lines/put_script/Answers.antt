@@ -1,7 +1,6 @@
 -- `writer::script_lines::put_script` meets its contract: what the edition's word says, and the lines after it.
-use native.Mathlib.Omega.{arith}
-use Rattle.writer.proofs.Rows.{script_written}
 use Rattle.std.proofs.Common.{rules}
+use Rattle.writer.proofs.Rows.{script_written}
 use Rattle.writer.proofs.script_lines.put_script.Goals as goal
 
 pub put_lines-requires : goal.put_lines-requires

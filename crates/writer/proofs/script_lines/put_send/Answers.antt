@@ -1,8 +1,6 @@
 -- `writer::script_lines::put_send` meets its contract: the parts of its line, one after the other.
-use native.Mathlib.Omega.{arith}
-use mathlib.Core.Path.{refl}
+use Rattle.std.proofs.Common.{arith, refl}
 use Rattle.buffer.proofs.Outputs.{◌▹◌, same_text}
-use Rattle.std.proofs.Common.{rules}
 use Rattle.writer.proofs.script_lines.put_send.Goals as goal
 
 pub returns : goal.returns
