@@ -11,8 +11,9 @@ import sys
 
 ROOT = os.path.dirname(os.path.dirname(os.path.abspath(__file__)))
 DEFINITIONS = ['Templates', 'Input']
-# What a run takes and what boxrun prints: lists of bytes, and no text that is read.
-ALLOWED = {'replay': [r'let mut turns = \[0u8; 32768\];', r'\b(turns|output): &mut \[u8\]']}
+# What a run takes and what boxrun prints, itself or by the job that it lends its output to: lists of bytes, and no text that is read.
+ALLOWED = {'replay': [r'let mut turns = \[0u8; 32768\];', r'\b(turns|output): &mut \[u8\]',
+                      r'<F: FnOnce\(&\[u8\], &\[u8\], &\[u8\], &mut \[u8\]\) -> Result<usize, Refusal>>\(']}
 
 TABLE = '0u16; 8192'
 BYTES = r'b"(?:[^"\\]|\\.)*"'

@@ -17,6 +17,7 @@ use Rattle.listing.specs.Outputs.{run_text}
 use Rattle.std.specs.Prelude.{None, Some, Result, Ok, Err}
 use Rattle.rules.proofs.ListLaws.{by_bool, impossible}
 use Rattle.rules.specs.declared.faults.Fault.{Fault}
+use Rattle.rules.specs.declared.faults.Refusal.{Refusal}
 use Rattle.rules.specs.declared.faults.Fault.TheVariants as F
 use Rattle.replay.specs.declared.Parts.{Parts}
 use Rattle.replay.specs.declared.Misfit.{Misfit}
@@ -73,11 +74,15 @@ module _ (input list : List ℕ) where
     module _ (long : Most.turns ≤ length list) {list₁ : List ℕ} (same : length list₁ ≡ length list) {at : ℕ}
         (front : take at input ≡ join (lines_before (lines input))) (cut : drop at input ≡ last_line (lines input)) (within : at ≤ length input) where
       -- a fault of it
-      pub splits_fault : {f : Fault} {n : ℕ} → turns_of (drop at input) ≡ fault (No.number f) → n ≡ length (lines_before (lines input))
-          → Splits input list (Err (record { refusal = record { fault = f; line = n }; script = Some at })) list₁
+      pub splits_fault : {f : Fault} {r : Refusal} → turns_of (drop at input) ≡ fault (No.number f) → r.fault ≡ f → r.line ≡ length (lines_before (lines input))
+          → Splits input list (Err (record { refusal = r; script = Some at })) list₁
       unfolding given_of
-      splits_fault told m =
-          record { is = given_whole input list long ∙ rw (le-ltb Most.input (length input) h, ← cut, told, m, front) refl; cut = within; few = omega arith; line = tt }
+      splits_fault told why line = record {
+        is = given_whole input list long ∙ rw (le-ltb Most.input (length input) h, ← cut, told, why, line, front) refl;
+        cut = within;
+        few = omega arith;
+        line = tt;
+      }
 
       -- the turns that it has
       pub splits_turns : {n : ℕ} → turns_of (drop at input) ≡ turns (take n list₁) → n ≤ Most.turns → Splits input list (Ok (record { script = at; turns = n })) list₁

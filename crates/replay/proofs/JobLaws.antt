@@ -15,9 +15,8 @@ use Rattle.rules.specs.Numbers as No
 use Rattle.rules.specs.Run.{refused}
 use Rattle.rules.specs.Listing.{answer_line}
 use Rattle.rules.proofs.ListLaws.{by_bool, below}
-use Rattle.listing.specs.declared.Printed.{Printed}
-use Rattle.listing.specs.declared.Printed.TheVariants.{Refused}
-use Rattle.listing.specs.Outputs.{printed_in, output_in, output_bytes, printed_of, output_after}
+use Rattle.rules.specs.declared.faults.Refusal.{Refusal}
+use Rattle.listing.specs.Outputs.{short_refusal, printed_in, output_in, output_bytes, printed_of, output_after}
 use Rattle.listing.proofs.PrintOutcomes.{short_in, long_in}
 use Rattle.replay.specs.declared.Parts.{Parts}
 use Rattle.replay.specs.declared.Misfit.{Misfit}
@@ -27,9 +26,9 @@ use Rattle.replay.proofs.GivenLaws.{given_told}
 
 -- ---- What a job prints
 
-module _ {post : Bor (List ℕ) → Bor (List ℕ) → Bor (List ℕ) → MutBor (List ℕ) → Printed → MutBor (List ℕ) → Type 0} (input : List ℕ) (room : ℕ) (output : List ℕ)
-    {r : Printed} {output₁ : List ℕ} where
-  pub prints_short : r ≡ Refused No.short_table 0 → output₁ ≡ output → length output < room → PrintsParts post input room output r output₁
+module _ {post : Bor (List ℕ) → Bor (List ℕ) → Bor (List ℕ) → MutBor (List ℕ) → Result ℕ Refusal → MutBor (List ℕ) → Type 0} (input : List ℕ) (room : ℕ) (output : List ℕ)
+    {r : Result ℕ Refusal} {output₁ : List ℕ} where
+  pub prints_short : r ≡ Err short_refusal → output₁ ≡ output → length output < room → PrintsParts post input room output r output₁
   prints_short is same short = record { short = λ _. (is, same); prints = λ wide. absurd (omega arith) }
 
   module _ (wide : room ≤ length output) where
@@ -56,10 +55,10 @@ module _ {post : Bor (List ℕ) → Bor (List ℕ) → Bor (List ℕ) → MutBor
 
 -- ---- What is printed of an input, if the job prints a text of the parts
 
-module _ {post : Bor (List ℕ) → Bor (List ℕ) → Bor (List ℕ) → MutBor (List ℕ) → Printed → MutBor (List ℕ) → Type 0} {input output output₁ : List ℕ} {room : ℕ} {r : Printed}
+module _ {post : Bor (List ℕ) → Bor (List ℕ) → Bor (List ℕ) → MutBor (List ℕ) → Result ℕ Refusal → MutBor (List ℕ) → Type 0} {input output output₁ : List ℕ} {room : ℕ} {r : Result ℕ Refusal}
     (prints : PrintsParts post input room output r output₁) (W : Given → List ℕ) (whole : (k : ℕ) → W (away k) ≡ answer_line (refused k 0))
     (faults : (text : List ℕ) (k n : ℕ) → W (faulty text k n) ≡ answer_line (refused k n)) (low : output_bytes ≤ room) where
-  pub text_printed : ((text turns last : Bor (List ℕ)) (lent : MutBor (List ℕ)) (s : Printed) (left : MutBor (List ℕ)) → post text turns last lent s left
+  pub text_printed : ((text turns last : Bor (List ℕ)) (lent : MutBor (List ℕ)) (s : Result ℕ Refusal) (left : MutBor (List ℕ)) → post text turns last lent s left
       → given_of input ≡ given text.now turns.now → last.now ≡ drop (length text.now) input → room ≤ length lent.now
       → (s ≡ printed_in room (W (given text.now turns.now)) lent.now) × (left.now ≡ output_in room (W (given text.now turns.now)) lent.now))
       → (r ≡ printed_in room (W (given_of input)) output) × (output₁ ≡ output_in room (W (given_of input)) output)

@@ -4,23 +4,23 @@ use native.Mathlib.Numerals.{add-one}
 use native.Mathlib.Omega.{arith}
 use mathlib.Core.Path.{◌≡◌, refl, sym, ap, ◌∙◌}
 use mathlib.Core.Bool.{Bool, true, false, ◌&&◌, ◌||◌, cond}
-use mathlib.Core.List.{List, [], ◌∷◌, ◌++◌}
-use lib.Dec.{eqb, ltb, leb}
+use mathlib.Core.List.{List, [], ◌∷◌, ◌++◌, map}
+use lib.Dec.{ltb}
 use lib.ListN.{length, take, drop, get_or, set, length-append, length-drop, drop_of_length-le}
 use lib.Seq.{drop-cons, take-suc-set}
-use borrow.Author.Tests.{ltb-false, leb-true, leb-false, lt-leb, le-leb, eq-eqb, ne_eqb}
+use borrow.Author.Tests.{ltb-false}
 use Rattle.rules.specs.Mosts as Most
 use Rattle.rules.specs.Numbers as No
 use Rattle.std.specs.Prelude.{◌≢◌}
 use Rattle.rules.specs.Lists.{any}
 use Rattle.rules.specs.Text.{bytes, space}
-use Rattle.rules.specs.Templates.{Taken, took, unfit, digit_at, decimal, number, many, print_many, Holds, fit, whole, print}
+use Rattle.rules.specs.Templates.{Taken, took, unfit, digit_at, decimal, number, many, print_many, Part as TPart, character, many_numbers, Holds, fit, whole, print}
 use Rattle.rules.specs.Input.{turns_t, fault, turns, turns_by, turns_of}
 use Rattle.rules.proofs.ListLaws.{or_false, any_snoc}
 use Rattle.rules.proofs.Printing.{says_of, number_front, fit_prints}
 use Rattle.grammar.specs.Words.{begins}
-use Rattle.grammar.proofs.Many.{ReadTo, read_none, read_inside, read_more, read_all, number_shortens}
-use Rattle.grammar.proofs.Told.{Told, word, last, numbers_fit}
+use Rattle.grammar.proofs.Many.{ReadTo, read_none, read_inside, read_more, read_fails, read_all, number_shortens}
+use Rattle.grammar.proofs.Told.{Fits, Fails, word, past, no_word, done, some_numbers, past_numbers, no_numbers}
 use Rattle.grammar.specs.declared.parts.Part.{Part}
 use Rattle.replay.specs.declared.turns_line.Numbers.{Numbers}
 use Rattle.replay.specs.Told.{Stored}
@@ -45,7 +45,7 @@ number_further s at w e h =
 -- two bytes were read for each number
 pub record StoredTo (s : List ℕ) (at : ℕ) (l : Numbers) (list : List ℕ) : Type 0 where
   pub numbers : List ℕ
-  pub read : ReadTo number s at numbers true l.end (eqb (get_or s l.end 0) space)
+  pub read : ReadTo number s at numbers l.end
   pub over : l.over ≡ any (ltb Most.number) numbers
   pub stored : l.over ≡ false → take l.count list ≡ numbers
   pub room : l.count + l.count ≤ l.end
@@ -56,7 +56,7 @@ pub none_stored : {s list : List ℕ} {at : ℕ} {l : Numbers} → l.count ≡ 0
 unfolding any
 none_stored {s} {list} {at} {l} count over end low = record {
   numbers = [];
-  read = rw end (read_none {ok = true} refl refl refl);
+  read = read_none end;
   over = over;
   stored = λ _. rw count;
   room = omega arith;
@@ -64,45 +64,40 @@ none_stored {s} {list} {at} {l} count over end low = record {
   limit = omega arith;
 }
 
-module _ {s list : List ℕ} {at : ℕ} {l : Numbers} (S : StoredTo s at l list) (t : get_or s l.end 0 ≡ space) where
-  on_space : eqb (get_or s l.end 0) space ≡ true
-  on_space = eq-eqb _ _ t
-
+-- b is the byte at the place
+module _ {s list : List ℕ} {at b : ℕ} {l : Numbers} (S : StoredTo s at l list) (here : b ≡ get_or s l.end 0) where
   -- a space stands where the list goes on, so the list has room for the next number
-  pub inside : l.end < length s
-  inside = read_inside S.read on_space
+  pub inside : b ≡ space → l.end < length s
+  inside t = read_inside S.read here t
 
-  pub room_left : length s ≤ 65536 → l.count < 32768
-  room_left h = omega (arith, S.room, inside)
+  pub room_left : b ≡ space → length s ≤ 65536 → l.count < 32768
+  room_left t h = omega (arith, S.room, inside t)
 
   -- one number more: w is what was read, a the byte that is stored
-  pub number_stored : (w : Part) {a : ℕ} {m : Numbers} → w.ok ≡ true → number (drop (l.end + 1) s) ≡ cond w.ok (took w.word (drop w.end s)) unfit
-      → length s ≤ 65536 → w.end ≤ l.end + 1 + 3 → l.count < length list → a ≡ w.word % 256
-      → m.count ≡ l.count + 1 → m.over ≡ (l.over || ltb Most.number w.word) → m.end ≡ w.end → StoredTo s at m (set list l.count a)
-  number_stored w {a} {m} ok fits short near inl ea count over end =
-      let fitted : number (drop (l.end + 1) s) ≡ took w.word (drop w.end s) = rw ok at fits in
-      record {
-        numbers = S.numbers ++ (w.word ∷ []);
-        read = rw end (read_more S.read {fits = true} w.word number_shortens on_space fitted refl refl);
-        over = rw (over, S.over) (sym (any_snoc (ltb Most.number) S.numbers w.word));
-        stored = λ f.
-            let o = or_false l.over (ltb Most.number w.word) (sym over ∙ f) in
-            let small = ltb-false Most.number w.word o.1 in
-            let byte : a ≡ w.word = omega arith in
-            rw (count, add-one, byte) (take-suc-set list l.count w.word inl ∙ ap (λ (k : List ℕ). k ++ (w.word ∷ [])) (S.stored o.0));
-        room = omega (arith, S.room, number_further s (l.end + 1) w.word w.end fitted);
-        few = omega (arith, room_left short);
-        limit = omega (arith, inside);
-      }
+  pub number_stored : b ≡ space → {w : Part} {a : ℕ} {m : Numbers} → number (drop (l.end + 1) s) ≡ took w.word (drop w.end s) → length s ≤ 65536 → w.end ≤ l.end + 1 + 3
+      → l.count < length list → a ≡ w.word % 256 → m.count ≡ l.count + 1 → m.over ≡ (l.over || ltb Most.number w.word) → m.end ≡ w.end
+      → StoredTo s at m (set list l.count a)
+  number_stored t {w} {a} {m} fits short near inl ea count over end = record {
+    numbers = S.numbers ++ (w.word ∷ []);
+    read = rw end (read_more S.read here w.word number_shortens t fits);
+    over = rw (over, S.over) (sym (any_snoc (ltb Most.number) S.numbers w.word));
+    stored = λ f.
+        let o = or_false l.over (ltb Most.number w.word) (sym over ∙ f) in
+        let small = ltb-false Most.number w.word o.1 in
+        let byte : a ≡ w.word = omega arith in
+        rw (count, add-one, byte) (take-suc-set list l.count w.word inl ∙ ap (λ (k : List ℕ). k ++ (w.word ∷ [])) (S.stored o.0));
+    room = omega (arith, S.room, number_further s (l.end + 1) w.word w.end fits);
+    few = omega (arith, room_left t short);
+    limit = omega (arith, inside t);
+  }
 
-  -- or no number stands there
-  pub none_fits : (w : Part) → w.ok ≡ false → number (drop (l.end + 1) s) ≡ cond w.ok (took w.word (drop w.end s)) unfit
-      → many number (length (drop at s)) (drop at s) ≡ unfit
-  none_fits w ok fits = (read_more S.read {f = w.end} {fits = false} {on = false} w.word number_shortens on_space (rw ok at fits) refl refl).whole
+  -- no number stands there
+  pub none_fits : b ≡ space → number (drop (l.end + 1) s) ≡ unfit → many number (length (drop at s)) (drop at s) ≡ unfit
+  none_fits t fails = read_fails S.read here number_shortens 0 t fails
 
--- where no space stands, all of them are read
-pub all_stored : {s list : List ℕ} {at : ℕ} {l : Numbers} → StoredTo s at l list → get_or s l.end 0 ≢ space → Stored s at l list
-all_stored {l = l} S t = record { numbers = S.numbers; fits = read_all true S.read (ne_eqb _ _ t); over = S.over; stored = S.stored }
+  -- where no space stands, all of them are read
+  pub all_stored : b ≢ space → Stored s at l list
+  all_stored t = record { numbers = S.numbers; fits = read_all S.read here t; over = S.over; stored = S.stored }
 
 -- ---- The line
 
@@ -123,63 +118,43 @@ turns_short s at h = go (fit turns_t (drop at s)) refl
     go (took p l) e = absurd (omega (arith, ap length (fit_prints turns_t (drop at s) p l e), length-append (print turns_t p) l, turns_long p, length-drop at s))
     go unfit e = refl
 
--- it fits where its parts do, each at the place where the part before it ends, and is the turns line where nothing is left
-module _ (s : List ℕ) (at : ℕ) (ok : Bool) (numbers : List ℕ) (end : ℕ) {opened closed : Bool}
-    (fits : many number (length (drop (at + 6) s)) (drop (at + 6) s) ≡ cond ok (took numbers (drop end s)) unfit)
-    (ho : opened ≡ begins (bytes "(turns") (drop at s)) (hc : closed ≡ begins (bytes ")\n") (drop end s)) where
-  turns_fit : Told turns_t s at (opened && (ok && closed)) (numbers, tt) (end + 2)
-  turns_fit = word (bytes "(turns") ho (numbers_fit ok numbers end fits (last (bytes ")\n") hc))
+module _ (s : List ℕ) (at : ℕ) where
+  abbrev rest_t : List TPart
+  rest_t = many_numbers ∷ (map character (bytes ")\n") ++ [])
 
-  by_parts : turns_of (drop at s)
-      ≡ cond ((opened && (ok && closed)) && leb (length s) (end + 2)) (cond (any (ltb Most.number) numbers) (fault No.over_count) (turns numbers)) (fault No.malformed)
+  not_the_line : Fails turns_t s at → turns_of (drop at s) ≡ fault No.malformed
   unfolding turns_of
-  by_parts = rw turns_fit.fits (go (opened && (ok && closed)) (leb (length s) (end + 2)) refl)
-    where
-      go : (ok whole_line : Bool) → whole_line ≡ leb (length s) (end + 2)
-          → turns_by (whole (cond ok (took (numbers, tt) (drop (end + 2) s)) unfit))
-          ≡ cond (ok && whole_line) (cond (any (ltb Most.number) numbers) (fault No.over_count) (turns numbers)) (fault No.malformed)
-      go true true h = rw (drop_of_length-le s {i = end + 2} (leb-true (length s) (end + 2) (sym h)))
-      go true false h = rw (drop-cons s (end + 2) 0 (leb-false (length s) (end + 2) (sym h)))
-      go false end h = refl
+  not_the_line F = rw F.fails
 
--- no list of numbers stands there
-pub no_numbers : (s : List ℕ) (at : ℕ) → many number (length (drop (at + 6) s)) (drop (at + 6) s) ≡ unfit → turns_of (drop at s) ≡ fault No.malformed
-unfolding any
-no_numbers s at h = by_parts s at false [] 0 h refl refl ∙ go (begins (bytes "(turns") (drop at s))
-  where
-    go : (b : Bool) → cond ((b && false) && leb (length s) 2) (turns []) (fault No.malformed) ≡ fault No.malformed
-    go true = refl
-    go false = refl
+  pub not_opened : {b : Bool} → b ≡ begins (bytes "(turns") (drop at s) → b ≡ false → turns_of (drop at s) ≡ fault No.malformed
+  not_opened here none = not_the_line (no_word (bytes "(turns") rest_t (sym here ∙ none))
 
--- as the code tests its parts
-module _ {s list : List ℕ} (at : ℕ) {r : Numbers} {opened closed : Bool} (N : Stored s (at + 6) r list)
-    (ho : opened ≡ begins (bytes "(turns") (drop at s)) (hc : closed ≡ begins (bytes ")\n") (drop r.end s)) where
-  line_is : turns_of (drop at s) ≡ cond ((opened && closed) && leb (length s) (r.end + 2)) (cond r.over (fault No.over_count) (turns N.numbers)) (fault No.malformed)
-  line_is = rw N.over (by_parts s at true N.numbers r.end N.fits ho hc)
+  module _ {b : Bool} (here : b ≡ begins (bytes "(turns") (drop at s)) (opened : b ≡ true) where
+    begun : (begins (bytes "(turns") (drop at s) ≡ true) × (at + 6 ≡ at + 6)
+    begun = (sym here ∙ opened, refl)
 
-  pub not_opened : opened ≡ false → turns_of (drop at s) ≡ fault No.malformed
-  not_opened o = rw o at line_is
+    pub none_numbered : many number (length (drop (at + 6) s)) (drop (at + 6) s) ≡ unfit → turns_of (drop at s) ≡ fault No.malformed
+    none_numbered fails = not_the_line (past (bytes "(turns") begun (no_numbers fails))
 
-  pub not_closed : closed ≡ false → turns_of (drop at s) ≡ fault No.malformed
-  not_closed h = rw h at line_is ∙ go opened
-    where
-      go : (b : Bool) → cond ((b && false) && leb (length s) (r.end + 2)) (cond r.over (fault No.over_count) (turns N.numbers)) (fault No.malformed) ≡ fault No.malformed
-      go true = refl
-      go false = refl
+    module _ {list : List ℕ} {r : Numbers} (N : Stored s (at + 6) r list) {e : Bool} (there : e ≡ begins (bytes ")\n") (drop r.end s)) where
+      pub not_closed : e ≡ false → turns_of (drop at s) ≡ fault No.malformed
+      not_closed none = not_the_line (past (bytes "(turns") begun (past_numbers N.fits (no_word (bytes ")\n") [] (sym there ∙ none))))
 
-  pub goes_on : r.end + 2 < length s → turns_of (drop at s) ≡ fault No.malformed
-  goes_on h = rw (lt-leb (length s) (r.end + 2) h) at line_is ∙ go (opened && closed)
-    where
-      go : (b : Bool) → cond (b && false) (cond r.over (fault No.over_count) (turns N.numbers)) (fault No.malformed) ≡ fault No.malformed
-      go true = refl
-      go false = refl
+      module _ (closed : e ≡ true) where
+        turns_fit : fit turns_t (drop at s) ≡ took (N.numbers, tt) (drop (r.end + 2) s)
+        turns_fit = (word (bytes "(turns") begun (some_numbers N.fits (word (bytes ")\n") {e = r.end + 2} (sym there ∙ closed, refl) done))).fits
 
-  module _ (o : opened ≡ true) (h : closed ≡ true) (e : length s ≤ r.end + 2) where
-    the_line : turns_of (drop at s) ≡ cond r.over (fault No.over_count) (turns N.numbers)
-    the_line = rw (o, h, le-leb (length s) (r.end + 2) e) at line_is
+        pub goes_on : r.end + 2 < length s → turns_of (drop at s) ≡ fault No.malformed
+        unfolding turns_of
+        goes_on h = rw (turns_fit, drop-cons s (r.end + 2) 0 h) refl
 
-    pub too_high : r.over ≡ true → turns_of (drop at s) ≡ fault No.over_count
-    too_high t = rw t at the_line
+        module _ (end : length s ≤ r.end + 2) where
+          the_line : turns_of (drop at s) ≡ cond r.over (fault No.over_count) (turns N.numbers)
+          unfolding turns_of
+          the_line = rw (turns_fit, drop_of_length-le s {i = r.end + 2} end, N.over) refl
 
-    pub all_told : r.over ≡ false → turns_of (drop at s) ≡ turns (take r.count list)
-    all_told t = rw t at the_line ∙ ap turns (sym (N.stored t))
+          pub too_high : r.over ≡ true → turns_of (drop at s) ≡ fault No.over_count
+          too_high t = rw t at the_line
+
+          pub all_told : r.over ≡ false → turns_of (drop at s) ≡ turns (take r.count list)
+          all_told t = rw t at the_line ∙ ap turns (sym (N.stored t))

@@ -12,7 +12,6 @@ ghost use Rattle.replay.specs.Given.{Splits};
 ghost use Rattle.replay.specs.Printing.{TakesParts, PrintsParts};
 
 use ending::{last_start, lines_before};
-use listing::Printed;
 use rules::{Fault, Refusal};
 use turns_line::turns_line;
 
@@ -31,16 +30,13 @@ pub struct Misfit {
 }
 
 // The input is turned away whole.
-fn turned_away(fault: Fault) -> Misfit
+fn whole(fault: Fault) -> Misfit
     ensures fault { result.refusal.fault ≡ fault }
     ensures line { result.refusal.line ≡ 0 }
     ensures script { result.script ≡ None }
 {
     Misfit {
-        refusal: Refusal {
-            fault,
-            line: 0,
-        },
+        refusal: fault.at(0),
         script: None,
     }
 }
@@ -50,10 +46,10 @@ pub fn split(input: &[u8], turns: &mut [u8]) -> Result<Parts, Misfit>
     ensures { Splits input.now turns.old result turns.new }
 {
     if 65536 < input.len() {
-        return Err(turned_away(Fault::Overlong));
+        return Err(whole(Fault::Overlong));
     }
     if turns.len() < 32768 {
-        return Err(turned_away(Fault::ShortTable));
+        return Err(whole(Fault::ShortTable));
     }
     let script = last_start(input);
     match turns_line(input, script, turns) {
@@ -62,10 +58,7 @@ pub fn split(input: &[u8], turns: &mut [u8]) -> Result<Parts, Misfit>
             turns: count,
         }),
         Err(fault) => Err(Misfit {
-            refusal: Refusal {
-                fault,
-                line: lines_before(input),
-            },
+            refusal: fault.at(lines_before(input)),
             script: Some(script),
         }),
     }
@@ -73,17 +66,17 @@ pub fn split(input: &[u8], turns: &mut [u8]) -> Result<Parts, Misfit>
 
 // Takes an input apart and lets a job print what it makes of the parts: the script's text, the turns and the last line. What is turned away is
 // printed as its refusal. An output that has not the room is refused with 9 and stays as it was.
-pub fn print_parts<F: FnOnce(&[u8], &[u8], &[u8], &mut [u8]) -> Printed>(
+pub fn print_parts<F: FnOnce(&[u8], &[u8], &[u8], &mut [u8]) -> Result<usize, Refusal>>(
     input: &[u8],
     room: usize,
     output: &mut [u8],
     job: F,
-) -> Printed
+) -> Result<usize, Refusal>
     requires { TakesParts (F.pre job) input.now room }
     ensures { PrintsParts (F.post job) input.now room output.old result output.new }
 {
     if output.len() < room {
-        return Printed::Refused(Fault::ShortTable.number(), 0);
+        return Err(Fault::ShortTable.at(0));
     }
     let mut turns = [0u8; 32768];
     match split(input, &mut turns) {
@@ -100,7 +93,7 @@ pub fn print_parts<F: FnOnce(&[u8], &[u8], &[u8], &mut [u8]) -> Printed>(
 }
 
 // Prints what boxrun prints of its input. An output under 32,768 bytes is refused with 9 and stays as it was.
-pub fn print_input(input: &[u8], output: &mut [u8]) -> Printed
+pub fn print_input(input: &[u8], output: &mut [u8]) -> Result<usize, Refusal>
     ensures value { result ≡ printed_of (boxrun mosts input.now) output.old }
     ensures output_after { output.new ≡ output_after (boxrun mosts input.now) output.old }
 {

@@ -25,14 +25,11 @@ fn store_numbers(s: &[u8], at: usize, turns: &mut [u8]) -> Option<Numbers>
         end: at,
     };
     while grammar::byte(s, l.end) == b' ' {
-        let w = grammar::number_at(s, l.end + 1);
-        if !w.ok {
-            return None;
-        }
+        let w = grammar::number_at(s, l.end + 1)?;
         turns[l.count] = (w.word % 256) as u8;
         l = Numbers {
             count: l.count + 1,
-            over: l.over || 255 < w.word,
+            over: l.over || grammar::over(w.word),
             end: w.end,
         };
     }
@@ -46,15 +43,13 @@ pub fn turns_line(s: &[u8], at: usize, turns: &mut [u8]) -> Result<usize, Fault>
     ensures s_value { turns_of (drop at s.now) ≡ turns_told result turns.new }
     ensures result_bound { IfOk result (λ n. n ≤ 32768) }
 {
-    if s.len() < 8 {
+    if s.len() < 8 || !grammar::begins_at(s, at, b"(turns") {
         return Err(Fault::Malformed);
     }
-    let opened = grammar::begins_at(s, at, b"(turns");
     let Some(list) = store_numbers(s, at + 6, turns) else {
         return Err(Fault::Malformed);
     };
-    let closed = grammar::begins_at(s, list.end, b")\n");
-    if !opened || !closed || list.end + 2 < s.len() {
+    if !grammar::begins_at(s, list.end, b")\n") || list.end + 2 < s.len() {
         return Err(Fault::Malformed);
     }
     if list.over {

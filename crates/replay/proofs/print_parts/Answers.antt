@@ -32,5 +32,5 @@ returns-in-Ok g c =
 
 pub returns-in-Err : goal.returns-in-Err
 returns-in-Err g c =
-    prints_misfit c.args.input.now c.args.room c.args.output.now c.if-output-room.false c.split.ensures (omega arith) c.in-Err.is c.number-in-Err.ensures
+    prints_misfit c.args.input.now c.args.room c.args.output.now c.if-output-room.false c.split.ensures (omega arith) c.in-Err.is c.number.ensures
     (c.print_refusal.ensures.value, c.print_refusal.ensures.output_after)

@@ -6,8 +6,8 @@ use lib.ListN.{length}
 use Rattle.replay.proofs.TurnsLine.{StoredTo}
 use Rattle.replay.proofs.turns_line.store_numbers.Given as goal
 
-abbrev pub invariant-loop-w : goal.invariant-loop-w
-invariant-loop-w l = StoredTo l.s l.at l.l l.turns × (length l.turns ≡ length l.initial.turns)
+abbrev pub invariant-loop-l : goal.invariant-loop-l
+invariant-loop-l l = StoredTo l.s l.at l.l l.turns × (length l.turns ≡ length l.initial.turns)
 
-abbrev pub decreases-loop-w : goal.decreases-loop-w
-decreases-loop-w l = length l.s - l.l.end
+abbrev pub decreases-loop-l : goal.decreases-loop-l
+decreases-loop-l l = length l.s - l.l.end
