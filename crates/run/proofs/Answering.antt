@@ -2,24 +2,27 @@
 use Prim.Native.Nat.{ℕ, ◌≤◌, ◌<◌}
 use native.Mathlib.Omega.{arith}
 use mathlib.Core.Path.{◌≡◌, refl, sym, ap, ◌∙◌}
-use mathlib.Core.Bool.{Bool, true, false, ◌||◌}
+use mathlib.Core.Bool.{Bool, false, ◌||◌}
 use mathlib.Core.List.{List, [], ◌++◌, append-nil}
+use mathlib.Core.Logic.{◌⊎◌, inl, inr}
 use lib.Dec.{ltb}
 use lib.ListN.{length, take, drop, replicate, length-append}
 use lib.Seq.{take_at}
 use borrow.Author.Tests.{lt-ltb, le-ltb, ltb-false}
+use Rattle.std.specs.Prelude.{Result, Ok, Err}
+use Rattle.rules.specs.declared.faults.Fault.TheVariants as F
+use Rattle.rules.specs.declared.faults.Refusal.{Refusal}
 use Rattle.rules.specs.Mosts as Most
 use Rattle.rules.specs.Mosts.{mosts}
-use Rattle.rules.specs.Numbers as No
 use Rattle.rules.specs.Script.{Program}
 use Rattle.rules.specs.Reading.{Reading, accepted, reading}
 use Rattle.rules.specs.Valid.{Valid}
 use Rattle.rules.specs.Fits.{Fits}
 use Rattle.rules.specs.Run as R
-use Rattle.rules.specs.Run.{Stop, none, stopped, run, answer}
+use Rattle.rules.specs.Run.{run, answer}
 use Rattle.rules.specs.Tables.{program_words, state_words}
 use Rattle.rules.specs.Calls.{long_text, long_turns, short_table, inputs, lent_inputs, program_after, state_after}
-use Rattle.rules.proofs.ListLaws.{impossible, by_bool, or_false}
+use Rattle.rules.proofs.ListLaws.{by_bool, or_false}
 use Rattle.rules.proofs.Accepted.{accepted_valid, reading_accepted}
 use Rattle.rules.proofs.Keeps.{fits_run}
 use Rattle.rules.proofs.Demand3.{stripped_matches}
@@ -27,54 +30,38 @@ use Rattle.rules.proofs.TableWords.{program_words_length, state_words_length}
 use Rattle.table.specs.ProgramTable.{fresh_table}
 use Rattle.table.specs.StateTable.{Held, Starts}
 use Rattle.table.proofs.ProgramTable.{fresh_length}
-use Rattle.reader.specs.declared.Answer as Reader
-use Rattle.reader.specs.declared.Answer.TheVariants.{Read, Refused}
 use Rattle.reader.specs.ReadAnswers as ReadAnswers
 use Rattle.reader.proofs.Outcome as Read
 use Rattle.turn.specs.Performed.{Loaded}
 use Rattle.turn.proofs.Located.{words_loaded}
-use Rattle.run.specs.declared.Answer.{Answer}
-use Rattle.run.specs.declared.Answer.TheVariants as A
-use Rattle.run.specs.declared.playing.Played.{Played}
-use Rattle.run.specs.declared.playing.Played.TheVariants.{Through, Stopped}
-use Rattle.run.specs.RunAnswers.{answer_of, is_refusal, Guarded, Ran}
-use Rattle.run.specs.Played.{played_by, Plays, Ends, RunsProgram}
+use Rattle.run.specs.declared.Outcome.{Outcome}
+use Rattle.run.specs.declared.Outcome.TheVariants as A
+use Rattle.run.specs.declared.Stop.{Stop}
+use Rattle.run.specs.RunAnswers.{told, Guarded, Ran}
+use Rattle.run.specs.Played.{Plays, Ends, RunsProgram}
 use Rattle.run.specs.Made.{Made, Makes}
 use Rattle.run.proofs.AnswerTells.{IsMade, made_is, refused_is, accepted_is}
 
 -- ---- The turns played, from the fresh start
 
-stopped_is : (x : Stop) (m : ℕ) {k t b l n : ℕ} → Stopped k t b l n ≡ played_by x m → (x ≡ stopped k t b l) × (m ≡ n)
-stopped_is none m e = impossible cc
-stopped_is (stopped i u c j) m {k} {t} {b} {l} e =
-    let number : i ≡ k = cc in
-    let thread : u ≡ t = cc in
-    let block : c ≡ b = cc in
-    let line : j ≡ l = cc in
-    (rw (number, thread, block, line) refl, cc)
-
-through_is : (x : Stop) (m : ℕ) {n : ℕ} → Through n ≡ played_by x m → (x ≡ none) × (m ≡ n)
-through_is none m e = (refl, cc)
-through_is (stopped i u c j) m e = impossible cc
-
-module _ {p turns s s₁ s₂ : List ℕ} {x : Played} (begun : Starts s s₁) (plays : Plays p s₁ turns x s₂) where
-  pub runs_stopped : {k t b l m : ℕ} → x ≡ Stopped k t b l m → RunsProgram p turns s (A.Stopped k t b l m) s₂
+module _ {p turns s s₁ s₂ : List ℕ} {x : Result ℕ Stop} (begun : Starts s s₁) (plays : Plays p s₁ turns x s₂) where
+  pub runs_stopped : {e : Stop} → x ≡ Err e → RunsProgram p turns s (A.Stopped e) s₂
   unfolding answer R.answer_of
   runs_stopped is =
       record {
         answers = λ P loaded valid fresh.
-            let both = stopped_is (run mosts P turns).stop (run mosts P turns).moves (sym is ∙ plays.answers P [] loaded valid (begun.starts fresh)) in
-            rw (both.0, both.1) refl;
+            let tells = rw is at (plays.answers P [] loaded valid (begun.starts fresh)) in
+            rw (← tells.stop_is, ← tells.moves_are) refl;
         leaves = λ P loaded valid fresh. plays.leaves P [] loaded valid (begun.starts fresh);
       }
 
-  pub runs_through : {m : ℕ} {r : Answer} → length turns ≤ Most.turns → x ≡ Through m → Ends p s₂ m r → RunsProgram p turns s r s₂
+  pub runs_through : {m : ℕ} {r : Outcome} → length turns ≤ Most.turns → x ≡ Ok m → Ends p s₂ m r → RunsProgram p turns s r s₂
   unfolding answer R.answer_of
   runs_through few is ends =
       record {
         answers = λ P loaded valid fresh.
-            let both = through_is (run mosts P turns).stop (run mosts P turns).moves (sym is ∙ plays.answers P [] loaded valid (begun.starts fresh)) in
-            rw (both.0, both.1)
+            let tells = rw is at (plays.answers P [] loaded valid (begun.starts fresh)) in
+            rw (← tells.stop_is, ← tells.moves_are)
             (ends.is P _ (run mosts P turns).state [] loaded (plays.leaves P [] loaded valid (begun.starts fresh)) valid (fits_run P turns valid few));
         leaves = λ P loaded valid fresh. plays.leaves P [] loaded valid (begun.starts fresh);
       }
@@ -87,22 +74,24 @@ unfolding inputs long_turns
 as_read text turns short few = rw (le-ltb _ _ few) (by_bool (long_text text) (λ t. rw t) (λ t. rw t))
 
 module _ (text turns : List ℕ) (short : Bool) {p s p₁ s₁ : List ℕ} where
-  pub makes_long : Most.turns < length turns → Makes text turns short p s (A.Refused No.overlong 0) p₁ s₁
+  pub makes_long : Most.turns < length turns → Makes text turns short p s (Err (record { fault = F.Overlong; line = 0 })) p₁ s₁
   unfolding inputs reading long_turns
-  makes_long h = record { makes = λ p-fresh s-fresh. rw (lt-ltb _ _ h) (by_bool (long_text text) (λ t. rw t) (λ t. rw t)) }
+  makes_long h =
+      let away = Read.refuses (record { fault = F.Overlong; line = 0 }) in
+      record { makes = λ p-fresh s-fresh. rw (lt-ltb _ _ h) (by_bool (long_text text) (λ t. rw t away) (λ t. rw t away)) }
 
   -- a fresh table has its length
-  pub makes_no_program : length p < Most.words → Makes text turns short p s (A.Refused No.short_table 0) p₁ s₁
-  makes_no_program h = record { makes = λ p-fresh s-fresh. absurd (omega (arith, ap length p-fresh, fresh_length)) }
+  pub makes_unfit : {x : Result Outcome Refusal} → (length p < Most.words) ⊎ ((Most.words ≤ length p) × (length s < Most.words)) → Makes text turns short p s x p₁ s₁
+  makes_unfit (inl h) = record { makes = λ p-fresh s-fresh. absurd (omega (arith, ap length p-fresh, fresh_length)) }
+  makes_unfit (inr h) = record { makes = λ p-fresh s-fresh. absurd (omega (arith, h.1, ap length s-fresh, fresh_length)) }
 
-  pub makes_no_state : length s < Most.words → Makes text turns short p s (A.Refused No.short_table 0) p₁ s₁
-  makes_no_state h = record { makes = λ p-fresh s-fresh. absurd (omega (arith, ap length s-fresh, fresh_length)) }
+  module _ (few : length turns ≤ Most.turns) {x : Result Unit Refusal} (read : ReadAnswers.Makes text short p x p₁) where
+    pub makes_away : {e : Refusal} → x ≡ Err e → Makes text turns short p s (Err e) p₁ s₁
+    makes_away {e} is = record {
+      makes = λ p-fresh s-fresh. rw (as_read text turns short few, Read.refused_is (reading mosts (long_text text) short text) p₁ (read.makes p-fresh) is) (Read.refuses e);
+    }
 
-  module _ (few : length turns ≤ Most.turns) {x : Reader.Answer} (read : ReadAnswers.Makes text short p x p₁) where
-    pub makes_away : {k n : ℕ} → x ≡ Refused k n → Makes text turns short p s (A.Refused k n) p₁ s₁
-    makes_away is = record { makes = λ p-fresh s-fresh. rw (as_read text turns short few, Read.refused_is (reading mosts (long_text text) short text) p₁ (read.makes p-fresh) is) }
-
-    pub makes_run : {r : Answer} → x ≡ Read → RunsProgram p₁ turns s r s₁ → Makes text turns short p s r p₁ s₁
+    pub makes_run : {r : Outcome} {u : Unit {0}} → x ≡ Ok u → RunsProgram p₁ turns s r s₁ → Makes text turns short p s (Ok r) p₁ s₁
     makes_run is runs = record {
       makes = λ p-fresh s-fresh.
           let of = Read.read_is (reading mosts (long_text text) short text) (read.makes p-fresh) is in
@@ -125,24 +114,23 @@ module _ (text turns : List ℕ) (short : Bool) {p s p₁ s₁ : List ℕ} where
 -- ---- In lent tables
 
 -- demand 3, said of what the code answers and leaves
-guarded : (P : Program) (turns rest : List ℕ) {r : Answer} {state : List ℕ} → r ≡ answer_of (answer mosts P (run mosts P turns))
+guarded : (P : Program) (turns rest : List ℕ) {r : Result Outcome Refusal} {state : List ℕ} → told r ≡ answer mosts P (run mosts P turns)
     → state ≡ state_words (run mosts P turns).state ++ rest → Guarded P turns r state
 guarded P turns rest answers words =
     let S = (run mosts P turns).state in
     record { answers = answers; leaves = ap (take Most.words) words ∙ take_at (state_words S) rest Most.words (state_words_length S); matches = stripped_matches mosts P turns }
 
-module _ (text turns program state : List ℕ) (short : Bool) {r : Answer} {p s : List ℕ}
+module _ (text turns program state : List ℕ) (short : Bool) {r : Result Outcome Refusal} {p s : List ℕ}
     (made : Makes text turns (ltb (length program) Most.words || (ltb (length state) Most.words || short)) (replicate 8192 0) (replicate 8192 0) r p s) where
   by_lent : Made (lent_inputs mosts text turns program state short) turns r p s
   unfolding lent_inputs short_table fresh_table
   by_lent = made.makes refl refl
 
-  pub ran_away : is_refusal r ≡ true → Ran (lent_inputs mosts text turns program state short) turns program state r program state
-  ran_away e =
-      let away = refused_is turns p s (lent_inputs mosts text turns program state short) by_lent e in
-      rw away.is (record { answers = away.answer; program_is = refl; state_is = refl; demand_3 = tt })
+  pub ran_away : {e : Refusal} → r ≡ Err e → Ran (lent_inputs mosts text turns program state short) turns program state (Err e) program state
+  ran_away is =
+      rw (refused_is turns p s (lent_inputs mosts text turns program state short) by_lent is) (record { answers = refl; program_is = refl; state_is = refl; demand_3 = tt })
 
-  module _ (e : is_refusal r ≡ false) where
+  module _ {x : Outcome} (e : r ≡ Ok x) where
     one : IsMade (lent_inputs mosts text turns program state short) turns r p s
     one = made_is turns p s (lent_inputs mosts text turns program state short) by_lent e
 
@@ -162,16 +150,17 @@ module _ (text turns program state : List ℕ) (short : Bool) {r : Answer} {p s 
         )
 
     pub ran_on : {program₁ state₁ : List ℕ} → program₁ ≡ p ++ drop Most.words program → state₁ ≡ s ++ drop Most.words state
-        → Ran (lent_inputs mosts text turns program state short) turns program state r program₁ state₁
+        → Ran (lent_inputs mosts text turns program state short) turns program state (Ok x) program₁ state₁
     ran_on program-copied state-copied =
+        let answers : told (Ok x) ≡ answer mosts one.program (run mosts one.program turns) = ap told (sym e) ∙ one.holds.answers in
         let holds = one.holds in
         let state-there = state-copied ∙ ap (λ (ws : List ℕ). ws ++ drop Most.words state) holds.state_words_are in
         rw one.is
         (record {
-          answers = holds.answers;
+          answers = answers;
           program_is = program-copied ∙ ap (λ (ws : List ℕ). ws ++ drop Most.words program) holds.program_words_are;
           state_is = state-there;
-          demand_3 = guarded one.program turns (drop Most.words state) holds.answers state-there;
+          demand_3 = guarded one.program turns (drop Most.words state) answers state-there;
         })
 
 -- ---- What stands in lent tables where the run was made
@@ -185,8 +174,8 @@ pub record Stands (C : Reading) (turns state p s : List ℕ) : Type 0 where
   pub fits : Fits mosts program Most.turns (run mosts program turns).state
   pub long : (Most.words ≤ length p) × (Most.words ≤ length s)
 
-pub ran_stands : (text turns program state : List ℕ) (short : Bool) {r : Answer} {p s : List ℕ}
-    → Ran (lent_inputs mosts text turns program state short) turns program state r p s → is_refusal r ≡ false
+pub ran_stands : (text turns program state : List ℕ) (short : Bool) {r : Result Outcome Refusal} {x : Outcome} {p s : List ℕ}
+    → Ran (lent_inputs mosts text turns program state short) turns program state r p s → r ≡ Ok x
     → Stands (lent_inputs mosts text turns program state short) turns state p s
 unfolding lent_inputs inputs long_turns
 ran_stands text turns program state short {r} {p} {s} ran e =

@@ -8,10 +8,16 @@ use lib.Dec.{eqb}
 use lib.ListN.{length, get_or, set, drop, replicate, length-set, drop_of_length-le}
 use lib.Seq.{drop-cons, get_or-set_same, get_or-set_other}
 use borrow.Author.Tests.{eqb-true, eqb-false}
+use mathlib.Core.Bool.{Bool, true, false, not}
+use Rattle.std.specs.Prelude.{Option, Some, None, Result, Ok, Err}
+use Rattle.std.specs.Option.{is_some}
+use Rattle.std.proofs.lemmas.List.{get_or_default}
+use Rattle.rules.specs.declared.faults.Fault.{Fault}
 use Rattle.rules.specs.declared.forms.Form.TheVariants.{Copy}
 use Rattle.rules.specs.Forms.{form_number}
 use Rattle.rules.specs.Mosts as Most
 use Rattle.rules.specs.Mosts.{mosts}
+use Rattle.rules.specs.Numbers.{number}
 use Rattle.rules.specs.Script.{Program, block_at}
 use Rattle.rules.specs.Valid.{Valid}
 use Rattle.rules.specs.State.{Frame, State, thread_at, start}
@@ -22,22 +28,23 @@ use Rattle.rules.specs.Fits.{Fits}
 use Rattle.rules.proofs.ListLaws.{impossible, by_bool, every_get, every_replicate}
 use Rattle.rules.proofs.OtherThreads.{turn_keeps}
 use Rattle.rules.proofs.Keeps.{here_fits, keeps_turn, keeps_run}
-use Rattle.table.specs.declared.state.Here.{Here}
-use Rattle.table.specs.StateTable.{Held, Sees, Any, Placed, Stands, frame_at}
-use Rattle.table.proofs.StateFrames.{next_on_line, row_past_counts}
-use Rattle.checks.specs.Checked.{result_of, Stand}
+use Rattle.table.specs.declared.standing.Here.{Here}
+use Rattle.table.specs.StateTable.{Held, Sees, Any, Stands}
+use Rattle.table.proofs.StateFrames.{next_on_line}
+use Rattle.checks.specs.Checked.{Stand}
 use Rattle.checks.proofs.Standing.{frame_is}
 use Rattle.turn.proofs.Located as Place
-use Rattle.turn.proofs.Located.{no_frames, no_frame_waits, turn_performs, went_moves}
-use Rattle.checks.specs.declared.form_checks.Step.{Step}
-use Rattle.checks.specs.declared.form_checks.Step.TheVariants.{Next, Stay, Turned, Waits}
-use Rattle.run.specs.declared.playing.Played.{Played}
-use Rattle.run.specs.declared.playing.Played.TheVariants.{Through, Stopped}
+use Rattle.turn.proofs.Located.{no_frames, no_frame_waits, turn_performs}
+use Rattle.checks.specs.declared.form_checks.Halt.{Halt}
+use Rattle.checks.specs.declared.form_checks.Halt.TheVariants.{Waits, Stops}
+use Rattle.turn.specs.declared.Move.{Move}
+use Rattle.turn.specs.declared.Move.TheVariants.{Next, Stay, Turned}
 use Rattle.turn.specs.Performed.{StandsAt, Went, to_next, to_same, Performed, moved, waited, stopped, Loaded, PerformsHere}
+use Rattle.run.specs.declared.Stop.{Stop}
 use Rattle.run.specs.declared.playing.Stretch.{Stretch}
-use Rattle.run.specs.declared.playing.Stretch.TheVariants.{Ended, AtCopy}
+use Rattle.run.specs.declared.playing.Stretch.TheVariants.{Through, AtCopy}
 use Rattle.run.specs.Reached.{going, Reached, Knows}
-use Rattle.run.specs.Played.{played_by, Plays, CopyNext, Comes, to_end, to_copy, PlaysFrom, PlaysPast}
+use Rattle.run.specs.Played.{StopsAt, place_at, LooksUp, is_kept, is_found, no_frame, Tells, Plays, CopyNext, Comes, to_end, to_stop, to_copy, PlaysFrom, PlaysPast}
 
 -- ---- The run, turn by turn
 
@@ -101,76 +108,58 @@ located {S = S} {h = h} loaded valid fits held count some stands =
     let at = Place.found stands some loaded held valid fits count (thread_at S h.thread).frames refl in
     record { frame = at.frame; callers = at.callers; frames = at.stand.frames; depth = at.stand.depth; line = at.on_line }
 
--- the same thread and frame, with its line's words at x
-abbrev at_row : Here → ℕ → Here
-at_row h x = record { thread = h.thread; depth = h.depth; frame = h.frame; row = x }
+module _ {p : List ℕ} {P : Program} {S : State} {h : Here} (known : Knows p P S h) {S₁ : State} where
+  -- after a turn of another thread
+  knows_other : (t : ℕ) → turn mosts P S t ≡ ok S₁ → (h.thread ≡ t → ⊥) → Knows p P S₁ h
+  knows_other t goes other =
+      record {
+        frame = known.frame;
+        callers = known.callers;
+        frames = turn_keeps h.thread mosts P S S₁ t goes other known.frames;
+        depth = known.depth;
+        line = known.line;
+      }
 
-module _ {p : List ℕ} {P : Program} {S : State} {h : Here} (known : Knows p P S h) where
-  -- its row is not 0
-  row_there : {n : ℕ} → Loaded p P → Fits mosts P n S → h.row ≡ 0 → ⊥
-  row_there {n} loaded fits zero =
-      let here = here_fits mosts P n S h.thread known.frame known.callers fits known.frames in
-      let past = row_past_counts P loaded.filled here.frame.block known.line here.frame.line in
-      impossible (omega (arith, past, zero))
+  -- at the same line
+  knows_same : StandsAt h.thread known.frame.block known.frame.line (length known.callers) S₁ → Knows p P S₁ h
+  knows_same at =
+      record { frame = at.frame; callers = at.callers; frames = at.frames; depth = at.depth ∙ known.depth; line = rw (at.block, at.line) known.line }
 
-  module _ {S₁ : State} where
-    -- after a turn of another thread
-    knows_other : (t : ℕ) → turn mosts P S t ≡ ok S₁ → (h.thread ≡ t → ⊥) → Knows p P S₁ h
-    knows_other t goes other =
-        record {
-          frame = known.frame;
-          callers = known.callers;
-          frames = turn_keeps h.thread mosts P S S₁ t goes other known.frames;
-          depth = known.depth;
-          line = known.line;
-        }
-
-    -- at the same line
-    knows_same : StandsAt h.thread known.frame.block known.frame.line (length known.callers) S₁ → Knows p P S₁ h
-    knows_same at =
-        record { frame = at.frame; callers = at.callers; frames = at.frames; depth = at.depth ∙ known.depth; line = rw (at.block, at.line) known.line }
-
-    -- at the next line
-    knows_next : {n : ℕ} → Loaded p P → Fits mosts P n S₁ → StandsAt h.thread known.frame.block (known.frame.line + 1) (length known.callers) S₁
-        → {x : ℕ} → x ≡ (h.row + 8) % 8192 → Knows p P S₁ (at_row h x)
-    knows_next {n} loaded fits at row =
-        let g = at.frame in
-        let here = here_fits mosts P n S₁ h.thread g at.callers fits at.frames in
-        let b = known.frame.block in
-        let there : b < length P.blocks = subst (λ (x : ℕ). x < length P.blocks) at.block here.frame.block in
-        let fit : g.line ≤ length (block_at P b).lets = subst (λ (x : ℕ). g.line ≤ length (block_at P x).lets) at.block here.frame.line in
-        record {
-          frame = g;
-          callers = at.callers;
-          frames = at.frames;
-          depth = at.depth ∙ known.depth;
-          line = rw (at.block, at.line) (next_on_line P loaded.filled there known.line row (omega (arith, fit, at.line)));
-        }
+  -- at the next line
+  knows_next : {n : ℕ} → Loaded p P → Fits mosts P n S₁ → StandsAt h.thread known.frame.block (known.frame.line + 1) (length known.callers) S₁
+      → {g : Here} → g.thread ≡ h.thread → g.depth ≡ h.depth → g.row ≡ (h.row + 8) % 8192 → Knows p P S₁ g
+  knows_next {n} loaded fits at thread depth row =
+      let f = at.frame in
+      let here = here_fits mosts P n S₁ h.thread f at.callers fits at.frames in
+      let b = known.frame.block in
+      let there : b < length P.blocks = subst (λ (x : ℕ). x < length P.blocks) at.block here.frame.block in
+      let fit : f.line ≤ length (block_at P b).lets = subst (λ (x : ℕ). f.line ≤ length (block_at P x).lets) at.block here.frame.line in
+      record {
+        frame = f;
+        callers = at.callers;
+        frames = ap (λ (u : ℕ). (thread_at S₁ u).frames) thread ∙ at.frames;
+        depth = at.depth ∙ known.depth ∙ sym depth;
+        line = rw (at.block, at.line) (next_on_line P loaded.filled there known.line row (omega (arith, fit, at.line)));
+      }
 
 -- ---- What was performed
 
--- a step that moved
-record MovedTo (t : ℕ) (f : Frame) (fs : List Frame) (s₁ rest : List ℕ) (r : Step) (x : Res State) : Type 0 where
+-- a line that moved
+record MovedTo (t : ℕ) (f : Frame) (fs : List Frame) (s₁ rest : List ℕ) (m : Move) (x : Res State) : Type 0 where
   state : State
   is : x ≡ ok state
   held : Held s₁ state rest
-  went : Went t f fs state r
+  went : Went t f fs state m
 
 module _ {t : ℕ} {f : Frame} {fs : List Frame} {s rest : List ℕ} where
-  has_moved : {r : Step} {s₁ : List ℕ} {x : Res State} → Performed t f fs s rest r s₁ x → result_of r ≡ ok tt → MovedTo t f fs s₁ rest r x
-  has_moved (moved {S = S} held went) move = record { state = S; is = refl; held = held; went = went }
-  has_moved waited move = impossible cc
-  has_moved (stopped is) move = impossible cc
+  has_moved : {m : Move} {s₁ : List ℕ} {x : Res State} → Performed t f fs s rest (Ok m) s₁ x → MovedTo t f fs s₁ rest m x
+  has_moved (moved {S = S} held went) = record { state = S; is = refl; held = held; went = went }
 
-  has_waited : {s₁ : List ℕ} {x : Res State} → Performed t f fs s rest Waits s₁ x → (x ≡ wait) × (s₁ ≡ s)
-  has_waited (moved held went) = elim went [ ]
+  has_waited : {s₁ : List ℕ} {x : Res State} → Performed t f fs s rest (Err Waits) s₁ x → (x ≡ wait) × (s₁ ≡ s)
   has_waited waited = (refl, refl)
-  has_waited (stopped is) = impossible cc
 
-  has_stopped : {r : Step} {k : ℕ} {s₁ : List ℕ} {x : Res State} → Performed t f fs s rest r s₁ x → result_of r ≡ stop k → (x ≡ stop k) × (s₁ ≡ s)
-  has_stopped (moved held went) stops = let move = went_moves went in impossible cc
-  has_stopped waited stops = impossible cc
-  has_stopped {k = k} (stopped {k = n} is) stops = let same : n ≡ k = cc in (ap stop same, refl)
+  has_stopped : {e : Fault} {s₁ : List ℕ} {x : Res State} → Performed t f fs s rest (Err (Stops e)) s₁ x → (x ≡ stop (number e)) × (s₁ ≡ s)
+  has_stopped (stopped is) = (ap stop (sym is), refl)
 
 module _ {t : ℕ} {f : Frame} {fs : List Frame} {S : State} where
   went_next : Went t f fs S Next → StandsAt t f.block (f.line + 1) (length fs) S
@@ -179,8 +168,8 @@ module _ {t : ℕ} {f : Frame} {fs : List Frame} {S : State} where
   went_same : Went t f fs S Stay → StandsAt t f.block f.line (length fs) S
   went_same (to_same at) = at
 
-same_step : {p s s₁ : List ℕ} {h : Here} {r r₁ : Step} → r ≡ r₁ → PerformsHere p s h r s₁ → PerformsHere p s h r₁ s₁
-same_step {p} {s} {s₁} {h} e does = subst (λ (r : Step). PerformsHere p s h r s₁) e does
+same_answer : {p s s₁ : List ℕ} {h : Here} {r r₁ : Result Move Halt} → r ≡ r₁ → PerformsHere p s h r s₁ → PerformsHere p s h r₁ s₁
+same_answer {p} {s} {s₁} {h} e does = subst (λ (r : Result Move Halt). PerformsHere p s h r s₁) e does
 
 module _ {turns : List ℕ} {P : Program} {p s rest : List ℕ} {S : State} {n i : ℕ} {h : Here}
     (valid : Valid mosts P) (at : Reached turns P s rest S n i) (known : Knows p P S h) where
@@ -188,7 +177,7 @@ module _ {turns : List ℕ} {P : Program} {p s rest : List ℕ} {S : State} {n i
   stand = record { held = at.held; valid = valid; fits = at.fits; frames = known.frames; depth = known.depth }
 
   -- the line performed is the thread's turn
-  performed_turn : Loaded p P → n < Most.turns → {r : Step} {s₁ : List ℕ} → PerformsHere p s h r s₁
+  performed_turn : Loaded p P → n < Most.turns → {r : Result Move Halt} {s₁ : List ℕ} → PerformsHere p s h r s₁
       → Performed h.thread known.frame known.callers s rest r s₁ (turn mosts P S h.thread)
   performed_turn loaded few {r} {s₁} does =
       let f = known.frame in
@@ -198,97 +187,101 @@ module _ {turns : List ℕ} {P : Program} {p s rest : List ℕ} {S : State} {n i
 
 -- ---- The places kept
 
--- that of thread u; a row of 0 keeps none
-abbrev pub kept_at : (rows frames depths : List ℕ) → ℕ → Here
-kept_at rows frames depths u = record { thread = u; depth = get_or depths u 0; frame = get_or frames u 0; row = get_or rows u 0 }
+-- no place is changed but thread t's
+record Changed (t : ℕ) (places places₁ : List (Option Here)) : Type 0 where
+  long : length places₁ ≡ length places
+  same : (u : ℕ) → (u ≡ t → ⊥) → place_at places₁ u ≡ place_at places u
 
--- what holds of each place kept, where at₁ keeps what at does but for thread t
-each_kept : (Q : Here → Type 0) (t : ℕ) (at at₁ : ℕ → Here) → ((u : ℕ) → (u ≡ t → ⊥) → at₁ u ≡ at u) → ((u : ℕ) → (u ≡ t → ⊥) → ((at u).row ≡ 0 → ⊥) → Q (at u))
-    → (((at₁ t).row ≡ 0 → ⊥) → Q (at₁ t)) → (u : ℕ) → ((at₁ u).row ≡ 0 → ⊥) → Q (at₁ u)
-each_kept Q t at at₁ same others this u some =
+changed_set : {places : List (Option Here)} (t : ℕ) (x : Option Here) → Changed t places (set places t x)
+changed_set {places} t x = record { long = length-set places t x; same = λ u other. get_or-set_other places t u x None other }
+
+changed_none : {places : List (Option Here)} (t : ℕ) → Changed t places places
+changed_none t = record { long = refl; same = λ u other. refl }
+
+-- what holds of each place kept
+abbrev EachKept : (Q : ℕ → Here → Type 0) → List (Option Here) → Type 0
+EachKept Q places = (u : ℕ) (h : Here) → place_at places u ≡ Some h → Q u h
+
+each_kept : (Q : ℕ → Here → Type 0) {t : ℕ} {places places₁ : List (Option Here)} → Changed t places places₁
+    → ((u : ℕ) (h : Here) → (u ≡ t → ⊥) → place_at places u ≡ Some h → Q u h) → ((h : Here) → place_at places₁ t ≡ Some h → Q t h) → EachKept Q places₁
+each_kept Q {t} {places} {places₁} changed others this u h kept =
     by_bool (eqb u t)
-    (λ b. subst (λ (v : ℕ). ((at₁ v).row ≡ 0 → ⊥) → Q (at₁ v)) (sym (eqb-true u t b)) this some)
-    (λ b. let other = eqb-false u t b in let e = same u other in subst Q (sym e) (others u other λ z. some (ap (λ (h : Here). h.row) e ∙ z)))
+    (λ b. let same = eqb-true u t b in subst (λ (v : ℕ). Q v h) (sym same) (this h (ap (place_at places₁) (sym same) ∙ kept)))
+    (λ b. let other = eqb-false u t b in others u h other (sym (changed.same u other) ∙ kept))
 
-pub record Arrays (rows frames depths : List ℕ) : Type 0 where
-  pub rows_long : length rows ≡ 16
-  pub frames_long : length frames ≡ 16
-  pub depths_long : length depths ≡ 16
+-- a place looked at
+is_none_one : (x : Option Here) → is_some x ≡ false → x ≡ None
+is_none_one None e = refl
+is_none_one (Some h) e = impossible cc
 
-module _ (rows frames depths : List ℕ) (t : ℕ) where
-  -- the place h of thread t is stored
-  stored_arrays : Arrays rows frames depths → (h : Here) → Arrays (set rows t h.row) (set frames t h.frame) (set depths t h.depth)
-  stored_arrays arrays h =
-      record {
-        rows_long = length-set rows t h.row ∙ arrays.rows_long;
-        frames_long = length-set frames t h.frame ∙ arrays.frames_long;
-        depths_long = length-set depths t h.depth ∙ arrays.depths_long;
-      }
+is_some_one : (x : Option Here) → is_some x ≡ true → (h : Here) × (x ≡ Some h)
+is_some_one None e = impossible cc
+is_some_one (Some h) e = (h, refl)
 
-  stored_place : Arrays rows frames depths → (h : Here) → h.thread ≡ t → t < 16 → kept_at (set rows t h.row) (set frames t h.frame) (set depths t h.depth) t ≡ h
-  stored_place arrays h place few =
-      let row = get_or-set_same rows t h.row 0 (omega (arith, few, arrays.rows_long)) in
-      let frame = get_or-set_same frames t h.frame 0 (omega (arith, few, arrays.frames_long)) in
-      let depth = get_or-set_same depths t h.depth 0 (omega (arith, few, arrays.depths_long)) in
-      rw (row, frame, depth, ← place) refl
+module _ {p s : List ℕ} {places places₁ : List (Option Here)} {t : ℕ} {r : Option Here} (few : t < length places) (read : r ≡ get_or places₁ t r) where
+  pub looks_found : {h : Here} {d : ℕ} → (d ≡ 0 → ⊥) → Sees s Any (λ S. length (thread_at S t).frames) d → h.thread ≡ t → Stands p s d h → places₁ ≡ set places t (Some h)
+      → LooksUp p s places t r places₁
+  looks_found {h} some counted place stands stored =
+      let is : r ≡ Some h = read ∙ ap (λ (l : List (Option Here)). get_or l t r) stored ∙ get_or-set_same places t (Some h) r few in
+      rw (is, stored) (is_found some counted place stands)
 
-  stored_others : (h : Here) (u : ℕ) → (u ≡ t → ⊥) → kept_at (set rows t h.row) (set frames t h.frame) (set depths t h.depth) u ≡ kept_at rows frames depths u
-  stored_others h u other =
-      rw (get_or-set_other rows t u h.row 0 other, get_or-set_other frames t u h.frame 0 other, get_or-set_other depths t u h.depth 0 other) refl
+  module _ (same : places₁ ≡ places) (old : Option Here) {b : Bool} (asked : is_some (get_or places t old) ≡ not b) where
+    pub looks_idle : b ≡ true → {d : ℕ} → Sees s Any (λ S. length (thread_at S t).frames) d → d ≡ 0 → LooksUp p s places t r places₁
+    looks_idle empty counted none_counted =
+        let none : place_at places t ≡ None = get_or_default places t None old few ∙ is_none_one (get_or places t old) (asked ∙ ap not empty) in
+        let is : r ≡ None = read ∙ ap (λ (l : List (Option Here)). get_or l t r) same ∙ get_or_default places t r None few ∙ none in
+        rw (is, same) (no_frame none (rw none_counted at counted))
 
--- the rows of other threads are as they were
-record Others (t : ℕ) (rows rows₁ : List ℕ) : Type 0 where
-  long : length rows₁ ≡ length rows
-  same : (u : ℕ) → (u ≡ t → ⊥) → get_or rows₁ u 0 ≡ get_or rows u 0
-
-row_set : {rows : List ℕ} (t x : ℕ) → Others t rows (set rows t x)
-row_set {rows} t x = record { long = length-set rows t x; same = λ u other. get_or-set_other rows t u x 0 other }
-
-row_same : {rows : List ℕ} (t : ℕ) → Others t rows rows
-row_same t = record { long = refl; same = λ u other. refl }
+    pub looks_kept : b ≡ false → LooksUp p s places t r places₁
+    looks_kept filled =
+        let (h, there) = is_some_one (get_or places t old) (asked ∙ ap not filled) in
+        let kept : place_at places t ≡ Some h = get_or_default places t None old few ∙ there in
+        let is : r ≡ Some h = read ∙ ap (λ (l : List (Option Here)). get_or l t r) same ∙ get_or_default places t r None few ∙ kept in
+        rw (is, same) (is_kept kept)
 
 -- ---- What the loop keeps
 
 -- of one program: the state reached, and where the threads stand whose places are kept
-pub record Sofar (p turns : List ℕ) (P : Program) (s rest rows frames depths : List ℕ) (moves i : ℕ) : Type 0 where
+pub record Sofar (p turns : List ℕ) (P : Program) (s rest : List ℕ) (places : List (Option Here)) (moves i : ℕ) : Type 0 where
   pub state : State
   pub reached : Reached turns P s rest state moves i
-  pub knows : (u : ℕ) → (get_or rows u 0 ≡ 0 → ⊥) → Knows p P state (kept_at rows frames depths u)
+  pub knows : EachKept (λ u h. Knows p P state h) places
 
 -- of every program that p holds, from any state reached after i₀ turns with m₀ moves
-pub record Playing (p s₀ turns : List ℕ) (m₀ i₀ : ℕ) (s rows frames depths : List ℕ) (moves i : ℕ) : Type 0 where
-  pub arrays : Arrays rows frames depths
-  pub placed : (u : ℕ) → (get_or rows u 0 ≡ 0 → ⊥) → Placed (kept_at rows frames depths u)
+pub record Playing (p s₀ turns : List ℕ) (m₀ i₀ : ℕ) (s : List ℕ) (places : List (Option Here)) (moves i : ℕ) : Type 0 where
+  pub long : length places ≡ mosts.threads
+  pub threads : EachKept (λ u h. h.thread ≡ u) places
   pub few : moves ≤ i
   pub later : i₀ ≤ i
   pub same_length : length s ≡ length s₀
-  pub sofar : (P : Program) (S₀ : State) (rest : List ℕ) → Loaded p P → Valid mosts P → Reached turns P s₀ rest S₀ m₀ i₀ → Sofar p turns P s rest rows frames depths moves i
+  pub sofar : (P : Program) (S₀ : State) (rest : List ℕ) → Loaded p P → Valid mosts P → Reached turns P s₀ rest S₀ m₀ i₀ → Sofar p turns P s rest places moves i
 
-pub at_start : (p s turns : List ℕ) {m i : ℕ} → m ≤ i → Playing p s turns m i s (replicate 16 0) (replicate 16 0) (replicate 16 0) m i
+pub at_start : (p s turns : List ℕ) {m i : ℕ} → m ≤ i → Playing p s turns m i s (replicate 16 None) m i
 at_start p s turns few =
-    let none : (u : ℕ) → ◌≡◌ {A = ℕ} (get_or (replicate 16 0) u 0) 0 = λ u. every_get (λ (x : ℕ). x ≡ 0) (replicate 16 0) u 0 refl (every_replicate (λ (x : ℕ). x ≡ 0) 16 0 refl) in
+    let none : (u : ℕ) → place_at (replicate 16 None) u ≡ None = λ u. every_get (λ (x : Option Here). x ≡ None) (replicate 16 None) u None refl (every_replicate (λ (x : Option Here). x ≡ None) 16 None refl) in
     record {
-      arrays = record { rows_long = refl; frames_long = refl; depths_long = refl };
-      placed = λ u some. absurd (some (none u));
+      long = refl;
+      threads = λ u h kept. let both = sym (none u) ∙ kept in impossible cc;
       few = few;
       later = omega arith;
       same_length = refl;
-      sofar = λ P S₀ rest loaded valid from. record { state = S₀; reached = from; knows = λ u some. absurd (some (none u)) };
+      sofar = λ P S₀ rest loaded valid from. record { state = S₀; reached = from; knows = λ u h kept. let both = sym (none u) ∙ kept in impossible cc };
     }
 
-pub at_end : {p s₀ turns s rows frames depths : List ℕ} {m₀ i₀ moves i : ℕ} → Playing p s₀ turns m₀ i₀ s rows frames depths moves i → length turns ≤ i
-    → PlaysFrom p s₀ turns i₀ m₀ (Ended (Through moves)) s
+pub at_end : {p s₀ turns s : List ℕ} {places : List (Option Here)} {m₀ i₀ moves i : ℕ} → Playing p s₀ turns m₀ i₀ s places moves i → length turns ≤ i
+    → PlaysFrom p s₀ turns i₀ m₀ (Ok (Through moves)) s
 at_end {moves = moves} playing all =
     record {
       next = λ j m h e. impossible cc;
       comes = λ P S₀ rest loaded valid from.
           let at = (playing.sofar P S₀ rest loaded valid from).reached in
           let end = reached_end at all in
-          to_end {played = Through moves} (rw end refl) (rw end at.held);
+          to_end (record { stop_is = sym (ap (λ (r : Run). r.stop) end); moves_are = sym (ap (λ (r : Run). r.moves) end) }) (rw end at.held);
     }
 
 -- the copy where a stretch ends is one
-same_next : {p turns : List ℕ} {i₀ i j n m : ℕ} {g h : Here} → AtCopy i n g ≡ AtCopy j m h → (i₀ ≤ i) × CopyNext p turns i n g → (i₀ ≤ j) × CopyNext p turns j m h
+same_next : {p turns : List ℕ} {i₀ i j n m : ℕ} {g h : Here} → ◌≡◌ {A = Result Stretch Stop} (Ok (AtCopy i n g)) (Ok (AtCopy j m h)) → (i₀ ≤ i) × CopyNext p turns i n g
+    → (i₀ ≤ j) × CopyNext p turns j m h
 same_next {p} {turns} {i₀} {i} {j} {n} {m} {g} {h} e next =
     let place : i ≡ j = cc in
     let moves : n ≡ m = cc in
@@ -296,91 +289,78 @@ same_next {p} {turns} {i₀} {i} {j} {n} {m} {g} {h} e next =
     rw (← place, ← moves, ← here) next
 
 -- the same, of what is equal
-pub same_playing : {p s₀ turns s s₁ rows rows₁ frames frames₁ depths depths₁ : List ℕ} {m₀ i₀ moves moves₁ i : ℕ}
-    → s₁ ≡ s → rows₁ ≡ rows → frames₁ ≡ frames → depths₁ ≡ depths → moves₁ ≡ moves
-    → Playing p s₀ turns m₀ i₀ s rows frames depths moves i → Playing p s₀ turns m₀ i₀ s₁ rows₁ frames₁ depths₁ moves₁ i
-same_playing e₀ e₁ e₂ e₃ e₄ playing = rw (e₀, e₁, e₂, e₃, e₄) playing
+pub same_playing : {p s₀ turns s s₁ : List ℕ} {places places₁ : List (Option Here)} {m₀ i₀ moves moves₁ i : ℕ} → s₁ ≡ s → places₁ ≡ places → moves₁ ≡ moves
+    → Playing p s₀ turns m₀ i₀ s places moves i → Playing p s₀ turns m₀ i₀ s₁ places₁ moves₁ i
+same_playing e₀ e₁ e₂ playing = rw (e₀, e₁, e₂) playing
 
 -- ---- The thread whose turn it is, looked for
 
 -- its place is kept, or it has no frame
-pub record Looked (p s₀ turns : List ℕ) (m₀ i₀ : ℕ) (s rows frames depths : List ℕ) (moves i t : ℕ) : Type 0 where
-  pub playing : Playing p s₀ turns m₀ i₀ s rows frames depths moves i
-  pub idle : get_or rows t 0 ≡ 0 → (P : Program) (n : ℕ) (S : State) (rest : List ℕ) → Loaded p P → Valid mosts P → Held s S rest → Fits mosts P n S
-      → 0 ≡ length (thread_at S t).frames
+pub record Looked (p s₀ turns : List ℕ) (m₀ i₀ : ℕ) (s : List ℕ) (places : List (Option Here)) (moves i t : ℕ) (r : Option Here) : Type 0 where
+  pub playing : Playing p s₀ turns m₀ i₀ s places moves i
+  pub is : place_at places t ≡ r
+  pub idle : r ≡ None → Sees s Any (λ S. length (thread_at S t).frames) 0
 
-module _ {p s₀ turns s rows frames depths : List ℕ} {m₀ i₀ moves i t : ℕ} (playing : Playing p s₀ turns m₀ i₀ s rows frames depths moves i) where
-  pub is_kept : (get_or rows t 0 ≡ 0 → ⊥) → Looked p s₀ turns m₀ i₀ s rows frames depths moves i t
-  is_kept some = record { playing = playing; idle = λ zero. absurd (some zero) }
-
-  module _ {d : ℕ} (counted : Sees s Any (λ S. length (thread_at S t).frames) d) where
-    pub has_none : d ≡ 0 → Looked p s₀ turns m₀ i₀ s rows frames depths moves i t
-    has_none zero = record { playing = playing; idle = λ empty P n S rest loaded valid held fits. sym zero ∙ counted.sees S rest held tt }
-
-    module _ {h : Here} (some : d ≡ 0 → ⊥) (few : t < 16) (placed : Placed h) (place : h.thread ≡ t) (stands : Stands p s d h) where
-      found_there : {P : Program} {n : ℕ} {S : State} {rest : List ℕ} → Loaded p P → Valid mosts P → Held s S rest → Fits mosts P n S → Knows p P S h
-      found_there {S = S} {rest} loaded valid held fits =
-          located loaded valid fits held
-          (counted.sees S rest held tt ∙ ap (λ (u : ℕ). length (thread_at S u).frames) (sym place)) some stands
-
-      pub found : Looked p s₀ turns m₀ i₀ s (set rows t h.row) (set frames t h.frame) (set depths t h.depth) moves i t
-      found =
-          let at = kept_at rows frames depths in
-          let at₁ = kept_at (set rows t h.row) (set frames t h.frame) (set depths t h.depth) in
-          let arrays = playing.arrays in
-          let stored : at₁ t ≡ h = stored_place rows frames depths t arrays h place few in
-          record {
-            playing = record {
-              arrays = stored_arrays rows frames depths t arrays h;
-              placed = each_kept Placed t at at₁ (stored_others rows frames depths t h) (λ u other. playing.placed u) (λ filled. subst Placed (sym stored) placed);
-              few = playing.few;
-              later = playing.later;
-              same_length = playing.same_length;
-              sofar = λ P S₀ rest loaded valid from.
-                  let so = playing.sofar P S₀ rest loaded valid from in
-                  let knows = found_there loaded valid so.reached.held so.reached.fits in
-                  record {
-                    state = so.state;
-                    reached = so.reached;
-                    knows = each_kept (Knows p P so.state) t at at₁ (stored_others rows frames depths t h) (λ u other. so.knows u) (λ filled. subst (Knows p P so.state) (sym stored) knows);
-                  };
+pub looked : {p s₀ turns s : List ℕ} {places places₁ : List (Option Here)} {m₀ i₀ moves i t : ℕ} {r : Option Here} → Playing p s₀ turns m₀ i₀ s places moves i
+    → LooksUp p s places t r places₁ → Looked p s₀ turns m₀ i₀ s places₁ moves i t r
+looked playing (is_kept is) = record { playing = playing; is = is; idle = λ e. impossible cc }
+looked playing (no_frame is none) = record { playing = playing; is = is; idle = λ e. none }
+looked {p} {places = places} {t = t} playing (is_found {h} some counted place stands) =
+    let few : t < mosts.threads = omega (arith, place, h.placed.thread) in
+    let stored : place_at (set places t (Some h)) t ≡ Some h = get_or-set_same places t (Some h) None (omega (arith, few, playing.long)) in
+    let same : (g : Here) → place_at (set places t (Some h)) t ≡ Some g → h ≡ g = λ g kept. let both = sym stored ∙ kept in cc in
+    record {
+      playing = record {
+        long = length-set places t (Some h) ∙ playing.long;
+        threads = each_kept (λ u g. g.thread ≡ u) (changed_set t (Some h)) (λ u g other. playing.threads u g) (λ g kept. subst (λ (x : Here). x.thread ≡ t) (same g kept) place);
+        few = playing.few;
+        later = playing.later;
+        same_length = playing.same_length;
+        sofar = λ P S₀ rest loaded valid from.
+            let so = playing.sofar P S₀ rest loaded valid from in
+            let count = counted.sees so.state rest so.reached.held tt ∙ ap (λ (u : ℕ). length (thread_at so.state u).frames) (sym place) in
+            let knows = located loaded valid so.reached.fits so.reached.held count some stands in
+            record {
+              state = so.state;
+              reached = so.reached;
+              knows = each_kept (λ u g. Knows p P so.state g) (changed_set t (Some h)) (λ u g other. so.knows u g) (λ g kept. subst (Knows p P so.state) (same g kept) knows);
             };
-            idle = λ empty P n S rest loaded valid held fits.
-                absurd (row_there (found_there loaded valid held fits) loaded fits (sym (ap (λ (x : Here). x.row) stored) ∙ empty));
-          }
-
-pub same_looked : {p s₀ turns s rows rows₁ frames frames₁ depths depths₁ : List ℕ} {m₀ i₀ moves i t : ℕ} → rows₁ ≡ rows → frames₁ ≡ frames → depths₁ ≡ depths
-    → Looked p s₀ turns m₀ i₀ s rows frames depths moves i t → Looked p s₀ turns m₀ i₀ s rows₁ frames₁ depths₁ moves i t
-same_looked e₀ e₁ e₂ looked = rw (e₀, e₁, e₂) looked
+      };
+      is = stored;
+      idle = λ e. impossible cc;
+    }
 
 -- ---- The turn
 
 -- a stop: block and line are those of the innermost frame
-stop_comes : {p s s₁ turns : List ℕ} {n i : ℕ} {h : Here} {r : Step} {k b l : ℕ} → i < length turns → h.thread ≡ get_or turns i 0 → n < Most.turns
-    → PerformsHere p s h r s₁ → result_of r ≡ stop k
-    → Sees s₁ Any (λ S. (frame_at S h.thread h.depth).block) b → Sees s₁ Any (λ S. (frame_at S h.thread h.depth).line) l
+stop_comes : {p s s₁ turns : List ℕ} {n i : ℕ} {h : Here} {e : Fault} {x : Stop} → i < length turns → h.thread ≡ get_or turns i 0 → n < Most.turns
+    → PerformsHere p s h (Err (Stops e)) s₁ → StopsAt s₁ h e n x
     → {P : Program} {S : State} {rest : List ℕ} → Loaded p P → Valid mosts P → Reached turns P s rest S n i → Knows p P S h
-    → Comes p turns P s₁ rest (Ended (Stopped k h.thread b l n))
+    → Comes p turns P s₁ rest (Err x)
 unfolding block_of line_now
-stop_comes {s₁ = s₁} {n = n} {h = h} {k = k} {b = b} {l = l} more is few does stops block line {S = S} {rest = rest} loaded valid at known =
+stop_comes {s₁ = s₁} {h = h} {x = x} more is few does stops {S = S} {rest = rest} loaded valid at known =
     let t = h.thread in
-    let did = has_stopped (performed_turn valid at known loaded few does) stops in
+    let did = has_stopped (performed_turn valid at known loaded few does) in
     let held : Held s₁ S rest = rw did.1 at.held in
     let frame = frame_is (stand valid at known) in
-    let is_block : b ≡ block_of (thread_at S t).frames = block.sees S rest held tt ∙ ap (λ (f : Frame). f.block) frame ∙ sym (ap block_of known.frames) in
-    let is_line : l ≡ line_now (thread_at S t).frames = line.sees S rest held tt ∙ ap (λ (f : Frame). f.line) frame ∙ sym (ap line_now known.frames) in
+    let is_block : x.block ≡ block_of (thread_at S t).frames = stops.block.sees S rest held tt ∙ ap (λ (f : Frame). f.block) frame ∙ sym (ap block_of known.frames) in
+    let is_line : x.line ≡ line_now (thread_at S t).frames = stops.line.sees S rest held tt ∙ ap (λ (f : Frame). f.line) frame ∙ sym (ap line_now known.frames) in
     let end = stops_there at more is did.0 in
-    to_end {played = Stopped k t b l n}
-    (rw end (ap (λ (x : ℕ). Stopped k t x l n) is_block ∙ ap (λ (y : ℕ). Stopped k t (block_of (thread_at S t).frames) y n) is_line))
+    to_stop
+    (record {
+      stop_is = rw (stops.fault, stops.thread, is_block, is_line) (sym (ap (λ (r : Run). r.stop) end));
+      moves_are = stops.moves ∙ sym (ap (λ (r : Run). r.moves) end);
+    })
     (rw end held)
 
-module _ {p s₀ turns s rows frames depths : List ℕ} {m₀ i₀ moves i t : ℕ} (playing : Playing p s₀ turns m₀ i₀ s rows frames depths moves i) (more : i < length turns) (is : t ≡ get_or turns i 0) where
+module _ {p s₀ turns s : List ℕ} {places : List (Option Here)} {m₀ i₀ moves i t : ℕ} (playing : Playing p s₀ turns m₀ i₀ s places moves i) (more : i < length turns)
+    (is : t ≡ get_or turns i 0) where
   idles : ((P : Program) (S : State) (rest : List ℕ) → Loaded p P → Valid mosts P → Held s S rest → Fits mosts P moves S → 0 ≡ length (thread_at S t).frames)
-      → Playing p s₀ turns m₀ i₀ s rows frames depths moves (i + 1)
+      → Playing p s₀ turns m₀ i₀ s places moves (i + 1)
   idles idle =
       record {
-        arrays = playing.arrays;
-        placed = playing.placed;
+        long = playing.long;
+        threads = playing.threads;
         few = omega (arith, playing.few);
         later = omega (arith, playing.later);
         same_length = playing.same_length;
@@ -392,179 +372,193 @@ module _ {p s₀ turns s rows frames depths : List ℕ} {m₀ i₀ moves i t : �
       }
 
   -- there is no such thread
-  pub no_turn : 16 ≤ t → Playing p s₀ turns m₀ i₀ s rows frames depths moves (i + 1)
+  pub no_turn : 16 ≤ t → Playing p s₀ turns m₀ i₀ s places moves (i + 1)
   no_turn past = idles λ P S rest loaded valid held fits. no_frames S t fits.few_threads past
 
-  module _ (few : length turns ≤ Most.turns) (some : get_or rows t 0 ≡ 0 → ⊥) where
+  module _ (few : length turns ≤ Most.turns) {h : Here} (kept : place_at places t ≡ Some h) where
     few_moves : moves < Most.turns
     few_moves = omega (arith, playing.few)
 
-    -- the turn's step, of one program
-    turn_performed : {r : Step} {s₁ : List ℕ} → PerformsHere p s (kept_at rows frames depths t) r s₁ → {P : Program} {rest : List ℕ} → Loaded p P → Valid mosts P
-        → (so : Sofar p turns P s rest rows frames depths moves i) → (let k = so.knows t some in Performed t k.frame k.callers s rest r s₁ (turn mosts P so.state t))
-    turn_performed does loaded valid so = performed_turn valid so.reached (so.knows t some) loaded few_moves does
+    thread : h.thread ≡ t
+    thread = playing.threads t h kept
+
+    its_turn : h.thread ≡ get_or turns i 0
+    its_turn = thread ∙ is
+
+    stored : (x : Option Here) → place_at (set places t x) t ≡ x
+    stored x = get_or-set_same places t x None (omega (arith, thread, h.placed.thread, playing.long))
+
+    -- what the line came to, of one program
+    turn_performed : {r : Result Move Halt} {s₁ : List ℕ} → PerformsHere p s h r s₁ → {P : Program} {rest : List ℕ} → Loaded p P → Valid mosts P
+        → (so : Sofar p turns P s rest places moves i) → (let k = so.knows t h kept in Performed h.thread k.frame k.callers s rest r s₁ (turn mosts P so.state h.thread))
+    turn_performed does loaded valid so = performed_turn valid so.reached (so.knows t h kept) loaded few_moves does
 
     -- a turn that moves, and the place that it leaves to keep
-    moves_turn : {r : Step} {s₁ rows₁ : List ℕ} → PerformsHere p s (kept_at rows frames depths t) r s₁ → result_of r ≡ ok tt → length s₁ ≡ length s → Others t rows rows₁
-        → ((get_or rows₁ t 0 ≡ 0 → ⊥) → Placed (kept_at rows₁ frames depths t))
-        → ((P : Program) (S S₁ : State) (k : Knows p P S (kept_at rows frames depths t)) → Loaded p P → Fits mosts P (moves + 1) S₁ → Went t k.frame k.callers S₁ r
-        → (get_or rows₁ t 0 ≡ 0 → ⊥) → Knows p P S₁ (kept_at rows₁ frames depths t))
-        → Playing p s₀ turns m₀ i₀ s₁ rows₁ frames depths (moves + 1) (i + 1)
-    moves_turn {rows₁ = rows₁} does move long others placed then =
-        let at = kept_at rows frames depths in
-        let at₁ = kept_at rows₁ frames depths in
-        let same : (u : ℕ) → (u ≡ t → ⊥) → at₁ u ≡ at u = λ u other. ap (at_row (at u)) (others.same u other) in
-        let arrays = playing.arrays in
+    moves_turn : {m : Move} {s₁ : List ℕ} {places₁ : List (Option Here)} → PerformsHere p s h (Ok m) s₁ → length s₁ ≡ length s → Changed t places places₁
+        → ((g : Here) → place_at places₁ t ≡ Some g → g.thread ≡ t)
+        → ((P : Program) (S S₁ : State) (k : Knows p P S h) → Loaded p P → Fits mosts P (moves + 1) S₁ → Went h.thread k.frame k.callers S₁ m
+        → (g : Here) → place_at places₁ t ≡ Some g → Knows p P S₁ g)
+        → Playing p s₀ turns m₀ i₀ s₁ places₁ (moves + 1) (i + 1)
+    moves_turn does long changed threads then =
         record {
-          arrays = record { rows_long = others.long ∙ arrays.rows_long; frames_long = arrays.frames_long; depths_long = arrays.depths_long };
-          placed = each_kept Placed t at at₁ same (λ u other. playing.placed u) placed;
+          long = changed.long ∙ playing.long;
+          threads = each_kept (λ u g. g.thread ≡ u) changed (λ u g other. playing.threads u g) threads;
           few = omega (arith, playing.few);
           later = omega (arith, playing.later);
           same_length = long ∙ playing.same_length;
           sofar = λ P S₀ rest loaded valid from.
               let so = playing.sofar P S₀ rest loaded valid from in
-              let to = has_moved (turn_performed does loaded valid so) move in
-              let reached = moves_on so.reached more is valid to.is to.held in
+              let to = has_moved (turn_performed does loaded valid so) in
+              let reached = moves_on so.reached more its_turn valid to.is to.held in
               record {
                 state = to.state;
                 reached = reached;
-                knows = each_kept (Knows p P to.state) t at at₁ same (λ u other kept. knows_other (so.knows u kept) t to.is other)
-                    (then P so.state to.state (so.knows t some) loaded reached.fits to.went);
+                knows = each_kept (λ u g. Knows p P to.state g) changed
+                    (λ u g other at. knows_other (so.knows u g at) h.thread to.is (λ same. other (sym (playing.threads u g at) ∙ same ∙ thread)))
+                    (then P so.state to.state (so.knows t h kept) loaded reached.fits to.went);
               };
         }
 
-    pub turn_goes_next : {r : Step} {s₁ : List ℕ} {h : Here} → r ≡ Next → PerformsHere p s (kept_at rows frames depths t) r s₁ → length s₁ ≡ length s → Placed h
-        → h.row ≡ (get_or rows t 0 + 8) % 8192 → Playing p s₀ turns m₀ i₀ s₁ (set rows t h.row) frames depths (moves + 1) (i + 1)
-    turn_goes_next {h = h} e does long placed row =
-        let here = playing.placed t some in
-        let stored : get_or (set rows t h.row) t 0 ≡ h.row = get_or-set_same rows t h.row 0 (omega (arith, here.thread, playing.arrays.rows_long)) in
-        moves_turn (same_step e does) refl long (row_set t h.row)
-        (λ kept. record { thread = here.thread; depth = here.depth; frame = here.frame; row = rw stored placed.row; aligned = rw stored placed.aligned })
-        (λ P S S₁ k loaded fits went kept. knows_next k loaded fits (went_next went) (stored ∙ row))
+    pub turn_goes_next : {r : Result Move Halt} {s₁ : List ℕ} (g : Here) → r ≡ Ok Next → PerformsHere p s h r s₁ → length s₁ ≡ length s
+        → g.thread ≡ h.thread → g.depth ≡ h.depth → g.row ≡ (h.row + 8) % 8192 → Playing p s₀ turns m₀ i₀ s₁ (set places t (Some g)) (moves + 1) (i + 1)
+    turn_goes_next g e does long same_thread same_depth row =
+        let same : (x : Here) → place_at (set places t (Some g)) t ≡ Some x → g ≡ x = λ x at. let both = sym (stored (Some g)) ∙ at in cc in
+        moves_turn (same_answer e does) long (changed_set t (Some g))
+        (λ x at. subst (λ (y : Here). y.thread ≡ t) (same x at) (same_thread ∙ thread))
+        (λ P S S₁ k loaded fits went x at. subst (Knows p P S₁) (same x at) (knows_next k loaded fits (went_next went) same_thread same_depth row))
 
-    pub turn_stays : {r : Step} {s₁ : List ℕ} → r ≡ Stay → PerformsHere p s (kept_at rows frames depths t) r s₁ → length s₁ ≡ length s
-        → Playing p s₀ turns m₀ i₀ s₁ rows frames depths (moves + 1) (i + 1)
+    pub turn_stays : {r : Result Move Halt} {s₁ : List ℕ} → r ≡ Ok Stay → PerformsHere p s h r s₁ → length s₁ ≡ length s
+        → Playing p s₀ turns m₀ i₀ s₁ places (moves + 1) (i + 1)
     turn_stays e does long =
-        moves_turn (same_step e does) refl long (row_same t) (playing.placed t) (λ P S S₁ k loaded fits went kept. knows_same k (went_same went))
+        let same : (x : Here) → place_at places t ≡ Some x → h ≡ x = λ x at. let both = sym kept ∙ at in cc in
+        moves_turn (same_answer e does) long (changed_none t) (playing.threads t)
+        (λ P S S₁ k loaded fits went x at. subst (Knows p P S₁) (same x at) (knows_same k (went_same went)))
 
-    pub turn_leaves_frame : {r : Step} {s₁ : List ℕ} → r ≡ Turned → PerformsHere p s (kept_at rows frames depths t) r s₁ → length s₁ ≡ length s
-        → Playing p s₀ turns m₀ i₀ s₁ (set rows t 0) frames depths (moves + 1) (i + 1)
+    pub turn_leaves_frame : {r : Result Move Halt} {s₁ : List ℕ} → r ≡ Ok Turned → PerformsHere p s h r s₁ → length s₁ ≡ length s
+        → Playing p s₀ turns m₀ i₀ s₁ (set places t None) (moves + 1) (i + 1)
     turn_leaves_frame e does long =
-        let none = get_or-set_same rows t 0 0 (omega (arith, (playing.placed t some).thread, playing.arrays.rows_long)) in
-        moves_turn (same_step e does) refl long (row_set t 0) (λ kept. absurd (kept none)) (λ P S S₁ k loaded fits went kept. absurd (kept none))
+        moves_turn (same_answer e does) long (changed_set t None)
+        (λ x at. let both = sym (stored None) ∙ at in impossible cc)
+        (λ P S S₁ k loaded fits went x at. let both = sym (stored None) ∙ at in impossible cc)
 
-    pub turn_waits : {r : Step} {s₁ : List ℕ} → r ≡ Waits → PerformsHere p s (kept_at rows frames depths t) r s₁ → length s₁ ≡ length s
-        → Playing p s₀ turns m₀ i₀ s₁ rows frames depths moves (i + 1)
+    pub turn_waits : {r : Result Move Halt} {s₁ : List ℕ} → r ≡ Err Waits → PerformsHere p s h r s₁ → length s₁ ≡ length s
+        → Playing p s₀ turns m₀ i₀ s₁ places moves (i + 1)
     turn_waits e does long =
         record {
-          arrays = playing.arrays;
-          placed = playing.placed;
+          long = playing.long;
+          threads = playing.threads;
           few = omega (arith, playing.few);
           later = omega (arith, playing.later);
           same_length = long ∙ playing.same_length;
           sofar = λ P S₀ rest loaded valid from.
               let so = playing.sofar P S₀ rest loaded valid from in
-              let did = has_waited (turn_performed (same_step e does) loaded valid so) in
-              rw did.1 (record { state = so.state; reached = waits_on so.reached more is did.0; knows = so.knows });
+              let did = has_waited (turn_performed (same_answer e does) loaded valid so) in
+              rw did.1 (record { state = so.state; reached = waits_on so.reached more its_turn did.0; knows = so.knows });
         }
 
-    pub turn_stops : {r : Step} {s₁ : List ℕ} {k b l : ℕ} → result_of r ≡ stop k → PerformsHere p s (kept_at rows frames depths t) r s₁
-        → Sees s₁ Any (λ S. (frame_at S t (get_or depths t 0)).block) b → Sees s₁ Any (λ S. (frame_at S t (get_or depths t 0)).line) l
-        → PlaysFrom p s₀ turns i₀ m₀ (Ended (Stopped k t b l moves)) s₁
-    turn_stops stops does block line =
+    pub turn_stops : {r : Result Move Halt} {s₁ : List ℕ} {e : Fault} {x : Stop} → r ≡ Err (Stops e) → PerformsHere p s h r s₁ → StopsAt s₁ h e moves x
+        → PlaysFrom p s₀ turns i₀ m₀ (Err x) s₁
+    turn_stops e does stops =
         record {
-          next = λ j m h e. impossible cc;
+          next = λ j m g e. impossible cc;
           comes = λ P S₀ rest loaded valid from.
               let so = playing.sofar P S₀ rest loaded valid from in
-              stop_comes more is few_moves does stops block line loaded valid so.reached (so.knows t some);
+              stop_comes more its_turn few_moves (same_answer e does) stops loaded valid so.reached (so.knows t h kept);
         }
 
     -- its line is a copy
-    pub turn_at_copy : get_or p (get_or rows t 0 + 0) 0 ≡ form_number Copy → PlaysFrom p s₀ turns i₀ m₀ (AtCopy i moves (kept_at rows frames depths t)) s
+    pub turn_at_copy : get_or p (h.row + 0) 0 ≡ form_number Copy → PlaysFrom p s₀ turns i₀ m₀ (Ok (AtCopy i moves h)) s
     turn_at_copy form =
         record {
-          next = λ j m h e.
-              same_next e (playing.later, record { more = more; few = playing.few; thread = is; placed = playing.placed t some; form = form });
+          next = λ j m g e. same_next e (playing.later, record { more = more; few = playing.few; thread = its_turn; form = form });
           comes = λ P S₀ rest loaded valid from.
               let so = playing.sofar P S₀ rest loaded valid from in
-              to_copy so.reached (so.knows t some);
+              to_copy so.reached (so.knows t h kept);
         }
 
 -- the thread has no frame
-pub turn_idles : {p s₀ turns s rows frames depths : List ℕ} {m₀ i₀ moves i t : ℕ} → Looked p s₀ turns m₀ i₀ s rows frames depths moves i t → i < length turns → t ≡ get_or turns i 0
-    → get_or rows t 0 ≡ 0 → Playing p s₀ turns m₀ i₀ s rows frames depths moves (i + 1)
-turn_idles {moves = moves} looked more is empty = idles looked.playing more is λ P S rest loaded valid held fits. looked.idle empty P moves S rest loaded valid held fits
+pub turn_idles : {p s₀ turns s : List ℕ} {places : List (Option Here)} {m₀ i₀ moves i t : ℕ} {r : Option Here} → Looked p s₀ turns m₀ i₀ s places moves i t r → i < length turns
+    → t ≡ get_or turns i 0 → r ≡ None → Playing p s₀ turns m₀ i₀ s places moves (i + 1)
+turn_idles look more is none = idles look.playing more is λ P S rest loaded valid held fits. (look.idle none).sees S rest held tt
 
 -- ---- A copy's turn, between two stretches
 
-module _ {p s turns s₁ : List ℕ} {i n : ℕ} {h : Here} {step : Step} (copy : CopyNext p turns i n h) (few : length turns ≤ Most.turns) (does : PerformsHere p s h step s₁) where
+module _ {p s turns s₁ : List ℕ} {i n : ℕ} {h : Here} {r : Result Move Halt} (copy : CopyNext p turns i n h) (few : length turns ≤ Most.turns) (does : PerformsHere p s h r s₁) where
   few_before : n < Most.turns
   few_before = omega (arith, copy.more, copy.few, few)
 
-  pub moves_past : {r : Stretch} {s₂ : List ℕ} → result_of step ≡ ok tt → PlaysFrom p s₁ turns (i + 1) (n + 1) r s₂ → PlaysPast p s turns i n h r s₂
-  moves_past move on =
+  pub moves_past : {m : Move} {x : Result Stretch Stop} {s₂ : List ℕ} → r ≡ Ok m → PlaysFrom p s₁ turns (i + 1) (n + 1) x s₂ → PlaysPast p s turns i n h x s₂
+  moves_past e on =
       record {
         next = on.next;
         comes = λ P S rest loaded valid at.
-            let to = has_moved (performed_turn valid at.0 at.1 loaded few_before does) move in
+            let to = has_moved (performed_turn valid at.0 at.1 loaded few_before (same_answer e does)) in
             on.comes P to.state rest loaded valid (moves_on at.0 copy.more copy.thread valid to.is to.held);
       }
 
-  pub waits_past : {r : Stretch} {s₂ : List ℕ} → step ≡ Waits → PlaysFrom p s₁ turns (i + 1) n r s₂ → PlaysPast p s turns i n h r s₂
+  pub waits_past : {x : Result Stretch Stop} {s₂ : List ℕ} → r ≡ Err Waits → PlaysFrom p s₁ turns (i + 1) n x s₂ → PlaysPast p s turns i n h x s₂
   waits_past e on =
       record {
         next = on.next;
         comes = λ P S rest loaded valid at.
-            let did = has_waited (performed_turn valid at.0 at.1 loaded few_before (same_step e does)) in
+            let did = has_waited (performed_turn valid at.0 at.1 loaded few_before (same_answer e does)) in
             on.comes P S rest loaded valid (rw did.1 (waits_on at.0 copy.more copy.thread did.0));
       }
 
-  pub stops_past : {k b l : ℕ} → result_of step ≡ stop k → Sees s₁ Any (λ S. (frame_at S h.thread h.depth).block) b
-      → Sees s₁ Any (λ S. (frame_at S h.thread h.depth).line) l → PlaysPast p s turns i n h (Ended (Stopped k h.thread b l n)) s₁
-  stops_past stops block line =
+  pub stops_past : {e : Fault} {x : Stop} → r ≡ Err (Stops e) → StopsAt s₁ h e n x → PlaysPast p s turns i n h (Err x) s₁
+  stops_past e stops =
       record {
         next = λ j m g e. impossible cc;
-        comes = λ P S rest loaded valid at. stop_comes copy.more copy.thread few_before does stops block line loaded valid at.0 at.1;
+        comes = λ P S rest loaded valid at. stop_comes copy.more copy.thread few_before (same_answer e does) stops loaded valid at.0 at.1;
       }
 
 -- ---- From copy to copy
 
-from_copy : {p turns : List ℕ} {P : Program} {s rest : List ℕ} {i m : ℕ} {h : Here} {r : Stretch} {s₁ : List ℕ} → PlaysPast p s turns i m h r s₁
-    → Loaded p P → Valid mosts P → Comes p turns P s rest (AtCopy i m h) → Comes p turns P s₁ rest r
+from_copy : {p turns : List ℕ} {P : Program} {s rest : List ℕ} {i m : ℕ} {h : Here} {r : Result Stretch Stop} {s₁ : List ℕ} → PlaysPast p s turns i m h r s₁
+    → Loaded p P → Valid mosts P → Comes p turns P s rest (Ok (AtCopy i m h)) → Comes p turns P s₁ rest r
 from_copy {P = P} {rest = rest} past loaded valid (to_copy {S = S} at knows) = past.comes P S rest loaded valid (at, knows)
 
 -- a stretch, and the one past the copy where it ends
-pub plays_past : {p s₀ turns s s₁ : List ℕ} {i m : ℕ} {h : Here} {x r : Stretch} → PlaysFrom p s₀ turns 0 0 x s → x ≡ AtCopy i m h → PlaysPast p s turns i m h r s₁
-    → PlaysFrom p s₀ turns 0 0 r s₁
+pub plays_past : {p s₀ turns s s₁ : List ℕ} {i m : ℕ} {h : Here} {x : Stretch} {r : Result Stretch Stop} → PlaysFrom p s₀ turns 0 0 (Ok x) s → x ≡ AtCopy i m h
+    → PlaysPast p s turns i m h r s₁ → PlaysFrom p s₀ turns 0 0 r s₁
 plays_past {p} {turns = turns} {s = s} plays is past =
     record {
       next = λ j m g e. (omega arith, (past.next j m g e).1);
-      comes = λ P S rest loaded valid at. from_copy past loaded valid (subst (λ (y : Stretch). Comes p turns P s rest y) is (plays.comes P S rest loaded valid at));
+      comes = λ P S rest loaded valid at. from_copy past loaded valid (subst (λ (y : Stretch). Comes p turns P s rest (Ok y)) is (plays.comes P S rest loaded valid at));
     }
 
-has_ended : {p turns : List ℕ} {P : Program} {s rest : List ℕ} {played : Played} → Comes p turns P s rest (Ended played)
-    → (played ≡ played_by (run mosts P turns).stop (run mosts P turns).moves) × Held s (run mosts P turns).state rest
-has_ended (to_end is held) = (is, held)
+module _ {p turns s rest : List ℕ} {P : Program} where
+  has_ended : {m : ℕ} → Comes p turns P s rest (Ok (Through m)) → Tells P turns (Ok m) × Held s (run mosts P turns).state rest
+  has_ended (to_end tells held) = (tells, held)
 
--- the last stretch
-pub plays_all : {p s₀ turns s : List ℕ} {x : Stretch} {played : Played} → PlaysFrom p s₀ turns 0 0 x s → x ≡ Ended played → Plays p s₀ turns played s
-plays_all {p} {s₀} {turns} {s} {played = played} plays is =
-    let end : (P : Program) (rest : List ℕ) → Loaded p P → Valid mosts P → Held s₀ start rest
-    → (played ≡ played_by (run mosts P turns).stop (run mosts P turns).moves) × Held s (run mosts P turns).state rest
-    = λ P rest loaded valid held.
-    has_ended (subst (λ (y : Stretch). Comes p turns P s rest y) is (plays.comes P start rest loaded valid (reached_start turns P s₀ rest valid held))) in
-    record { answers = λ P rest loaded valid held. (end P rest loaded valid held).0; leaves = λ P rest loaded valid held. (end P rest loaded valid held).1 }
+  was_stopped : {x : Stop} → Comes p turns P s rest (Err x) → Tells P turns (Err x) × Held s (run mosts P turns).state rest
+  was_stopped (to_stop tells held) = (tells, held)
+
+-- the last stretch, or one that a turn stopped
+module _ {p s₀ turns s : List ℕ} where
+  pub plays_all : {x : Stretch} {m : ℕ} → PlaysFrom p s₀ turns 0 0 (Ok x) s → x ≡ Through m → Plays p s₀ turns (Ok m) s
+  plays_all {m = m} plays is =
+      let end : (P : Program) (rest : List ℕ) → Loaded p P → Valid mosts P → Held s₀ start rest → Tells P turns (Ok m) × Held s (run mosts P turns).state rest
+      = λ P rest loaded valid held.
+      has_ended (subst (λ (y : Stretch). Comes p turns P s rest (Ok y)) is (plays.comes P start rest loaded valid (reached_start turns P s₀ rest valid held))) in
+      record { answers = λ P rest loaded valid held. (end P rest loaded valid held).0; leaves = λ P rest loaded valid held. (end P rest loaded valid held).1 }
+
+  pub plays_stopped : {x : Stop} → PlaysFrom p s₀ turns 0 0 (Err x) s → Plays p s₀ turns (Err x) s
+  plays_stopped {x} plays =
+      let end : (P : Program) (rest : List ℕ) → Loaded p P → Valid mosts P → Held s₀ start rest → Tells P turns (Err x) × Held s (run mosts P turns).state rest
+      = λ P rest loaded valid held. was_stopped (plays.comes P start rest loaded valid (reached_start turns P s₀ rest valid held)) in
+      record { answers = λ P rest loaded valid held. (end P rest loaded valid held).0; leaves = λ P rest loaded valid held. (end P rest loaded valid held).1 }
 
 -- how many turns are left after a stretch, the copy's own among them
 abbrev pub turns_left : List ℕ → Stretch → ℕ
-turns_left turns (Ended played) = 0
+turns_left turns (Through m) = 0
 turns_left turns (AtCopy i m h) = length turns - i
 
-past_copy_fewer : {p turns s s₁ : List ℕ} {i m : ℕ} {h : Here} (r : Stretch) → PlaysPast p s turns i m h r s₁ → i < length turns → turns_left turns r < length turns - i
-past_copy_fewer (Ended played) past more = omega (arith, more)
+past_copy_fewer : {p turns s s₁ : List ℕ} {i m : ℕ} {h : Here} (r : Stretch) → PlaysPast p s turns i m h (Ok r) s₁ → i < length turns → turns_left turns r < length turns - i
+past_copy_fewer (Through m) past more = omega (arith, more)
 past_copy_fewer (AtCopy j n g) past more = let at = past.next j n g refl in omega (arith, at.0, at.1.more)
 
-pub fewer_left : {p s₀ turns s s₁ : List ℕ} {i m : ℕ} {h : Here} {x r : Stretch} → PlaysFrom p s₀ turns 0 0 x s → x ≡ AtCopy i m h → PlaysPast p s turns i m h r s₁
+pub fewer_left : {p s₀ turns s s₁ : List ℕ} {i m : ℕ} {h : Here} {x r : Stretch} → PlaysFrom p s₀ turns 0 0 (Ok x) s → x ≡ AtCopy i m h → PlaysPast p s turns i m h (Ok r) s₁
     → turns_left turns r < turns_left turns x
 fewer_left {turns = turns} {i = i} {m = m} {h = h} {r = r} plays is past =
-    subst (λ (y : Stretch). turns_left turns r < turns_left turns y) (sym is) (past_copy_fewer r past (plays.next i m h is).1.more)
+    subst (λ (y : Stretch). turns_left turns r < turns_left turns y) (sym is) (past_copy_fewer r past (plays.next i m h (ap Ok is)).1.more)

@@ -5,7 +5,7 @@ use Rattle.rules.specs.Script.{Program}
 use Rattle.rules.specs.State.{Frame, State, thread_at}
 use Rattle.rules.specs.Run.{none, Run, run_from, run}
 use Rattle.rules.specs.Fits.{Fits}
-use Rattle.table.specs.declared.state.Here.{Here}
+use Rattle.table.specs.declared.standing.Here.{Here}
 use Rattle.table.specs.StateTable.{Held, OnLine}
 
 -- a run that goes on

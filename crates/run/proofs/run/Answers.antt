@@ -1,4 +1,4 @@
--- `run::run` meets its contract: it lends nothing but the two tables.
+-- It lends nothing but the two tables.
 use Rattle.rules.specs.Calls.{run_call}
 use Rattle.run.proofs.run.Goals as goal
 

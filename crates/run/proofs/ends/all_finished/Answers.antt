@@ -1,16 +1,13 @@
--- `run::ends::all_finished` meets its contract: before turn t the threads before t have no frames; past the sixteenth there is none.
-use native.Mathlib.Omega.{arith}
-use Rattle.run.proofs.EndLaws.{before_the_first, one_unfinished, one_finished, no_thread_left}
+-- The threads are asked one after the other; past the sixteenth there is none.
+use mathlib.Core.Path.{refl}
+use Rattle.std.proofs.Common.{rules, tests}
+use Rattle.std.proofs.lemmas.Iterator.{YieldsList-from_range, cases_from_all}
+use Rattle.run.proofs.EndLaws.{NoFrames, SomeFrames, finished_asked}
 use Rattle.run.proofs.ends.all_finished.Goals as goal
 
-pub loop-t-init : goal.loop-t-init
-loop-t-init c = (omega arith, before_the_first c.args.s.now)
-
-pub returns-then-frame_count-ne0 : goal.returns-then-frame_count-ne0
-returns-then-frame_count-ne0 c = one_unfinished c.loop-t.invariant.1 c.frame_count.ensures.sees c.if-frame_count-ne0.true _
-
-pub loop-t-preserved : goal.loop-t-preserved
-loop-t-preserved c = (omega arith, one_finished c.loop-t.invariant.1 c.frame_count.ensures.sees c.if-frame_count-ne0.false)
-
 pub returns : goal.returns
-returns c = no_thread_left c.loop-t.invariant.1 c.loop-t-test.false
+returns c =
+    let s = c.args.s.now in
+    finished_asked s c.all.result
+    (cases_from_all _ _ c.all.result (NoFrames s) (SomeFrames s) c.all.ensures.ran (YieldsList-from_range 0 16 16 refl refl)
+    (λ t q k. (search (rules, tests), search (rules, tests))) (λ t q k. search (rules, tests)))

@@ -1,19 +1,18 @@
--- `run::ends::all_wait` meets its contract: before turn t the threads before t would wait; one that would not is one of all.
-use native.Mathlib.Omega.{arith}
-use Rattle.run.proofs.EndLaws.{none_asked, one_waits, one_does_not, all_asked}
+-- The threads are asked one after the other; one that would not wait is one of all.
+use mathlib.Core.Path.{refl}
+use mathlib.Core.Bool.{true, false}
+use native.Mathlib.Nat.{sub-zero}
+use Rattle.std.proofs.Common.{rules, tests}
+use Rattle.std.proofs.lemmas.Iterator.{YieldsList-from_range, cases_from_all}
+use Rattle.turn.specs.Performed.{WouldWait}
+use Rattle.run.proofs.EndLaws.{wait_asked}
 use Rattle.run.proofs.ends.all_wait.Goals as goal
 
-pub loop-t-init : goal.loop-t-init
-loop-t-init c =
-    let a = c.args in
-    (omega arith, none_asked a.p.now a.s.now)
-
-pub returns-then-not-would_wait : goal.returns-then-not-would_wait
-returns-then-not-would_wait c =
-    one_does_not c.would_wait.ensures c.thread_count-n.ensures.sees c.loop-t-test.true c.if-not-would_wait.true-raw
-
-pub loop-t-preserved : goal.loop-t-preserved
-loop-t-preserved c = (omega arith, one_waits c.would_wait.ensures c.loop-t.invariant.1 c.if-not-would_wait.false-raw)
-
 pub returns : goal.returns
-returns c = all_asked c.loop-t.invariant.1 c.thread_count-n.ensures.sees (omega arith)
+returns c =
+    let p = c.args.p.now in
+    let s = c.args.s.now in
+    let n = c.thread_count.result in
+    wait_asked p s n c.all.result c.thread_count.ensures.sees
+    (cases_from_all _ _ c.all.result (λ t. WouldWait p s t true) (λ t. WouldWait p s t false) c.all.ensures.ran (YieldsList-from_range 0 n n refl (sub-zero n))
+    (λ t q k. search (rules, tests)) (λ t q k. search (rules, tests)))

@@ -1,4 +1,4 @@
--- `run::ends::end` meets its contract: the two answers are the two tests of the end.
+-- The two answers are the two tests of the end.
 use Rattle.run.proofs.EndLaws.{ends_finished, ends_stuck, ends_open}
 use Rattle.run.proofs.ends.end.Goals as goal
 
