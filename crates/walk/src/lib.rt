@@ -55,8 +55,7 @@ impl<'a> Met<'a> {
     }
 }
 
-// Walks a value: an object that is not met yet is met, and its fields are walked, in order. The first n words of `order` are the objects met, and
-// `places` has one more than the place of each, 0 for an object not met. Answers how many are met then. The objects not yet met fall.
+// The same on lists that are the caller's own, of which the first n words of `order` are the objects met; answers how many are met then.
 pub fn walk(s: &[u16], places: &mut [u16], order: &mut [u16], n: usize, v: Value) -> usize
     requires { (8192 ≤ length s.now) × (256 ≤ length places.old) × (256 ≤ length order.old) × InTable v × (n + unmet 256 places.old ≤ 256) }
     ensures walks { Walks s.now (tally places.old order.old n) (Of v) (λ S. v ∷ []) (tally places.new order.new result) }
