@@ -5,6 +5,7 @@ mod PartLaws
 mod OperandWords
 pub mod Many
 mod ItemLists
+mod Runs
 -- a form read part by part, and what is kept of it
 pub mod Told
 mod Telling

@@ -68,6 +68,9 @@ space_inside [] e h = absurd (false≢true h)
 space_inside (c ∷ s) zero h = omega arith
 space_inside (c ∷ s) (suc e) h = omega (arith, space_inside s e h)
 
+pub at_space : (s : List ℕ) (e : ℕ) → get_or s e 0 ≡ space → e < length s
+at_space s e h = space_inside s e (eq-eqb (get_or s e 0) space h)
+
 module _ {A : Type 0} (p : List ℕ → Taken A) (short : Shortens p) where
   -- the bound plays no part where it is at least the text's length
   many_enough : (k j : ℕ) (l : List ℕ) → length l ≤ k → length l ≤ j → many p k l ≡ many p j l

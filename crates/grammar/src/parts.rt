@@ -6,7 +6,7 @@ ghost use Rattle.rules.specs.Templates.{took, unfit, number, operand, capability
 ghost use Rattle.rules.specs.Mosts as Most;
 ghost use Rattle.rules.specs.Tables.{operand_of, cap_of};
 ghost use Rattle.grammar.specs.Parts.{Digit, told};
-ghost use Rattle.grammar.specs.Items.{Listed, Adds, NumbersAt, OperandsAt};
+ghost use Rattle.grammar.specs.Items.{Listed, Adds, ItemsBy, NumbersAt, OperandsAt};
 
 use super::words::{begins_at, both, byte, either};
 
@@ -208,20 +208,35 @@ fn with_item(l: Items, item: u16, number: u16) -> Items
     next
 }
 
+// Items one after the other, each after a space: `part` reads one at a place, and its number is its word by `per`.
+#[inline(always)]
+fn items_at<F: Fn(usize) -> Option<Part>>(s: &[u8], at: usize, part: F, per: u16) -> Option<Items>
+    requires short { (length s.now ≤ 65536) × (at ≤ 65800) × (1 ≤ per) }
+    requires callable { (p : _) → p ≤ 65536 → F.pre part p }
+    requires bounded { (p : _) (r : _) → p ≤ 65536 → F.post part p r → IfSome r (λ x. (x.word ≤ 1999) × (p ≤ x.end) × (x.end ≤ p + 10)) }
+    ensures items { ItemsBy (F.post part) per s.now at result }
+    ensures at_le_end { IfSome result (λ l. (at ≤ l.end) × (l.end ≤ 65800)) }
+{
+    let mut l = no_items(at);
+    while byte(s, l.end) == b' ' {
+        let w = part(l.end + 1)?;
+        let number = w.word / per;
+        let mut next = with_item(l, w.word + 1, number);
+        next.end = w.end;
+        next.need = l.need.max(number + 1);
+        next.own = either(l.own, w.word == 1);
+        l = next;
+    }
+    Some(l)
+}
+
 // " B ..": the method blocks of a kind.
 pub fn numbers_at(s: &[u8], at: usize) -> Option<Items>
     requires { (length s.now ≤ 65536) × (at ≤ 65800) }
     ensures numbers_at { NumbersAt s.now at result }
     ensures at_le_end { IfSome result (λ l. (at ≤ l.end) × (l.end ≤ 65800)) }
 {
-    let mut l = no_items(at);
-    while byte(s, l.end) == b' ' {
-        let w = number_at(s, l.end + 1)?;
-        let mut next = with_item(l, w.word + 1, w.word);
-        next.end = w.end;
-        l = next;
-    }
-    Some(l)
+    items_at(s, at, |place| number_at(s, place), 1)
 }
 
 // " W ..": the operands of a new.
@@ -230,15 +245,5 @@ pub fn operands_at(s: &[u8], at: usize) -> Option<Items>
     ensures operands_at { OperandsAt s.now at result }
     ensures at_le_end { IfSome result (λ l. (at ≤ l.end) × (l.end ≤ 65800)) }
 {
-    let mut l = no_items(at);
-    while byte(s, l.end) == b' ' {
-        let w = operand_at(s, l.end + 1)?;
-        let slot = w.word / 2;
-        let mut next = with_item(l, w.word + 1, slot);
-        next.end = w.end;
-        next.need = l.need.max(slot + 1);
-        next.own = either(l.own, w.word == 1);
-        l = next;
-    }
-    Some(l)
+    items_at(s, at, |place| operand_at(s, place), 2)
 }
