@@ -26,9 +26,9 @@ ALLOWED = [
     ('walk::walk', ITSELF, 'the objects that a copy meets, each once'),
     ('turn::any_foreign_met', 'while i < count', 'the objects that a copy has met'),
     ('turn::add_copies', ITSELF, 'the objects that a copy has met'),
-    ('run::all_finished', 'while t < 16', 'at the end, the threads: whether one has a frame'),
-    ('run::all_wait', 'while t < n', 'at the end, the threads: whether each would wait'),
-    ('run::play_from', 'while i < turns.len()', 'the turns'),
+    ('run::all_finished', '(0..16).all', 'at the end, the threads: whether one has a frame'),
+    ('run::all_wait', '(0..table::thread_count(s) as usize).all', 'at the end, the threads: whether each would wait'),
+    ('run::play_from', 'for i in from..turns.len()', 'the turns'),
     ('run::play', 'loop', 'the stretches of turns between copies'),
 ]
 # What stands beside these and is for others: the writer, and the stripped script.
@@ -63,6 +63,7 @@ FOUND = [
     ('turn', 'fn met(marks: &[bool; 256]) -> bool {\n    marks[1..].contains(&true)\n}'),
     ('table', 'fn clear_frame(s: &mut [u16]) {\n    s[at..at + 8192].fill(0);\n}'),
     ('turn', 'fn same(s: &[u16], t: &[u16]) -> bool {\n    &s[..8192] != t\n}'),
+    ('run', 'fn end(s: &[u16]) -> bool {\n    (0..table::object_count(s)).all(|o| table::holder_count(s, o) == 0)\n}'),
 ]
 PASSED = [
     ('turn', '// a while over all objects, or a loop\nfn put(s: &mut [u16]) {\n    table::put(s);\n}'),
@@ -74,7 +75,7 @@ PASSED = [
     ('turn', 'fn take_slot(s: &mut [u16]) {\n    table::take_slot(s);\n}'),
     ('run', 'use turn::perform;\nfn turn(s: &mut [u16]) {\n    perform(s);\n}'),
     ('rules', 'const WORD: [u8; 7] = *b"while (";'),
-    ('run', 'fn all_finished(s: &[u16]) -> bool {\n    let mut t: usize = 0;\n    while t < 16 { // every thread\n        t += 1;\n    }\n    true\n}'),
+    ('run', 'fn all_finished(s: &[u16]) -> bool {\n    (0..16).all(|t| table::frame_count(s, t) == 0)\n}'),
     ('walk', 'pub fn walk(s: &[u16], v: Value) {\n    for j in 0..4 {\n        walk(s, v);\n    }\n}'),
     ('table', 'pub fn erase_state(s: &mut [u16]) {\n    for o in 0..256 {\n        erase_object(s, o);\n    }\n}'),
     ('table', 'fn clear_frame(s: &mut [u16]) {\n    s[h.frame..h.frame + 19].fill(0);\n}'),
@@ -85,9 +86,10 @@ PASSED = [
 BELOW = below()
 
 
-# The library's methods that go over a slice, each with what stands before it, and slices compared.
+# The library's methods that go over a slice, each with what stands before it, slices compared, and what is asked over a range of numbers.
 OVER = (r'[\w.]+(?:\[[^\]]*\])?\.(?:iter|iter_mut|into_iter|chunks|windows|split|fill|copy_from_slice|clone_from_slice|copy_within|contains'
-        r'|starts_with|ends_with|reverse|rotate_left|rotate_right|sort|sort_unstable|binary_search|swap_with_slice|concat)(?=\()|&\w+\[[^\]]*\.\.[^\]]*\] [!=]=')
+        r'|starts_with|ends_with|reverse|rotate_left|rotate_right|sort|sort_unstable|binary_search|swap_with_slice|concat)(?=\()|&\w+\[[^\]]*\.\.[^\]]*\] [!=]='
+        r'|\((?:[^()]|\([^()]*\))*\.\.(?:[^()]|\([^()]*\))*\)\.\w+')
 
 
 def code(source):
