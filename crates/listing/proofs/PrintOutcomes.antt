@@ -1,28 +1,20 @@
 -- The run's text: the answer's line and, where the run was made, the lines of the state that it left. A long output holds it.
-use Prim.Native.Nat.{ℕ, ◌≤◌, ◌<◌}
-use native.Mathlib.Omega.{arith}
-use mathlib.Core.Path.{◌≡◌, refl, sym, ap, ◌∙◌}
-use mathlib.Core.Bool.{true, false, ◌||◌}
-use mathlib.Core.List.{List, []}
-use lib.Dec.{ltb}
-use lib.ListN.{length, drop, length-append}
-use borrow.Author.Tests.{lt-ltb, le-ltb}
+use Rattle.std.proofs.Common.{ℕ, ◌≤◌, ◌<◌, arith, ◌≡◌, refl, sym, ap, ◌∙◌, true, false, ◌||◌, List, [], ltb, length, drop, length-append, lt-ltb, le-ltb, Result, Ok, Err}
 use Rattle.rules.specs.Mosts as Most
 use Rattle.rules.specs.Mosts.{mosts}
 use Rattle.rules.specs.Reading.{Reading, reading}
-use Rattle.rules.specs.Run as R
-use Rattle.rules.specs.Run.{finished, stuck, open_end, refused, ended, halted, run, answer}
+use Rattle.rules.specs.Run.{run}
 use Rattle.rules.specs.Calls.{long_text, long_turns, inputs}
 use Rattle.rules.specs.Listing.{answer_line, state_lines, listing}
 use Rattle.rules.specs.Input.{ran_on, printed}
 use Rattle.rules.proofs.ListLaws.{impossible, by_bool}
 use Rattle.table.specs.ProgramTable.{fresh_table}
 use Rattle.table.specs.StateTable.{Any}
-use Rattle.run.specs.declared.Answer.{Answer}
-use Rattle.run.specs.RunAnswers.{answer_of, is_refusal}
+use Rattle.run.specs.declared.Outcome.{Outcome}
 use Rattle.run.specs.Made.{Made, Makes}
 use Rattle.run.proofs.AnswerTells.{made_is, refused_is}
-use Rattle.std.specs.Prelude.{Result, Ok, Err}
+use Rattle.std.specs.Result.{is_ok}
+use Rattle.rules.specs.declared.faults.Fault.TheVariants.{ShortTable}
 use Rattle.rules.specs.declared.faults.Refusal.{Refusal}
 use Rattle.buffer.specs.declared.Output.{Output}
 use Rattle.buffer.specs.Writing.{Wrote as WroteAt}
@@ -32,32 +24,20 @@ use Rattle.listing.specs.Outputs.{run_text, output_bytes, short_refusal, printed
 use Rattle.buffer.proofs.Appends.{front_is}
 use Rattle.buffer.proofs.Outputs.{◌▹◌, same_text, at_front}
 
--- ---- The answer's line
-
-answer_line_lem : (x : R.Answer) → answer_text (answer_of x) ≡ answer_line x
-answer_line_lem (refused k n) = refl
-answer_line_lem (ended finished m) = refl
-answer_line_lem (ended stuck m) = refl
-answer_line_lem (ended open_end m) = refl
-answer_line_lem (halted k t b l m) = refl
-
 -- ---- The run's text, of what the inputs come to
 
-module _ (turns p s : List ℕ) (a : Answer) where
-  refused_text : (C : Reading) → Made C turns a p s → is_refusal a ≡ true → answer_text a ≡ printed (ran_on mosts turns C)
-  refused_text C made refusal =
-      let away = refused_is turns p s C made refusal in
-      ap answer_text away.answer ∙ sym (ap (λ (x : Reading). printed (ran_on mosts turns x)) away.is)
+module _ (turns p s : List ℕ) {a : Result Outcome Refusal} where
+  refused_text : (C : Reading) {e : Refusal} → Made C turns a p s → a ≡ Err e → answer_text a ≡ printed (ran_on mosts turns C)
+  refused_text C made is = ap answer_text is ∙ sym (ap (λ (x : Reading). printed (ran_on mosts turns x)) (refused_is turns p s C made is))
 
-  made_text : {o o₁ o₂ : Output} (C : Reading) → Made C turns a p s → is_refusal a ≡ false → Wrote 40 o o₁ (answer_text a)
+  made_text : {o o₁ o₂ : Output} (C : Reading) {x : Outcome} → Made C turns a p s → a ≡ Ok x → Wrote 40 o o₁ (answer_text a)
       → Writes 26368 s o₁ o₂ Any state_lines → Wrote 26408 o o₂ (printed (ran_on mosts turns C))
   unfolding listing
   made_text C made e w ws =
       let one = made_is turns p s C made e in
       let P = one.program in
       let S = (run mosts P turns).state in
-      let line : answer_text a ≡ answer_line (answer mosts P (run mosts P turns)) = ap answer_text one.holds.answers ∙ answer_line_lem (answer mosts P (run mosts P turns)) in
-      rw one.is (same_text 26408 refl (omega arith) (same_text 40 line (omega arith) w ▹ ws.writes P Most.turns S [] one.holds.held one.holds.fits tt))
+      rw one.is (same_text 40 (ap answer_line one.holds.answers) (omega arith) w ▹ ws.writes P Most.turns S [] one.holds.held one.holds.fits tt)
 
 -- ---- What the printing answers and leaves
 
@@ -82,6 +62,10 @@ written_fits text l {l₁ = l₁} {m = m} answers leaves written = by_bool (ltb 
     let count : m ≡ length text = let all = rw long at answers in cc in
     omega (arith, count, ap length after, length-append text (drop (length text) l)))
 
+-- a refusal made of its fault and line 0
+pub short_is : {r : Refusal} → r.fault ≡ ShortTable → r.line ≡ 0 → r ≡ short_refusal
+short_is fault line = λ i. record { fault = fault i; line = line i }
+
 -- in an output that must have more room: it is short; or what was printed as a run is printed there
 pub short_in : (room : ℕ) (text l : List ℕ) → length l < room → (Err short_refusal ≡ printed_in room text l) × (l ≡ output_in room text l)
 short_in room text l short = rw (lt-ltb (length l) room short) (refl, refl)
@@ -95,21 +79,24 @@ pub short_output : (text l : List ℕ) → length l < output_bytes → (Err shor
 unfolding printed_of output_after
 short_output text l short = short_in output_bytes text l short
 
-module _ (text turns : List ℕ) {a : Answer} {program state p s : List ℕ} (program-fresh : program ≡ fresh_table) (state-fresh : state ≡ fresh_table)
-    (made : Makes text turns false program state a p s) where
-  by_inputs : Made (reading mosts (long_text text || long_turns turns) false text) turns a p s
+module _ (text turns : List ℕ) {program state p s : List ℕ} (program-fresh : program ≡ fresh_table) (state-fresh : state ≡ fresh_table) where
+  by_inputs : {a : Result Outcome Refusal} → Makes text turns false program state a p s → Made (reading mosts (long_text text || long_turns turns) false text) turns a p s
   unfolding inputs
-  by_inputs = made.makes program-fresh state-fresh
+  by_inputs made = made.makes program-fresh state-fresh
 
-  module _ {l : List ℕ} {o o₁ : Output} (long : output_bytes ≤ length l) (start : o.at ≡ 0) (content : o.buf.now ≡ l) (w : Wrote 40 o o₁ (answer_text a)) where
-    pub prints_refusal : {l₁ : List ℕ} → l₁ ≡ o₁.buf.now → is_refusal a ≡ true → Prints (run_text text turns) l o₁.at l₁
+  module _ {l : List ℕ} {o o₁ : Output} (long : output_bytes ≤ length l) (start : o.at ≡ 0) (content : o.buf.now ≡ l) where
+    pub prints_refusal : (a : Result Outcome Refusal) {l₁ : List ℕ} → Makes text turns false program state a p s → Wrote 40 o o₁ (answer_text a)
+        → l₁ ≡ o₁.buf.now → is_ok a ≡ false → Prints (run_text text turns) l o₁.at l₁
     unfolding run_text
-    prints_refusal left refusal =
+    prints_refusal (Ok x) made w left e = impossible cc
+    prints_refusal (Err e) made w left is =
         in_output (run_text text turns) long
-        (at_front start content left (same_text 40 (refused_text turns p s a (reading mosts (long_text text || long_turns turns) false text) by_inputs refusal) (omega arith) w))
+        (at_front start content left (same_text 40 (refused_text turns p s (reading mosts (long_text text || long_turns turns) false text) (by_inputs made) refl) (omega arith) w))
 
-    pub prints_run : {l₁ : List ℕ} {o₂ : Output} → l₁ ≡ o₂.buf.now → is_refusal a ≡ false → Writes 26368 s o₁ o₂ Any state_lines → Prints (run_text text turns) l o₂.at l₁
+    pub prints_run : (a : Result Outcome Refusal) {l₁ : List ℕ} {o₂ : Output} → Makes text turns false program state a p s → Wrote 40 o o₁ (answer_text a)
+        → l₁ ≡ o₂.buf.now → is_ok a ≡ true → Writes 26368 s o₁ o₂ Any state_lines → Prints (run_text text turns) l o₂.at l₁
     unfolding run_text
-    prints_run left e ws =
+    prints_run (Err e) made w left is ws = impossible cc
+    prints_run (Ok x) made w left is ws =
         in_output (run_text text turns) long
-        (at_front start content left (made_text turns p s a (reading mosts (long_text text || long_turns turns) false text) by_inputs e w ws))
+        (at_front start content left (made_text turns p s (reading mosts (long_text text || long_turns turns) false text) (by_inputs made) refl w ws))

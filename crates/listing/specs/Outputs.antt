@@ -2,12 +2,11 @@
 use Rattle.std.specs.Prelude.{ℕ, Result, Ok, Err, false, ◌||◌, cond, List, ◌++◌, ltb, length, drop}
 use Rattle.rules.specs.Mosts.{mosts}
 use Rattle.rules.specs.Reading.{reading}
-use Rattle.rules.specs.Run.{finished, stuck, open_end, refused, ended, halted}
 use Rattle.rules.specs.Calls.{long_text, long_turns}
 use Rattle.rules.specs.Listing.{answer_line}
 use Rattle.rules.specs.Input.{ran_on, printed}
-use Rattle.run.specs.declared.Answer as Run
-use Rattle.run.specs.declared.Answer.TheVariants as R
+use Rattle.run.specs.declared.Outcome.{Outcome}
+use Rattle.run.specs.RunAnswers.{told}
 use Rattle.rules.specs.declared.faults.Fault.TheVariants.{ShortTable}
 use Rattle.rules.specs.declared.faults.Refusal.{Refusal}
 
@@ -37,10 +36,6 @@ printed_of text output = printed_in output_bytes text output
 unfoldable pub output_after : (text output : List ℕ) → List ℕ
 output_after text output = output_in output_bytes text output
 
--- the line of what the run answers, from the code's enum
-abbrev pub answer_text : Run.Answer → List ℕ
-answer_text (R.Refused k n) = answer_line (refused k n)
-answer_text (R.Finished m) = answer_line (ended finished m)
-answer_text (R.Stuck m) = answer_line (ended stuck m)
-answer_text (R.Open m) = answer_line (ended open_end m)
-answer_text (R.Stopped k t b l m) = answer_line (halted k t b l m)
+-- the line of what the run answers
+abbrev pub answer_text : Result Outcome Refusal → List ℕ
+answer_text r = answer_line (told r)

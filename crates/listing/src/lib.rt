@@ -30,18 +30,14 @@ fn print_on(
     ensures output_after { output.new ≡ output_after (run_text text.now turns.now) output.old }
 {
     if output.len() < 32768 {
-        return Err(Refusal {
-            fault: Fault::ShortTable,
-            line: 0,
-        });
+        return Err(Fault::ShortTable.at(0));
     }
     let answer = run::make(text, turns, false, program, state);
     let mut out = Output::new(output);
     put_answer(&mut out, answer);
-    if run::is_refusal(answer) {
-        return Ok(out.at);
+    if answer.is_ok() {
+        put_state(&mut out, state);
     }
-    put_state(&mut out, state);
     Ok(out.at)
 }
 
@@ -62,10 +58,7 @@ pub fn print_refusal(number: u16, line: usize, output: &mut [u8]) -> Result<usiz
     ensures output_after { output.new ≡ output_after (answer_line (refused number line)) output.old }
 {
     if output.len() < 32768 {
-        return Err(Refusal {
-            fault: Fault::ShortTable,
-            line: 0,
-        });
+        return Err(Fault::ShortTable.at(0));
     }
     let mut out = Output::new(output);
     put_refused(&mut out, number, line);

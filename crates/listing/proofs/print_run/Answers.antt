@@ -1,5 +1,5 @@
 -- `listing::print_run` meets its contract: its own tables are fresh, and do not show in what is printed.
-use mathlib.Core.Path.{refl}
+use Rattle.std.proofs.Common.{refl}
 use Rattle.table.specs.ProgramTable.{fresh_table}
 use Rattle.listing.proofs.print_run.Goals as goal
 

@@ -1,7 +1,6 @@
 -- `listing::answers::put_ended` meets its contract: the parts of its line, one after the other.
-use mathlib.Core.Path.{refl}
+use Rattle.std.proofs.Common.{refl, rules}
 use Rattle.buffer.proofs.Outputs.{◌▹◌, same_text}
-use Rattle.std.proofs.Common.{rules}
 use Rattle.listing.proofs.answers.put_ended.Goals as goal
 
 pub returns : goal.returns

@@ -1,5 +1,5 @@
 -- `listing::answers::put_refused` meets its contract: the parts of its line, one after the other.
-use native.Mathlib.Omega.{arith}
+use Rattle.std.proofs.Common.{arith}
 use Rattle.buffer.proofs.Outputs.{◌▹◌, same_text}
 use Rattle.listing.proofs.LineTexts.{refused_line}
 use Rattle.listing.proofs.answers.put_refused.Goals as goal

@@ -1,7 +1,6 @@
 -- `listing::state_lines::put_channel` meets its contract: the parts of its line, one after the other.
-use native.Mathlib.Omega.{arith}
+use Rattle.std.proofs.Common.{arith, ◌∷◌}
 use Rattle.rules.specs.Text.{space}
-use mathlib.Core.List.{◌∷◌}
 use Rattle.rules.specs.State.{channel_at}
 use Rattle.rules.specs.Listing.{message_text}
 use Rattle.table.proofs.Places.{message_in_table}

@@ -1,7 +1,6 @@
 -- `listing::state_lines::put_channels` meets its contract: before turn c the lines of the channels below c are written.
-use native.Mathlib.Omega.{arith}
+use Rattle.std.proofs.Common.{arith, rules}
 use Rattle.listing.proofs.StateRows.{no_channel_yet, channel_after, all_channels}
-use Rattle.std.proofs.Common.{rules}
 use Rattle.listing.proofs.state_lines.put_channels.Goals as goal
 
 pub loop-c-init : goal.loop-c-init

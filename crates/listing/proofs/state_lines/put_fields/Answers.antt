@@ -1,7 +1,6 @@
 -- `listing::state_lines::put_fields` meets its contract: before turn j the first j fields are written.
-use native.Mathlib.Omega.{arith}
+use Rattle.std.proofs.Common.{arith, rules}
 use Rattle.listing.proofs.StateRows.{no_field_yet, field_after, all_fields}
-use Rattle.std.proofs.Common.{rules}
 use Rattle.listing.proofs.state_lines.put_fields.Goals as goal
 
 pub loop-j-init : goal.loop-j-init

@@ -1,5 +1,5 @@
 -- `listing::state_lines::put_object` meets its contract: the parts of its line, one after the other.
-use native.Mathlib.Omega.{arith}
+use Rattle.std.proofs.Common.{arith}
 use Rattle.rules.specs.State.{object_at}
 use Rattle.listing.proofs.StateTexts.{fixed, ◌▹◌, same_texts}
 use Rattle.listing.proofs.LineTexts.{object_line_lem}

@@ -1,8 +1,7 @@
 -- `listing::state_lines::put_objects` meets its contract: before turn o the lines of the objects below o are written.
-use native.Mathlib.Omega.{arith}
+use Rattle.std.proofs.Common.{arith, rules}
 use Rattle.rules.specs.Listing.{object_line}
 use Rattle.listing.proofs.StateRows.{no_object_yet, object_after, all_objects_lem}
-use Rattle.std.proofs.Common.{rules}
 use Rattle.listing.proofs.state_lines.put_objects.Goals as goal
 
 pub loop-o-init : goal.loop-o-init

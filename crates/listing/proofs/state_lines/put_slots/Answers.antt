@@ -1,7 +1,6 @@
 -- `listing::state_lines::put_slots` meets its contract: before turn i the first i slots are written.
-use native.Mathlib.Omega.{arith}
+use Rattle.std.proofs.Common.{arith, rules}
 use Rattle.listing.proofs.StateRows.{no_slot_yet, slot_after, all_slots}
-use Rattle.std.proofs.Common.{rules}
 use Rattle.listing.proofs.state_lines.put_slots.Goals as goal
 
 pub loop-i-init : goal.loop-i-init

@@ -1,6 +1,5 @@
 -- `listing::state_lines::put_thread` meets its contract: a thread without frames is finished; otherwise the last frame is its innermost.
-use native.Mathlib.Omega.{arith}
-use mathlib.Core.Path.{refl}
+use Rattle.std.proofs.Common.{arith, refl}
 use Rattle.listing.proofs.StateTexts.{fixed, ◌▹◌}
 use Rattle.listing.proofs.StateRows.{finished_thread, running_thread}
 use Rattle.listing.proofs.state_lines.put_thread.Goals as goal

@@ -1,5 +1,5 @@
 -- `listing::state_lines::put_traits` meets its contract: the parts one after the other, each of what was read.
-use mathlib.Core.List.{◌∷◌}
+use Rattle.std.proofs.Common.{◌∷◌}
 use Rattle.rules.specs.Text.{space}
 use Rattle.rules.specs.Templates.{cap_word, print_many}
 use Rattle.buffer.specs.Writing.{number_part}

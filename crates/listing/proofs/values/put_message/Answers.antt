@@ -1,6 +1,5 @@
 -- `listing::values::put_message` meets its contract: an empty channel, or its message as a value.
-use native.Mathlib.Omega.{arith}
-use mathlib.Core.Path.{refl}
+use Rattle.std.proofs.Common.{arith, refl}
 use Rattle.buffer.proofs.Outputs.{same_text}
 use Rattle.rules.specs.Listing.{message_text}
 use Rattle.listing.proofs.values.put_message.Goals as goal

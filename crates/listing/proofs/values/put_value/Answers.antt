@@ -1,5 +1,5 @@
 -- `listing::values::put_value` meets its contract: each variant has its own text.
-use native.Mathlib.Omega.{arith}
+use Rattle.std.proofs.Common.{arith}
 use Rattle.buffer.proofs.Outputs.{◌▹◌, same_text}
 use Rattle.listing.proofs.LineTexts.{is_absent_lem, is_object, is_channel_lem}
 use Rattle.listing.proofs.values.put_value.Goals as goal
