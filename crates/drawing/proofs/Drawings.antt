@@ -1,15 +1,12 @@
 -- The drawing in the buffer: of a table that holds a run, and then of a run's inputs as lent.
-use Prim.Native.Nat.{ℕ, ◌≤◌, ◌<◌}
-use native.Mathlib.Omega.{arith}
-use mathlib.Core.Path.{◌≡◌, refl, sym, ap, ◌∙◌, subst}
-use mathlib.Core.Bool.{false}
-use mathlib.Core.List.{List}
-use lib.Dec.{ltb}
-use lib.ListN.{length, drop}
-use borrow.Author.Tests.{ltb-false}
+use Rattle.std.proofs.Common.{ℕ, ◌≤◌, ◌<◌, arith, ◌≡◌, refl, sym, ap, ◌∙◌, subst, List, ltb, length, drop, ltb-false, inl, inr, ◌⊎◌, Result, Ok, Err}
+use Rattle.rules.specs.declared.faults.Fault.TheVariants.{ShortTable}
+use Rattle.rules.specs.declared.faults.Refusal.{Refusal}
 use Rattle.rules.specs.Mosts as Most
 use Rattle.rules.specs.Mosts.{mosts}
 use Rattle.rules.specs.Numbers as No
+use Rattle.rules.specs.Numbers.{number}
+use Rattle.rules.specs.Refusals.{Refuses}
 use Rattle.rules.specs.Reading.{Reading, turned_away}
 use Rattle.rules.specs.Run.{run}
 use Rattle.rules.specs.Calls.{short_table, inputs, lent_inputs}
@@ -17,57 +14,61 @@ use Rattle.rules.specs.Drawing.{drawing, draw_call, drawn, drawn_of}
 use Rattle.rules.proofs.ListLaws.{or_false}
 use Rattle.rules.proofs.Accepted.{reading_accepted}
 use Rattle.table.specs.StateTable.{Any}
-use Rattle.buffer.specs.Writing.{Wrote}
+use Rattle.buffer.specs.declared.Output.{Output}
+use Rattle.buffer.specs.Writing.{Wrote as WroteAt}
 use Rattle.buffer.proofs.Appends.{front_is}
+use Rattle.buffer.proofs.Outputs.{at_front}
 use Rattle.listing.specs.StateWriting.{Writes}
-use Rattle.run.specs.declared.Answer.{Answer}
-use Rattle.run.specs.declared.Answer.TheVariants.{Refused}
-use Rattle.run.specs.RunAnswers.{is_refusal, Ran}
+use Rattle.run.specs.declared.Outcome.{Outcome}
+use Rattle.run.specs.RunAnswers.{told, Ran}
 use Rattle.run.proofs.AnswerTells.{refusal_is}
 use Rattle.run.proofs.Answering.{Stands, ran_stands}
-use Rattle.drawing.specs.declared.Drawn.{Drawn}
-use Rattle.drawing.specs.declared.Drawn.TheVariants as T
 use Rattle.drawing.specs.Drawings.{Drew, DrawsState, HasDrawn}
 
 -- ---- Of a table
 
 -- what is too short is refused
-pub no_table : {s buffer : List ℕ} → length s < Most.words → DrawsState s buffer (T.Refused No.short_table 0) buffer
-no_table short = record { draws = λ s-long long P n S rest held fits. absurd (omega arith); refuses = λ some. (refl, refl) }
+pub too_short : {s buffer : List ℕ} {f : Refusal} → f.fault ≡ ShortTable → f.line ≡ 0 → (length s < Most.words) ⊎ ((Most.words ≤ length s) × (length buffer < Most.drawing))
+    → DrawsState s buffer (Err f) buffer
+too_short {f = f} fault line short =
+    record {
+      draws = λ s-long long P n S rest held fits. absurd (elim short [ inl a ↦ omega (arith, a, s-long) | inr b ↦ omega (arith, b.1, long) ]);
+      refuses = λ some. (record { refusal = f; is = refl; number_is = ap number fault; line_is = line }, refl);
+    }
 
-pub no_buffer : {s buffer : List ℕ} → length buffer < Most.drawing → DrawsState s buffer (T.Refused No.short_table 0) buffer
-no_buffer short = record { draws = λ s-long long P n S rest held fits. absurd (omega arith); refuses = λ some. (refl, refl) }
+drew : {k r : ℕ} {buffer buffer₁ : List ℕ} (text : List ℕ) → WroteAt k buffer buffer₁ 0 r text → Drew (drawn text) buffer (Ok r) buffer₁
+drew text w = let front = front_is w in record { answers = ap Ok front.1; leaves = front.0 }
 
-drew : {k r : ℕ} {buffer buffer₁ : List ℕ} (text : List ℕ) → Wrote k buffer buffer₁ 0 r text → Drew (drawn text) buffer (T.Written r) buffer₁
-drew text w = let front = front_is w in record { answers = ap T.Written front.1; leaves = front.0 }
-
-pub drawn_there : {k r : ℕ} {s buffer buffer₁ : List ℕ} → Most.words ≤ length s → Most.drawing ≤ length buffer → Writes k s buffer buffer₁ 0 r Any drawing
-    → DrawsState s buffer (T.Written r) buffer₁
-drawn_there s-fits fits-there w =
-    record { draws = λ s-long long P n S rest held fits. drew (drawing S) (w.writes P n S rest held fits tt); refuses = λ some. absurd (some s-fits fits-there) }
+pub drawn_there : {k : ℕ} {o o₁ : Output} {s buffer buffer₁ : List ℕ} → Most.words ≤ length s → Most.drawing ≤ length buffer
+    → o.at ≡ 0 → o.buf.now ≡ buffer → buffer₁ ≡ o₁.buf.now → Writes k s o o₁ Any drawing → DrawsState s buffer (Ok o₁.at) buffer₁
+drawn_there s-fits fits-there start content left w =
+    record {
+      draws = λ s-long long P n S rest held fits. drew (drawing S) (at_front start content left (w.writes P n S rest held fits tt));
+      refuses = λ some. absurd (some s-fits fits-there);
+    }
 
 -- ---- Of a run
 
-module _ (text turns program state buffer : List ℕ) {a : Answer} {p s : List ℕ}
+module _ (text turns program state buffer : List ℕ) {a : Result Outcome Refusal} {p s : List ℕ}
     (ran : Ran (lent_inputs mosts text turns program state (ltb (length buffer) Most.drawing)) turns program state a p s) where
   -- the run was turned away
-  pub draw_away : {k n : ℕ} → a ≡ Refused k n → HasDrawn (draw_call mosts text turns program state buffer) turns program state buffer (T.Refused k n) p s buffer
+  pub draw_away : {f : Refusal} → a ≡ Err f → HasDrawn (draw_call mosts text turns program state buffer) turns program state buffer (Err f) p s buffer
   unfolding draw_call
-  draw_away {k} {n} is =
+  draw_away {f} is =
       let C = lent_inputs mosts text turns program state (ltb (length buffer) Most.drawing) in
-      let away : C ≡ turned_away k n = refusal_is turns C (sym is ∙ ran.answers) in
+      let away : C ≡ turned_away (number f.fault) f.line = refusal_is turns C (sym (ap told is) ∙ ran.answers) in
       record {
-        drew = rw away (record { answers = refl; leaves = refl });
+        drew = rw away (record { answers = record { refusal = f; is = refl; number_is = refl; line_is = refl }; leaves = refl });
         program_is = ran.program_is;
         state_is = ran.state_is;
       }
 
   -- the run was made
-  module _ (e : is_refusal a ≡ false) where
+  module _ {x : Outcome} (e : a ≡ Ok x) where
     stands : Stands (lent_inputs mosts text turns program state (ltb (length buffer) Most.drawing)) turns state p s
     stands = ran_stands text turns program state (ltb (length buffer) Most.drawing) ran e
 
-    pub draw_told : {buffer₁ : List ℕ} {r : Drawn} → DrawsState s buffer r buffer₁
+    pub draw_told : {buffer₁ : List ℕ} {r : Result ℕ Refusal} → DrawsState s buffer r buffer₁
         → HasDrawn (draw_call mosts text turns program state buffer) turns program state buffer r p s buffer₁
     unfolding draw_call lent_inputs inputs
     draw_told {buffer₁} {r} draws =

@@ -1,14 +1,6 @@
 -- The lines of the graph: what a node's calls write is its line; and an object's edges, each one more than what is written so far.
-use Prim.Native.Nat.{ℕ, ◌+◌, ◌*◌, ◌≤◌, ◌<◌}
-use native.Mathlib.Nat.{zero-add}
-use native.Mathlib.Numerals.{add-one}
-use native.Mathlib.Omega.{arith}
-use mathlib.Core.Path.{◌≡◌, refl, ap}
-use mathlib.Core.List.{List, [], ◌++◌, append-nil}
-use lib.Dec.{ltb}
-use lib.ListN.{length, take, get_or-eq_default}
-use lib.Seq.{take_all}
-use borrow.Author.Tests.{ltb-false}
+use Rattle.std.proofs.Common.{ℕ, ◌+◌, ◌*◌, ◌≤◌, ◌<◌, zero-add, add-one, arith, ◌≡◌, refl, ap, List, [], ◌++◌, append-nil, ltb, length, take, take_all, ltb-false}
+use Rattle.std.proofs.Math.ListN.{get_or-eq_default}
 use Rattle.rules.specs.declared.Cap.{Cap}
 use Rattle.rules.specs.declared.Value.{Value}
 use Rattle.rules.specs.declared.Value.TheVariants.{Absent}
@@ -22,7 +14,8 @@ use Rattle.rules.proofs.ListLaws.{by_bool, below}
 use Rattle.rules.proofs.Keeps.{object_fits}
 use Rattle.table.specs.StateTable.{Sees, FieldIn}
 use Rattle.table.proofs.Places.{field_in}
-use Rattle.buffer.specs.Writing.{Wrote}
+use Rattle.buffer.specs.declared.Output.{Output}
+use Rattle.buffer.specs.Outputs.{Wrote}
 use Rattle.listing.specs.StateWriting.{Writes}
 use Rattle.listing.proofs.StateTexts.{of_seen, ◌▹◌, same_texts, none_yet}
 use Rattle.listing.proofs.LineTexts.{no_lines, line_next}
@@ -42,22 +35,22 @@ edge_next o vs j =
     past : length vs ≤ j → numbered (edge_line o) 0 (take j vs) ++ edge_line o j (slot_at vs j) ≡ numbered (edge_line o) 0 (take (j + 1) vs)
     past h = rw (get_or-eq_default vs Absent h, append-nil (numbered (edge_line o) 0 (take j vs)), take_all j vs h, take_all (j + 1) vs (omega arith)) refl
 
-module _ {s l : List ℕ} {at : ℕ} (o : ℕ) where
-  pub no_edge_yet : at ≤ length l
-      → Writes (34 * 0) s l l at at (λ S. o < length S.objects) (λ S. numbered (edge_line o) 0 (take 0 (object_at S.objects o).fields))
+module _ {s : List ℕ} {out : Output} (o : ℕ) where
+  pub no_edge_yet : out.at ≤ length out.buf.now
+      → Writes (34 * 0) s out out (λ S. o < length S.objects) (λ S. numbered (edge_line o) 0 (take 0 (object_at S.objects o).fields))
   no_edge_yet there = none_yet (34 * 0) (λ S. numbered (edge_line o) 0 []) (λ S. no_lines (edge_line o) 0) there
 
-  pub edge_after : {l₁ l₂ : List ℕ} {m r : ℕ} {v : Value} (j : ℕ)
-      → Writes (34 * j) s l l₁ at m (λ S. o < length S.objects) (λ S. numbered (edge_line o) 0 (take j (object_at S.objects o).fields))
-      → Sees s (FieldIn o j) (λ S. slot_at (object_at S.objects o).fields j) v → Wrote 34 l₁ l₂ m r (edge_line o j v)
-      → Writes (34 * (j + 1)) s l l₂ at r (λ S. o < length S.objects) (λ S. numbered (edge_line o) 0 (take (j + 1) (object_at S.objects o).fields))
+  pub edge_after : {out₁ out₂ : Output} {v : Value} (j : ℕ)
+      → Writes (34 * j) s out out₁ (λ S. o < length S.objects) (λ S. numbered (edge_line o) 0 (take j (object_at S.objects o).fields))
+      → Sees s (FieldIn o j) (λ S. slot_at (object_at S.objects o).fields j) v → Wrote 34 out₁ out₂ (edge_line o j v)
+      → Writes (34 * (j + 1)) s out out₂ (λ S. o < length S.objects) (λ S. numbered (edge_line o) 0 (take (j + 1) (object_at S.objects o).fields))
   edge_after j a seen w =
       same_texts (34 * (j + 1)) (λ P n S rest held fits made. edge_next o (object_at S.objects o).fields j) (omega arith)
       (a ▹ of_seen {Q = λ S. o < length S.objects} (edge_line o j) (λ P n S fits made. field_in fits o j made) seen w)
 
-  pub all_edges : {l₁ : List ℕ} {m : ℕ} (j : ℕ) → Most.fields ≤ j → j ≤ Most.fields
-      → Writes (34 * j) s l l₁ at m (λ S. o < length S.objects) (λ S. numbered (edge_line o) 0 (take j (object_at S.objects o).fields))
-      → Writes 136 s l l₁ at m (λ S. o < length S.objects) (λ S. edge_lines o (object_at S.objects o))
+  pub all_edges : {out₁ : Output} (j : ℕ) → Most.fields ≤ j → j ≤ Most.fields
+      → Writes (34 * j) s out out₁ (λ S. o < length S.objects) (λ S. numbered (edge_line o) 0 (take j (object_at S.objects o).fields))
+      → Writes 136 s out out₁ (λ S. o < length S.objects) (λ S. edge_lines o (object_at S.objects o))
   unfolding edge_lines
   all_edges j all few a =
       same_texts 136

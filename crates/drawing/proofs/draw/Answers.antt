@@ -1,13 +1,15 @@
 -- `drawing::draw` meets its contract: what turns the run away comes first; a run that was made is drawn.
-use Rattle.run.proofs.AnswerTells.{other_answers_made}
+use Rattle.std.proofs.lemmas.Result.{err_from_is_err_and}
 use Rattle.drawing.proofs.Drawings.{draw_away, draw_told}
 use Rattle.drawing.proofs.draw.Goals as goal
 
-pub returns-in-Refused : goal.returns-in-Refused
-returns-in-Refused c =
-    draw_away c.args.text.now c.args.turns.now c.args.program.now c.args.state.now c.args.buffer.now c.run_into-answer.ensures c.in-Refused.is
+pub returns-in_err-run_into : goal.returns-in_err-run_into
+returns-in_err-run_into c =
+    let a = c.args in
+    let away = err_from_is_err_and c.from_residual.result c.from_residual.ensures.1 in
+    rw (away.1, away.2) (draw_away a.text.now a.turns.now a.program.now a.state.now a.buffer.now c.run_into.ensures c.in_err-run_into.was)
 
-pub returns-in_default : goal.returns-in_default
-returns-in_default c =
-    draw_told c.args.text.now c.args.turns.now c.args.program.now c.args.state.now c.args.buffer.now c.run_into-answer.ensures
-    (other_answers_made c.run_into-answer.result c.in_default.not-Refused) c.draw_on.ensures
+pub returns : goal.returns
+returns c =
+    let a = c.args in
+    draw_told a.text.now a.turns.now a.program.now a.state.now a.buffer.now c.run_into.ensures c.in_ok-run_into.was c.draw_on.ensures

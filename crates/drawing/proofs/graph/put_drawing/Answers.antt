@@ -6,4 +6,4 @@ use Rattle.drawing.proofs.graph.put_drawing.Goals as goal
 pub returns : goal.returns
 unfolding drawing
 returns c =
-    fixed c.put_text-a.ensures ▹ c.put_nodes-b.ensures ▹ c.put_edges-c.ensures ▹ fixed c.put_text.ensures
+    fixed c.put_text.ensures ▹ c.put_nodes.ensures ▹ c.put_edges.ensures ▹ fixed c.put_text-2.ensures

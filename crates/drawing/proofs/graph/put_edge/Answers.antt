@@ -1,8 +1,8 @@
 -- `drawing::graph::put_edge` meets its contract: an object has its line, anything else none.
-use native.Mathlib.Omega.{arith}
+use Rattle.std.proofs.Common.{arith}
 use Rattle.rules.specs.Templates.{print}
 use Rattle.rules.specs.Drawing.{edge_line}
-use Rattle.buffer.proofs.Appends.{nothing, ◌▹◌}
+use Rattle.buffer.proofs.Outputs.{nothing, ◌▹◌}
 use Rattle.drawing.proofs.graph.put_edge.Goals as goal
 
 pub returns-in-Absent : goal.returns-in-Absent
@@ -19,4 +19,5 @@ pub returns-in-Obj : goal.returns-in-Obj
 unfolding edge_line print
 returns-in-Obj c =
     rw c.in-Obj.is
-    (c.put_text-a.ensures ▹ c.put_decimal-b.ensures ▹ c.put_text-c.ensures ▹ c.put_decimal-d.ensures ▹ c.put_text-e.ensures ▹ c.put_decimal-f.ensures ▹ c.put_text.ensures)
+    (c.put_text.ensures ▹ c.put_decimal.ensures ▹ c.put_text-in-Obj.ensures ▹ c.put_decimal-in-Obj.ensures ▹ c.put_text-in-Obj-2.ensures
+    ▹ c.put_decimal-in-Obj-2.ensures ▹ c.put_text-in-Obj-3.ensures)

@@ -1,34 +1,14 @@
 -- `drawing::graph::put_edges` meets its contract: before turn o the lines of the objects below o are written.
-use native.Mathlib.Omega.{arith}
+use Rattle.std.proofs.Common.{arith, rules}
 use Rattle.rules.specs.Drawing.{edge_lines}
 use Rattle.listing.proofs.StateRows.{no_object_yet, object_after, all_objects_lem}
-use Rattle.std.proofs.Common.{rules}
 use Rattle.drawing.proofs.graph.put_edges.Goals as goal
 
-pub object_count-n-requires : goal.object_count-n-requires
-object_count-n-requires c =
-    c.requires.1
-
 pub loop-o-init : goal.loop-o-init
-loop-o-init c = (search rules, search rules, no_object_yet edge_lines (search rules))
-
-pub put_fields-m-requires : goal.put_fields-m-requires
-put_fields-m-requires c =
-    (omega (arith, c.loop-o.invariant.2.most), c.requires.1, omega arith)
-
-pub loop-o-smaller : goal.loop-o-smaller
-loop-o-smaller c = omega arith
+loop-o-init c = no_object_yet edge_lines (search rules)
 
 pub loop-o-preserved : goal.loop-o-preserved
-loop-o-preserved c = (
-  omega arith,
-  search rules,
-  object_after edge_lines c.object_count-n.ensures.sees c.loop-o.o c.loop-o-test.true (omega arith) c.loop-o.invariant.2 c.put_fields-m.ensures,
-)
-
-pub shape_of-buf : goal.shape_of-buf
-shape_of-buf c = c.loop-o.invariant.1
+loop-o-preserved c = object_after edge_lines c.object_count-o-end.ensures.sees c.loop-o.o c.loop-o-test.true (omega arith) c.loop-o.invariant c.put_fields.ensures
 
 pub returns : goal.returns
-returns c =
-    all_objects_lem edge_lines c.object_count-n.ensures.sees c.loop-o.o c.loop-o-test.false (omega (arith, c.loop-o.invariant.0)) c.loop-o.invariant.2
+returns c = all_objects_lem edge_lines c.object_count-o-end.ensures.sees c.loop-o.o c.loop-o-test.false (search rules) c.loop-o.invariant

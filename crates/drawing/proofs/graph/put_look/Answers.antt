@@ -1,7 +1,6 @@
 -- `drawing::graph::put_look` meets its contract: the look of each capability.
-use native.Mathlib.Omega.{arith}
-use mathlib.Core.Path.{refl}
-use Rattle.buffer.proofs.Appends.{same_text}
+use Rattle.std.proofs.Common.{arith, refl}
+use Rattle.buffer.proofs.Outputs.{same_text}
 use Rattle.drawing.proofs.graph.put_look.Goals as goal
 
 pub returns-in-Imm : goal.returns-in-Imm
