@@ -6,9 +6,9 @@ use mathlib.Core.Path.{◌≡◌, refl, sym, ap, ◌∙◌, subst}
 use mathlib.Core.Bool.{Bool, true, false, not, ◌&&◌, ◌||◌, cond, or-false, or-true, or_assoc, or_comm, false≢true}
 use mathlib.Core.List.{List, [], ◌∷◌, map}
 use mathlib.Core.Logic.{inl, inr}
-use lib.Dec.{T, ltb, leb, eqb}
+use lib.Dec.{T, ltb, leb}
 use lib.ListN.{get_or}
-use borrow.Author.Tests.{lt-ltb, le-ltb, leb-true, leb-false, ltb-true, ltb-false, eqb-true, ne_eqb, not-true}
+use borrow.Author.Tests.{lt-ltb, le-ltb, leb-true, leb-false, ltb-true, ltb-false, not-true}
 use mir.Val.{has_key}
 use Rattle.std.specs.Prelude.{Result}
 use Rattle.rules.specs.declared.Cap.{Cap}
@@ -31,6 +31,9 @@ use Rattle.grammar.specs.declared.forms.Line.{Line}
 use Rattle.grammar.specs.Items.{past}
 use Rattle.grammar.specs.Decoded.{over_line, Tells}
 use Rattle.table.specs.ProgramTable.{sort_number}
+use Rattle.reader.specs.contracts.faults.Place as C
+use Rattle.reader.specs.declared.faults.Place.{Place as CodePlace}
+use Rattle.reader.specs.declared.faults.Place.TheVariants as P
 use Rattle.reader.specs.declared.faults.Sofar.{Sofar}
 use Rattle.reader.specs.Sofar.{place_of, edition_of, so_far, full_before, InPlace, Tidy, Full, fault_of, found, Faults}
 
@@ -124,6 +127,24 @@ is_let {n} F t h k g = go (is_line F t h k)
 
 -- ---- The name of a form, told by its number
 
+-- the form of a number is the form with that number
+pub named : (f : Name) → f ≡ form_of (form_number f)
+named N.NoForm = refl
+named N.Kind = refl
+named N.Thread = refl
+named N.Method = refl
+named N.Give = refl
+named N.Value = refl
+named N.Field = refl
+named N.Swap = refl
+named N.Call = refl
+named N.New = refl
+named N.Cast = refl
+named N.Spawn = refl
+named N.Send = refl
+named N.Recv = refl
+named N.Copy = refl
+
 -- every line has one
 has_name : (F : Form) → 1 ≤ form_number (form_of (number_of F))
 unfolding row line_words pad
@@ -203,25 +224,50 @@ in_both_editions d (bind (copy k s)) e h = absurd (h e)
 
 -- ---- The place
 
-pub place_outside : (opener filled : ℕ) → is_outside (place_of opener filled) ≡ eqb opener 0
+-- a derived `==` of places, by the three cases
+abbrev pub no_block_open : CodePlace → Bool
+no_block_open P.Outside = true
+no_block_open P.Thread = false
+no_block_open P.Method = false
+
+abbrev pub method_open : CodePlace → Bool
+method_open P.Outside = false
+method_open P.Thread = false
+method_open P.Method = true
+
+pub equals_outside : (p : CodePlace) → denote.Enum.Bare.sameb C.the_type p P.Outside ≡ no_block_open p
+equals_outside P.Outside = refl
+equals_outside P.Thread = refl
+equals_outside P.Method = refl
+
+pub equals_method : (p : CodePlace) → denote.Enum.Bare.sameb C.the_type p P.Method ≡ method_open p
+equals_method P.Outside = refl
+equals_method P.Thread = refl
+equals_method P.Method = refl
+
+pub place_outside : (p : CodePlace) (filled : ℕ) → is_outside (place_of p filled) ≡ no_block_open p
 unfolding is_outside
-place_outside opener filled = by_bool (eqb opener 0) (λ h. rw h) (λ h. rw h (by_bool (eqb opener 3) (λ k. rw k) (λ k. rw k)))
+place_outside P.Outside filled = refl
+place_outside P.Thread filled = refl
+place_outside P.Method filled = refl
 
-place_method : (opener filled : ℕ) → in_method (place_of opener filled) ≡ eqb opener 3
+place_method : (p : CodePlace) (filled : ℕ) → in_method (place_of p filled) ≡ method_open p
 unfolding in_method
-place_method opener filled = by_bool (eqb opener 0)
-    (λ h. let z = eqb-true opener 0 h in let k : eqb opener 3 ≡ false = ne_eqb opener 3 (λ t. omega arith) in rw (h, k))
-    (λ h. rw h (by_bool (eqb opener 3) (λ k. rw k) (λ k. rw k)))
+place_method P.Outside filled = refl
+place_method P.Thread filled = refl
+place_method P.Method filled = refl
 
-place_more : (opener filled : ℕ) → place_of opener (filled + 1) ≡ one_more (place_of opener filled)
+place_more : (p : CodePlace) (filled : ℕ) → place_of p (filled + 1) ≡ one_more (place_of p filled)
 unfolding one_more
-place_more opener filled = by_bool (eqb opener 0) (λ h. rw h) (λ h. rw h (by_bool (eqb opener 3) (λ k. rw k) (λ k. rw k)))
+place_more P.Outside filled = refl
+place_more P.Thread filled = refl
+place_more P.Method filled = refl
 
 -- after a let, in a block that has a slot to spare
 pub let_goes_on : (r : Sofar) (e : Expr)
-    → so_far (record { second = r.second; kinds = r.kinds; blocks = r.blocks; lets = r.lets + 1; opener = r.opener; filled = r.filled + 1 }) ≡ read_on (so_far r) (line (bind e))
+    → so_far (record { second = r.second; kinds = r.kinds; blocks = r.blocks; lets = r.lets + 1; place = r.place; filled = r.filled + 1 }) ≡ read_on (so_far r) (line (bind e))
 unfolding read_on
-let_goes_on r e = ap (λ (p : Place). record { edition = edition_of r.second; kinds = r.kinds; blocks = r.blocks; lets = r.lets + 1; place = p }) (place_more r.opener r.filled)
+let_goes_on r e = ap (λ (p : Place). record { edition = edition_of r.second; kinds = r.kinds; blocks = r.blocks; lets = r.lets + 1; place = p }) (place_more r.place r.filled)
 
 filled_more : (p : Place) → is_outside p ≡ false → slots_filled (one_more p) ≡ slots_filled p + 1
 unfolding is_outside slots_filled one_more
@@ -229,12 +275,12 @@ filled_more outside h = absurd (false≢true (sym h))
 filled_more (within o n) h = refl
 
 pub tidy_let : (m : Mosts) (r : Sofar) (e : Expr) → Tidy r → in_place (so_far r) (line (bind e)) ≡ true → full_before m (so_far r) (line (bind e)) ≡ false
-    → Tidy (record { second = r.second; kinds = r.kinds; blocks = r.blocks; lets = r.lets + 1; opener = r.opener; filled = r.filled + 1 })
+    → Tidy (record { second = r.second; kinds = r.kinds; blocks = r.blocks; lets = r.lets + 1; place = r.place; filled = r.filled + 1 })
 unfolding in_place full_before
 tidy_let m r e tidy placed free =
     let room = leb-false Most.slots (slots_filled (so_far r).place) (or_both_false (leb Most.slots (slots_filled (so_far r).place)) (leb m.lets r.lets) free).0 in
     record {
-      filled = ap slots_filled (place_more r.opener r.filled) ∙ filled_more (so_far r).place (not-true (is_outside (so_far r).place) (and_true (not (is_outside (so_far r).place)) (in_edition (so_far r).edition (bind e)) placed).0) ∙ ap (λ k. k + 1) tidy.filled;
+      filled = ap slots_filled (place_more r.place r.filled) ∙ filled_more (so_far r).place (not-true (is_outside (so_far r).place) (and_true (not (is_outside (so_far r).place)) (in_edition (so_far r).edition (bind e)) placed).0) ∙ ap (λ k. k + 1) tidy.filled;
       bounded = omega (arith, tidy.filled);
     }
 
@@ -305,22 +351,22 @@ step_goes_on m r F h = goes_on (in_place r F) (over_most m r F || over255 F) (is
 
 -- the refusal of a form's step, from what the code keeps of its line
 fault_by_lem : (m : Mosts) (r : Sofar) (l : Line) (F : Form) → Tidy r → Tells l F
-    → fault_of (form_step m (so_far r) (took F [])) ≡ fault_by (in_place (so_far r) F) l.over (full_before m (so_far r) F) (ltb r.filled l.need) (eqb r.opener 3) l.own
+    → fault_of (form_step m (so_far r) (took F [])) ≡ fault_by (in_place (so_far r) F) l.over (full_before m (so_far r) F) (ltb r.filled l.need) (method_open r.place) l.own
 unfolding form_step is_unbound takes_self
 fault_by_lem m r l F tidy tells =
-    rw (over_most_lem m (so_far r) F, unbound_past (slots_filled (so_far r).place) (slots_in F), place_method r.opener r.filled, tidy.filled, tells.over, tells.need, tells.own)
-    (fault_of_lem (in_place (so_far r) F) (over_line F || full_before m (so_far r) F) (ltb r.filled (past (slots_in F))) (eqb r.opener 3 && any takes_first (operands_in F)) F (read_on (so_far r) F))
+    rw (over_most_lem m (so_far r) F, unbound_past (slots_filled (so_far r).place) (slots_in F), place_method r.place r.filled, tidy.filled, tells.over, tells.need, tells.own)
+    (fault_of_lem (in_place (so_far r) F) (over_line F || full_before m (so_far r) F) (ltb r.filled (past (slots_in F))) (method_open r.place && any takes_first (operands_in F)) F (read_on (so_far r) F))
 
 module _ {m : Mosts} {r : Sofar} {l : Line} {placed : Bool} where
   pub faults : {full : Bool} {x : Result Unit Fault} → InPlace r l.form l.a placed → Full m r l.form full
-      → fault_by placed l.over full (ltb r.filled l.need) (eqb r.opener 3) l.own ≡ found x → Faults m r l x
+      → fault_by placed l.over full (ltb r.filled l.need) (method_open r.place) l.own ≡ found x → Faults m r l x
   faults p f e = record {
     is = λ tidy F tells. sym e ∙ rw (p.is F tells.number tells.part, f.is tidy F tells.number) (sym (fault_by_lem m r l F tidy tells));
   }
 
   -- where it does not matter what was read before the line
   pub faults_alone : {x : Result Unit Fault} → InPlace r l.form l.a placed
-      → ((full : Bool) → fault_by placed l.over full (ltb r.filled l.need) (eqb r.opener 3) l.own ≡ found x) → Faults m r l x
+      → ((full : Bool) → fault_by placed l.over full (ltb r.filled l.need) (method_open r.place) l.own ≡ found x) → Faults m r l x
   faults_alone p e = record {
     is = λ tidy F tells. sym (e (full_before m (so_far r) F)) ∙ rw (p.is F tells.number tells.part) (sym (fault_by_lem m r l F tidy tells));
   }

@@ -3,13 +3,15 @@ use Prim.Native.Nat.{ℕ, suc, ◌+◌, ◌-◌, ◌≤◌, ◌<◌}
 use native.Mathlib.Nat.{add_comm}
 use native.Mathlib.Omega.{arith}
 use mathlib.Core.Path.{◌≡◌, refl, sym, ap, ap₂, ◌∙◌, subst}
-use mathlib.Core.Bool.{Bool, true, false, not, cond}
+use mathlib.Core.Bool.{Bool, true, false}
 use mathlib.Core.List.{List, [], ◌∷◌, ◌++◌, append-nil}
-use lib.Dec.{ltb, eqb}
+use lib.Dec.{ltb}
 use lib.ListN.{length, take, drop, replicate, length-replicate, replicate-append-replicate, length-drop}
 use lib.Seq.{take_at, take_all}
-use borrow.Author.Tests.{lt-ltb, le-ltb, ltb-false, eqb-true}
+use borrow.Author.Tests.{lt-ltb, le-ltb, ltb-false}
 use Rattle.std.specs.Prelude.{Option, Some, None, Result, Ok, Err}
+use Rattle.std.specs.Option.{is_some, unwrap_or}
+use Rattle.rules.specs.declared.faults.Fault.{Fault}
 use Rattle.rules.specs.declared.faults.Fault.TheVariants as F
 use Rattle.rules.specs.declared.faults.Refusal.{Refusal}
 use Rattle.rules.specs.declared.Mosts.{Mosts}
@@ -21,7 +23,7 @@ use Rattle.rules.specs.Numbers.{number}
 use Rattle.rules.specs.Refusals.{Refuses}
 use Rattle.rules.specs.Text.{lines}
 use Rattle.rules.specs.Script.{Form, Edition, Program, program_of, kinds_of, blocks_of}
-use Rattle.rules.specs.Templates.{took, unfit, fit, script_t}
+use Rattle.rules.specs.Templates.{fit, script_t}
 use Rattle.rules.specs.Reading as R
 use Rattle.rules.specs.Reading.{Sofar, nothing, faulty, Reading, turned_away, accepted, link, lines_before, linked, script_of, script, reading}
 use Rattle.rules.specs.Tables.{first_lines, edition_word, program_words}
@@ -30,7 +32,7 @@ use Rattle.rules.proofs.ListLaws.{impossible, by_bool, or_false}
 use Rattle.rules.proofs.Accepted.{reading_accepted}
 use Rattle.rules.proofs.TableWords.{program_words_length}
 use Rattle.rules.proofs.Scanned.{Scanned, ended, passed, scan_passed, lines_scanned}
-use Rattle.grammar.specs.Decoded.{over_line}
+use Rattle.grammar.specs.Decoded.{over_line, told_end}
 use Rattle.table.specs.ProgramTable.{fresh_table, line_table, Filled, Counted}
 use Rattle.table.proofs.ProgramTable.{fresh_length, program_words_by_lines}
 use Rattle.reader.specs.declared.scanning.Counts.{Counts}
@@ -57,12 +59,15 @@ too_short text h = rw (le-ltb _ _ h)
 pub refuses : {A : Type 0} (e : Refusal) → Refuses {A = A} (Err e) (number e.fault) e.line
 refuses e = record { refusal = e; is = refl; number_is = refl; line_is = refl }
 
-module _ (text : List ℕ) {t t₁ : List ℕ} where
-  pub makes_long : (short : Bool) → Most.text < length text → Makes text short t (Err (record { fault = F.Overlong; line = 0 })) t₁
-  makes_long short h = record { makes = λ fresh. rw (too_long text short h) (refuses (record { fault = F.Overlong; line = 0 })) }
+pub refuses_by : {A : Type 0} (e : Refusal) {f : Fault} {n : ℕ} → e.fault ≡ f → e.line ≡ n → Refuses {A = A} (Err e) (number f) n
+refuses_by e fault_is line_is = record { refusal = e; is = refl; number_is = ap number fault_is; line_is = line_is }
 
-  pub makes_short : {short : Bool} → length text ≤ Most.text → short ≡ true → Makes text short t (Err (record { fault = F.ShortTable; line = 0 })) t₁
-  makes_short h told = record { makes = λ fresh. rw (told, too_short text h) (refuses (record { fault = F.ShortTable; line = 0 })) }
+module _ (text : List ℕ) {t t₁ : List ℕ} where
+  pub makes_long : {e : Refusal} (short : Bool) → Most.text < length text → e.fault ≡ F.Overlong → e.line ≡ 0 → Makes text short t (Err e) t₁
+  makes_long {e} short h fault_is line_is = record { makes = λ fresh. rw (too_long text short h) (refuses_by e fault_is line_is) }
+
+  pub makes_short : {e : Refusal} {short : Bool} → length text ≤ Most.text → short ≡ true → e.fault ≡ F.ShortTable → e.line ≡ 0 → Makes text short t (Err e) t₁
+  makes_short {e} h told fault_is line_is = record { makes = λ fresh. rw (told, too_short text h) (refuses_by e fault_is line_is) }
 
   -- a fresh table has its length
   pub makes_unfit : {x : Result Unit Refusal} (short : Bool) → length t < Most.words → Makes text short t x t₁
@@ -111,14 +116,15 @@ all_small {m} {r} (passed {F} p s) =
 abbrev pub behind : (text : List ℕ) → (head : ℕ) → List ℕ
 behind text head = take (length text - head) (drop head text)
 
-pub read_behind : (text : List ℕ) (head : ℕ) → fit script_t text ≡ cond (eqb head 0) unfit (took tt (drop head text))
-    → script mosts text ≡ script_of mosts (edition_of (not (eqb head 0))) (behind text head)
+pub read_behind : (text : List ℕ) (x : Option ℕ) {second : Bool} {head : ℕ} → fit script_t text ≡ told_end text x → second ≡ is_some x → head ≡ unwrap_or x 0
+    → script mosts text ≡ script_of mosts (edition_of second) (behind text head)
 unfolding script
-read_behind text head e =
+read_behind text None {second} {head} e is from =
     let all : behind text head ≡ drop head text = take_all (length text - head) (drop head text) (simp length-drop (omega arith)) in
-    by_bool (eqb head 0)
-    (λ t. let none : head ≡ 0 = eqb-true head 0 t in rw (all, e, t, none))
-    (λ t. rw (all, e, t))
+    rw (all, e, is, from)
+read_behind text (Some n) {second} {head} e is from =
+    let all : behind text head ≡ drop head text = take_all (length text - head) (drop head text) (simp length-drop (omega arith)) in
+    rw (all, e, is, from)
 
 -- where it has one, every line's number is one more
 abbrev later : ℕ → Reading → Reading

@@ -7,7 +7,7 @@ use mathlib.Core.List.{List, [], ◌∷◌, ◌++◌, append-nil}
 use lib.Dec.{ltb, leb, eqb}
 use lib.ListN.{length, drop, get_or, length-append, length-drop, drop_of_length-le}
 use borrow.Author.Tests.{leb-false}
-use Rattle.std.specs.Prelude.{Result, Ok, Err}
+use Rattle.std.specs.Prelude.{None, Result, Ok, Err}
 use Rattle.rules.specs.declared.faults.Fault.{Fault}
 use Rattle.rules.specs.declared.faults.Fault.TheVariants as F
 use Rattle.rules.specs.declared.faults.Refusal.{Refusal}
@@ -18,15 +18,17 @@ use Rattle.rules.specs.Numbers as No
 use Rattle.rules.specs.Numbers.{number}
 use Rattle.rules.specs.Text.{lf, stray, lines, on_line}
 use Rattle.rules.specs.Script.{bind, give, Sort, thread, method, Form, kind, opens, line, Edition, kinds_of, blocks_of}
-use Rattle.rules.specs.Templates.{took, unfit, show}
+use Rattle.rules.specs.Templates.{took, show}
+use Rattle.rules.specs.Forms.{form_number}
 use Rattle.rules.specs.Tables.{first_lines}
 use Rattle.rules.specs.Reading as R
 use Rattle.rules.specs.Reading.{operands_in, Place, outside, within, slots_filled, is_outside, in_place, over_most, one_more, read_on, Step, fault, next, form_step, line_step, lines_before, faulty, scanned, with_form, on_step}
 use Rattle.rules.proofs.ListLaws.{or_false, or_false₃, length_snoc}
 use Rattle.rules.proofs.Scanned.{Passed, form_passed}
 use Rattle.grammar.specs.declared.forms.Line.{Line}
-use Rattle.grammar.specs.Decoded.{over_line, front, line_row, Tells, LineAt}
+use Rattle.grammar.specs.Decoded.{over_line, line_row, Tells, Leads, LineAt}
 use Rattle.table.specs.ProgramTable.{Filled, LineAdded, OpenerAdded}
+use Rattle.reader.specs.declared.faults.Place.TheVariants as P
 use Rattle.reader.specs.declared.faults.Sofar.{Sofar}
 use Rattle.reader.specs.declared.scanning.Counts.{Counts}
 use Rattle.reader.specs.Sofar.{edition_of, so_far, full_before, Tidy, fault_of, Faults, GoesOn}
@@ -64,7 +66,7 @@ opens_none n k (opens method) t h = absurd (h (omega arith) (omega arith))
 opens_none n k (line x) t h = refl
 
 module _ (n b : ℕ) (l : Line) (t t' : List ℕ) where
-  pub put_opener : n < 672 → b < mosts.blocks → 2 ≤ l.form → l.form < 4 → OpenerAdded n b l.form t t' → Put n b l t t'
+  pub put_opener : n < 672 → b < mosts.blocks → 2 ≤ form_number l.form → form_number l.form < 4 → OpenerAdded n b (form_number l.form) t t' → Put n b l t t'
   put_opener n< b< low high a = record {
     added = λ counts rest Fs F filled n≡ b≡ tells over few.
         let (o, k, e) = is_opener F (told F tells.number) low high in
@@ -72,17 +74,17 @@ module _ (n b : ℕ) (l : Line) (t t' : List ℕ) where
   }
 
   -- past the last block no opener passes its checks
-  pub put_none : mosts.blocks ≤ b → 2 ≤ l.form → l.form < 4 → Put n b l t t'
+  pub put_none : mosts.blocks ≤ b → 2 ≤ form_number l.form → form_number l.form < 4 → Put n b l t t'
   put_none b≥ low high = record {
     added = λ counts rest Fs F filled n≡ b≡ tells over few.
         let (o, k, e) = is_opener F (told F tells.number) low high in
         absurd (omega (arith, subst (λ (X : Form). length (blocks_of (Fs ++ (X ∷ []))) ≤ mosts.blocks) k few, opener_more Fs o));
   }
 
-  pub put_other : n < 672 → (2 ≤ l.form → l.form < 4 → ⊥) → LineAdded n (line_row l) t t' → Put n b l t t'
+  pub put_other : n < 672 → (2 ≤ form_number l.form → form_number l.form < 4 → ⊥) → LineAdded n (line_row l) t t' → Put n b l t t'
   put_other n< other a = record {
     added = λ counts rest Fs F filled n≡ b≡ tells over few.
-        a.added counts rest Fs F filled n≡ n< (tells.words over) (opens_none n l.form F (told F tells.number) other);
+        a.added counts rest Fs F filled n≡ n< (tells.words over) (opens_none n (form_number l.form) F (told F tells.number) other);
   }
 
 -- ---- What was read so far
@@ -252,7 +254,7 @@ pub record Passes (m : Mosts) (text : List ℕ) (r : Sofar) (at : ℕ) (l : Line
   passed : Passed m (so_far r) F
   tally : Tally m (read_on (so_far r) F) (Fs ++ (F ∷ []))
 
-pub at_start : {m : Mosts} (second : Bool) (text t : List ℕ) → Bounded m → Scanning m (edition_of second) text t t (record { second = second; kinds = 0; blocks = 0; lets = 0; opener = 0; filled = 0 }) 0 0
+pub at_start : {m : Mosts} (second : Bool) (text t : List ℕ) → Bounded m → Scanning m (edition_of second) text t t (record { second = second; kinds = 0; blocks = 0; lets = 0; place = P.Outside; filled = 0 }) 0 0
 unfolding onto slots_filled
 at_start {m} second text t b = record {
   bounded = b;
@@ -298,37 +300,34 @@ module _ {m : Mosts} {d : Edition} {text t₀ t : List ℕ} {r : Sofar} {n at : 
         filled = s.filled;
       }
 
-  module _ {l : Line} (a : LineAt text at l) where
-    -- the line fits no form; a check refuses it; it passes
-    pub unfit_line : {f : Fault} → at < length text → l.ok ≡ false → number f ≡ cond (stray (get_or (lines (drop at text)) 0 [])) No.stray_byte No.malformed
-        → Scans m d text t₀ (Err (record { fault = f; line = n + lines_before d })) t
-    unfit_line {f = found} h ok e =
-        let f = first_line (drop at text) (simp length-drop (omega arith)) in
-        let x = f.byte ∷ f.others in
-        let none : front (drop at text) ≡ unfit = a.fits ∙ rw ok in
-        let same : number found ≡ cond (stray x) No.stray_byte No.malformed = e ∙ rw f.is in
-        stops (rw (f.is, same) (scan_line_lem m (so_far r) (n + lines_before d) x f.rest _ (front_unfit (drop at text) x f.rest none f.is m (so_far r))))
+  -- no line fits its form here
+  pub unfit_line : {e : Refusal} → at < length text → LineAt text at None → number e.fault ≡ cond (stray (get_or (lines (drop at text)) 0 [])) No.stray_byte No.malformed
+      → e.line ≡ n + lines_before d → Scans m d text t₀ (Err e) t
+  unfit_line {e} h none is line_is =
+      let f = first_line (drop at text) (simp length-drop (omega arith)) in
+      let x = f.byte ∷ f.others in
+      let same : number e.fault ≡ cond (stray x) No.stray_byte No.malformed = is ∙ rw f.is in
+      stops (rw (f.is, same, line_is) (scan_line_lem m (so_far r) (n + lines_before d) x f.rest _ (front_unfit (drop at text) x f.rest none f.is m (so_far r))))
 
-    fitted : l.ok ≡ true → front (drop at text) ≡ took a.form (drop l.end text)
-    fitted ok = a.fits ∙ rw ok
+  module _ {l : Line} (a : Leads text at l) where
+    -- a check refuses the line; it passes
+    pub refused_line : {x : Fault} {e : Refusal} → Faults m r l (Err x) → e.fault ≡ x → e.line ≡ n + lines_before d → Scans m d text t₀ (Err e) t
+    refused_line {x} {e} f fault_is line_is =
+        let b = front_fits (drop at text) a.form (drop l.end text) a.fits in
+        let k = f.is s.tidy a.form a.tells in
+        let step = b.step m (so_far r) ∙ step_stops (form_step m (so_far r) (took a.form [])) (λ z. omega (arith, some_number x, k, z)) ∙ ap fault (sym k) in
+        stops (rw (b.first, fault_is, line_is) (scan_line_lem m (so_far r) (n + lines_before d) (show a.form) (lines (drop l.end text)) (fault (number x)) step))
 
-    pub refused_line : {x : Fault} → l.ok ≡ true → Faults m r l (Err x) → Scans m d text t₀ (Err (record { fault = x; line = n + lines_before d })) t
-    refused_line {x} ok f =
-        let b = front_fits (drop at text) a.form (drop l.end text) (fitted ok) in
-        let e = f.is s.tidy a.form (a.tells ok) in
-        let step = b.step m (so_far r) ∙ step_stops (form_step m (so_far r) (took a.form [])) (λ z. omega (arith, some_number x, e, z)) ∙ ap fault (sym e) in
-        stops (rw b.first (scan_line_lem m (so_far r) (n + lines_before d) (show a.form) (lines (drop l.end text)) (fault (number x)) step))
-
-    pub passes : {u : Unit {0}} → l.ok ≡ true → Faults m r l (Ok u) → Passes m text r at l s.forms a.form
-    passes ok f =
-        let b = front_fits (drop at text) a.form (drop l.end text) (fitted ok) in
-        let go = step_goes_on m (so_far r) a.form (sym (f.is s.tidy a.form (a.tells ok))) in
+    pub passes : {u : Unit {0}} → Faults m r l (Ok u) → Passes m text r at l s.forms a.form
+    passes f =
+        let b = front_fits (drop at text) a.form (drop l.end text) a.fits in
+        let go = step_goes_on m (so_far r) a.form (sym (f.is s.tidy a.form a.tells)) in
         let p = (form_passed m (so_far r) (took a.form []) a.form _ go).0 in
         record {
           begins = b.text;
           splits = b.first;
           step = b.step m (so_far r) ∙ go;
-          tells = a.tells ok;
+          tells = a.tells;
           passed = p;
           tally = tally_more m (so_far r).edition (so_far r).place r.kinds r.blocks r.lets s.forms a.form s.tally p;
         }

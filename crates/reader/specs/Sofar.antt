@@ -1,8 +1,8 @@
 -- What has been read so far, as the code keeps it, and the checks of a line on it.
-use Rattle.std.specs.Prelude.{ℕ, Result, Ok, Err, ◌≤◌, ◌≡◌, Bool, true, false, ◌||◌, cond, [], eqb, leb, get_or}
+use Rattle.std.specs.Prelude.{ℕ, Result, Ok, Err, ◌≤◌, ◌≡◌, Bool, true, false, ◌||◌, cond, [], leb, get_or}
 use Rattle.rules.specs.declared.Mosts.{Mosts}
 use Rattle.rules.specs.declared.faults.Fault.{Fault}
-use Rattle.rules.specs.declared.forms.Form.TheVariants as N
+use Rattle.rules.specs.declared.forms.Form.{Form as Name}
 use Rattle.rules.specs.Mosts as Most
 use Rattle.rules.specs.Numbers.{number}
 use Rattle.rules.specs.Script.{bind, give, thread, method, Form, kind, opens, line, Edition, edition1, edition2}
@@ -13,21 +13,25 @@ use Rattle.rules.specs.Reading as R
 use Rattle.rules.specs.Reading.{outside, within, slots_filled, Step, fault, next, in_place, read_on, form_step}
 use Rattle.grammar.specs.declared.forms.Line.{Line}
 use Rattle.grammar.specs.Decoded.{Tells}
+use Rattle.reader.specs.declared.faults.Place.{Place}
+use Rattle.reader.specs.declared.faults.Place.TheVariants as P
 use Rattle.reader.specs.declared.faults.Sofar.{Sofar}
 
-abbrev pub place_of : (opener filled : ℕ) → R.Place
-place_of opener filled = cond (eqb opener 0) outside (cond (eqb opener (form_number N.Method)) (within method filled) (within thread filled))
+abbrev pub place_of : Place → (filled : ℕ) → R.Place
+place_of P.Outside filled = outside
+place_of P.Thread filled = within thread filled
+place_of P.Method filled = within method filled
 
 -- the edition, by whether the first line names the second
 abbrev pub edition_of : Bool → Edition
 edition_of second = cond second edition2 edition1
 
 abbrev pub so_far : Sofar → R.Sofar
-so_far r = record { edition = edition_of r.second; kinds = r.kinds; blocks = r.blocks; lets = r.lets; place = place_of r.opener r.filled }
+so_far r = record { edition = edition_of r.second; kinds = r.kinds; blocks = r.blocks; lets = r.lets; place = place_of r.place r.filled }
 
--- of any form with this number and this first part
-pub record InPlace (r : Sofar) (form part : ℕ) (ok : Bool) : Type 0 where
-  pub is : (F : Form) → form ≡ get_or (row F) 0 0 → part ≡ get_or (row F) 1 0 → ok ≡ in_place (so_far r) F
+-- of any line of this form with this first part
+pub record InPlace (r : Sofar) (form : Name) (part : ℕ) (ok : Bool) : Type 0 where
+  pub is : (F : Form) → form_number form ≡ get_or (row F) 0 0 → part ≡ get_or (row F) 1 0 → ok ≡ in_place (so_far r) F
 
 -- 4, but for what the line alone decides
 unfoldable pub full_before : Mosts → R.Sofar → Form → Bool
@@ -41,8 +45,8 @@ pub record Tidy (r : Sofar) : Type 0 where
   pub filled : slots_filled (so_far r).place ≡ r.filled
   pub bounded : r.filled ≤ Most.slots
 
-pub record Full (m : Mosts) (r : Sofar) (form : ℕ) (full : Bool) : Type 0 where
-  pub is : Tidy r → (F : Form) → form ≡ get_or (row F) 0 0 → full ≡ full_before m (so_far r) F
+pub record Full (m : Mosts) (r : Sofar) (form : Name) (full : Bool) : Type 0 where
+  pub is : Tidy r → (F : Form) → form_number form ≡ get_or (row F) 0 0 → full ≡ full_before m (so_far r) F
 
 -- the refusal of a step, or 0
 abbrev pub fault_of : Step → ℕ
@@ -57,6 +61,6 @@ found (Err f) = number f
 pub record Faults (m : Mosts) (r : Sofar) (l : Line) (x : Result Unit Fault) : Type 0 where
   pub is : Tidy r → (F : Form) → Tells l F → found x ≡ fault_of (form_step m (so_far r) (took F []))
 
-pub record GoesOn (r : Sofar) (form : ℕ) (r₁ : Sofar) : Type 0 where
-  pub is : (F : Form) → form ≡ get_or (row F) 0 0 → so_far r₁ ≡ read_on (so_far r) F
-  pub tidy : (m : Mosts) (F : Form) → form ≡ get_or (row F) 0 0 → Tidy r → in_place (so_far r) F ≡ true → full_before m (so_far r) F ≡ false → Tidy r₁
+pub record GoesOn (r : Sofar) (form : Name) (r₁ : Sofar) : Type 0 where
+  pub is : (F : Form) → form_number form ≡ get_or (row F) 0 0 → so_far r₁ ≡ read_on (so_far r) F
+  pub tidy : (m : Mosts) (F : Form) → form_number form ≡ get_or (row F) 0 0 → Tidy r → in_place (so_far r) F ≡ true → full_before m (so_far r) F ≡ false → Tidy r₁

@@ -6,15 +6,23 @@ ghost use Rattle.reader.specs.Sofar.{edition_of, InPlace, Full, Faults, GoesOn};
 
 use rules::{Fault, Form};
 
-// What has been read so far: whether the first line names the second edition; the counts; the number of the form that opened
-// the block which is open, or 0; and how many slots that block has filled.
+// Where the next line stands: outside of blocks, or in a block of a sort.
+#[derive(Clone, Copy, Debug, PartialEq, Eq)]
+pub enum Place {
+    Outside,
+    Thread,
+    Method,
+}
+
+// What has been read so far: whether the first line names the second edition; the counts; where the next line stands; and how many slots the block
+// that is open has filled.
 #[derive(Clone, Copy)]
 pub struct Sofar {
     pub second: bool,
     pub kinds: usize,
     pub blocks: usize,
     pub lets: usize,
-    pub opener: u16,
+    pub place: Place,
     pub filled: u16,
 }
 
@@ -26,15 +34,14 @@ fn may_copy(second: bool, cap: u16) -> bool
 }
 
 // 3: "Kinds come before all blocks. (thread) or (method) opens a block; (let E) lines follow; (give W) closes it." And a copy where it may not be.
-fn in_place(r: Sofar, form: u16, part: u16) -> bool
+fn in_place(r: Sofar, form: Form, part: u16) -> bool
     ensures { InPlace r form part result }
 {
-    let named = rules::form_of(form);
-    match named {
+    match form {
         Form::Kind => r.blocks == 0,
-        Form::Thread | Form::Method => r.opener == 0,
+        Form::Thread | Form::Method => r.place == Place::Outside,
         Form::Copy => {
-            if r.opener == 0 {
+            if r.place == Place::Outside {
                 return false;
             }
             may_copy(r.second, part)
@@ -49,16 +56,15 @@ fn in_place(r: Sofar, form: u16, part: u16) -> bool
         | Form::Cast
         | Form::Spawn
         | Form::Send
-        | Form::Recv => r.opener != 0,
+        | Form::Recv => r.place != Place::Outside,
     }
 }
 
 // 4: a most is reached by what was read before the line.
-fn is_full(m: rules::Mosts, r: Sofar, form: u16) -> bool
+fn is_full(m: rules::Mosts, r: Sofar, form: Form) -> bool
     ensures { Full m r form result }
 {
-    let named = rules::form_of(form);
-    match named {
+    match form {
         Form::Kind => m.kinds <= r.kinds,
         Form::NoForm | Form::Thread | Form::Method => m.blocks <= r.blocks, // no line has NoForm
         Form::Give => false,
@@ -96,7 +102,7 @@ pub fn fault(m: rules::Mosts, r: Sofar, l: grammar::Line) -> Result<(), Fault>
     if r.filled < l.need {
         return Err(Fault::Unbound);
     }
-    if r.opener == rules::forms::METHOD {
+    if r.place == Place::Method {
         if l.own {
             return Err(Fault::SelfTaken);
         }
@@ -105,28 +111,27 @@ pub fn fault(m: rules::Mosts, r: Sofar, l: grammar::Line) -> Result<(), Fault>
 }
 
 // What has been read after the line; "Each let fills the next slot."
-pub fn after_line(r: Sofar, form: u16) -> Sofar
+pub fn after_line(r: Sofar, form: Form) -> Sofar
     requires { (r.kinds ≤ 65535) × (r.blocks ≤ 65535) × (r.lets ≤ 65535) × (r.filled ≤ 255) }
     ensures { GoesOn r form result }
 {
     let mut next = r;
-    let named = rules::form_of(form);
-    match named {
+    match form {
         Form::Kind => {
             next.kinds = r.kinds + 1;
         }
         Form::Thread => {
             next.blocks = r.blocks + 1;
-            next.opener = rules::forms::THREAD;
+            next.place = Place::Thread;
             next.filled = 1;
         }
         Form::Method => {
             next.blocks = r.blocks + 1;
-            next.opener = rules::forms::METHOD;
+            next.place = Place::Method;
             next.filled = 2;
         }
         Form::Give => {
-            next.opener = 0;
+            next.place = Place::Outside;
             next.filled = 0;
         }
         Form::NoForm

@@ -32,22 +32,13 @@ pub fn make(text: &[u8], short: bool, words: &mut [u16]) -> Result<(), Refusal>
     ensures { Makes text.now short words.old result words.new }
 {
     if 16384 < text.len() {
-        return Err(Refusal {
-            fault: Fault::Overlong,
-            line: 0,
-        });
+        return Err(Fault::Overlong.at(0));
     }
     if short {
-        return Err(Refusal {
-            fault: Fault::ShortTable,
-            line: 0,
-        });
+        return Err(Fault::ShortTable.at(0));
     }
     if words.len() < 8192 {
-        return Err(Refusal {
-            fault: Fault::ShortTable,
-            line: 0,
-        }); // no fresh table
+        return Err(Fault::ShortTable.at(0)); // no fresh table
     }
     let mosts = rules::Mosts {
         kinds: 32,
@@ -57,13 +48,10 @@ pub fn make(text: &[u8], short: bool, words: &mut [u16]) -> Result<(), Refusal>
         threads: 16,
     };
     let head = grammar::script_end(text);
-    let second = head != 0;
-    let counts = scan_lines(mosts, second, &text[head..], words)?;
+    let second = head.is_some();
+    let counts = scan_lines(mosts, second, &text[head.unwrap_or(0)..], words)?;
     if let Some(line) = first_dangling(words, counts) {
-        return Err(Refusal {
-            fault: Fault::Dangling,
-            line: line + lines_before(second),
-        });
+        return Err(Fault::Dangling.at(line + lines_before(second)));
     }
     table::put_counts(
         words,

@@ -25,7 +25,7 @@ fn method_dangles(t: &[u16], blocks: usize, n: usize, i: usize) -> bool
     if item == 0 {
         return false;
     }
-    !is_sort(t, blocks, (item - 1) as usize, rules::forms::METHOD)
+    !is_sort(t, blocks, (item - 1) as usize, Form::Method.number())
 }
 
 // Whether a method of the kind in line n is no method block.
@@ -54,8 +54,7 @@ fn line_dangles(t: &[u16], kinds: usize, blocks: usize, n: usize) -> bool
     requires { (8192 ≤ length t.now) × (kinds ≤ 32) × (blocks ≤ 64) × (n < 672) }
     ensures { LineDangles t.now kinds blocks n result }
 {
-    let form = rules::form_of(table::line_word(t, n, 0));
-    match form {
+    match Form::from(table::line_word(t, n, 0)) {
         Form::Kind => kind_dangles(t, blocks, n),
         Form::Method => n == kinds,
         Form::New => new_dangles(t, kinds, n),
@@ -63,7 +62,7 @@ fn line_dangles(t: &[u16], kinds: usize, blocks: usize, n: usize) -> bool
             t,
             blocks,
             table::line_word(t, n, 1) as usize,
-            rules::forms::THREAD,
+            Form::Thread.number(),
         ),
         Form::NoForm
         | Form::Thread

@@ -7,7 +7,7 @@ ghost use Rattle.rules.specs.Text.{allowed, stray, lines};
 ghost use Rattle.reader.specs.Sofar.{edition_of};
 ghost use Rattle.reader.specs.Scanning.{Put, Finishes, Scans};
 
-use super::faults::{Sofar, after_line, fault};
+use super::faults::{Place, Sofar, after_line, fault};
 use super::finder::find_lf;
 use rules::{Fault, Form, Refusal};
 
@@ -58,12 +58,10 @@ fn put_line(words: &mut [u16], n: usize, b: usize, l: grammar::Line)
     requires { (8192 ≤ length words.old) × (n < 672) }
     ensures { Put n b l words.old words.new }
 {
-    let form = l.form;
-    let named = rules::form_of(form);
-    match named {
+    match l.form {
         Form::Thread | Form::Method => {
             if b < 64 {
-                table::add_opener(words, n, b, form);
+                table::add_opener(words, n, b, l.form.number());
             }
         }
         Form::NoForm
@@ -79,7 +77,7 @@ fn put_line(words: &mut [u16], n: usize, b: usize, l: grammar::Line)
         | Form::Send
         | Form::Recv
         | Form::Copy => {
-            table::add_line(words, n, form, l.a, l.b, l.c, l.d, l.e, l.f);
+            table::add_line(words, n, l.form.number(), l.a, l.b, l.c, l.d, l.e, l.f);
         }
     }
 }
@@ -88,12 +86,9 @@ fn put_line(words: &mut [u16], n: usize, b: usize, l: grammar::Line)
 fn finish(r: Sofar, lines: usize, line: usize) -> Result<Counts, Refusal>
     ensures { Finishes r lines line result }
 {
-    let is_open = r.opener != 0;
+    let is_open = r.place != Place::Outside;
     if r.blocks == 0 || is_open {
-        return Err(Refusal {
-            fault: Fault::Unfinished,
-            line: line,
-        });
+        return Err(Fault::Unfinished.at(line));
     }
     Ok(Counts {
         kinds: r.kinds,
@@ -118,25 +113,18 @@ pub fn scan_lines(
         kinds: 0,
         blocks: 0,
         lets: 0,
-        opener: 0,
+        place: Place::Outside,
         filled: 0,
     };
     let mut n: usize = 0;
     let mut at: usize = 0;
     while at < text.len() {
         let line = n + before;
-        let l = grammar::line_at(text, at);
-        if !l.ok {
-            return Err(Refusal {
-                fault: unfit_fault(text, at),
-                line: line,
-            });
-        }
+        let Some(l) = grammar::line_at(text, at) else {
+            return Err(unfit_fault(text, at).at(line));
+        };
         if let Err(found) = fault(m, r, l) {
-            return Err(Refusal {
-                fault: found,
-                line: line,
-            });
+            return Err(found.at(line));
         }
         put_line(words, n, r.blocks, l);
         r = after_line(r, l.form);

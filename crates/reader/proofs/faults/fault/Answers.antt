@@ -1,6 +1,7 @@
 -- The tests are those of the step on the form, one after the other.
-use borrow.Author.Tests.{lt-ltb, le-ltb, eq-eqb, ne_eqb}
-use Rattle.reader.proofs.LineChecks.{faults, faults_alone}
+use borrow.Author.Tests.{lt-ltb, le-ltb}
+use mathlib.Core.Path.{sym, ◌∙◌}
+use Rattle.reader.proofs.LineChecks.{equals_method, faults, faults_alone}
 use Rattle.reader.proofs.faults.fault.Goals as goal
 
 pub returns-then-not-in_place : goal.returns-then-not-in_place
@@ -24,16 +25,16 @@ pub returns-then-l-2 : goal.returns-then-l-2
 returns-then-l-2 c =
     let a = c.args in
     let bound = le-ltb a.r.filled a.l.need c.if-r-l.false in
-    faults c.in_place.ensures c.is_full.ensures (rw (c.if-not-in_place.false, c.if-l.false, c.if-is_full.false, bound, eq-eqb a.r.opener 3 c.if-r-eq-METHOD.true, c.if-l-2.true))
+    faults c.in_place.ensures c.is_full.ensures (rw (c.if-not-in_place.false, c.if-l.false, c.if-is_full.false, bound, sym (equals_method a.r.place) ∙ sym c.eq.ensures ∙ c.if-eq.true, c.if-l-2.true))
 
 pub returns-else-l-2 : goal.returns-else-l-2
 returns-else-l-2 c =
     let a = c.args in
     let bound = le-ltb a.r.filled a.l.need c.if-r-l.false in
-    faults c.in_place.ensures c.is_full.ensures (rw (c.if-not-in_place.false, c.if-l.false, c.if-is_full.false, bound, eq-eqb a.r.opener 3 c.if-r-eq-METHOD.true, c.if-l-2.false))
+    faults c.in_place.ensures c.is_full.ensures (rw (c.if-not-in_place.false, c.if-l.false, c.if-is_full.false, bound, sym (equals_method a.r.place) ∙ sym c.eq.ensures ∙ c.if-eq.true, c.if-l-2.false))
 
-pub returns-else-r-eq-METHOD : goal.returns-else-r-eq-METHOD
-returns-else-r-eq-METHOD c =
+pub returns-else-eq : goal.returns-else-eq
+returns-else-eq c =
     let a = c.args in
     let bound = le-ltb a.r.filled a.l.need c.if-r-l.false in
-    faults c.in_place.ensures c.is_full.ensures (rw (c.if-not-in_place.false, c.if-l.false, c.if-is_full.false, bound, ne_eqb a.r.opener 3 c.if-r-eq-METHOD.false))
+    faults c.in_place.ensures c.is_full.ensures (rw (c.if-not-in_place.false, c.if-l.false, c.if-is_full.false, bound, sym (equals_method a.r.place) ∙ sym c.eq.ensures ∙ c.if-eq.false))

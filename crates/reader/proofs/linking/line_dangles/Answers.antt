@@ -1,6 +1,6 @@
 -- Only kinds, methods, news and spawns can dangle; a kind in line n is kind n, and the line after the kinds opens the first block.
 use native.Mathlib.Omega.{arith}
-use mathlib.Core.Path.{refl, sym, ap, ◌∙◌}
+use mathlib.Core.Path.{sym, ap, ◌∙◌}
 use mathlib.Core.Bool.{not}
 use mathlib.Core.List.{[], ◌∷◌}
 use lib.Dec.{eqb}
@@ -17,14 +17,14 @@ returns-in-Kind c =
     let a = c.args in
     record {
       is = λ P b table k l h o.
-          let at = kind_line P a.n c.line_word.result (line_word_is table c.line_word.ensures.line_word h) (number_told c.form_of-form.ensures c.in-Kind.is (omega arith)) in
+          let at = kind_line P a.n c.line_word.result (line_word_is table c.line_word.ensures.line_word h) (number_told c.from.ensures c.in-Kind.is (omega arith)) in
           c.kind_dangles.ensures.is P table l at ∙ kind_line_dangles P b a.n at;
     }
 
 pub returns-in-Method : goal.returns-in-Method
 returns-in-Method c =
     let a = c.args in
-    let is_method = number_told c.form_of-form.ensures c.in-Method.is (omega arith) in
+    let is_method = number_told c.from.ensures c.in-Method.is (omega arith) in
     record {
       is = λ P b table k l h o.
           let number = line_word_is table c.line_word.ensures.line_word h in
@@ -33,16 +33,16 @@ returns-in-Method c =
 
 pub returns-in-New : goal.returns-in-New
 returns-in-New c =
-    let is_new = number_told c.form_of-form.ensures c.in-New.is (omega arith) in
+    let is_new = number_told c.from.ensures c.in-New.is (omega arith) in
     record { is = λ P b table k l h o. c.new_dangles.ensures.is P b table k h (sym (line_word_is table c.line_word.ensures.line_word h) ∙ is_new) }
 
 pub returns-in-Spawn : goal.returns-in-Spawn
 returns-in-Spawn c =
     let a = c.args in
-    let is-spawn = number_told c.form_of-form.ensures c.in-Spawn.is (omega arith) in
+    let is-spawn = number_told c.from.ensures c.in-Spawn.is (omega arith) in
     record {
       is = λ P b table k l h o.
-          ap not (c.is_sort.ensures.is P thread table l refl ∙ ap (is_sort P thread) (line_word_is table c.line_word-in-Spawn.ensures.line_word h))
+          ap not (c.is_sort.ensures.is P thread table l c.number.ensures ∙ ap (is_sort P thread) (line_word_is table c.line_word-in-Spawn.ensures.line_word h))
           ∙ spawn_line_lem P b (form_at P a.n) c.line_word.result (line_word_is table c.line_word.ensures.line_word h) is-spawn;
     }
 
@@ -53,5 +53,5 @@ returns-in-NoForm c =
     record {
       is = λ P b table k l h o.
           other_line P b (form_at P a.n) c.line_word.result (line_word_is table c.line_word.ensures.line_word h)
-          (not_told ks c.form_of-form.ensures c.in-NoForm.is tt) (not_told ks c.form_of-form.ensures c.in-NoForm.is tt) (not_told ks c.form_of-form.ensures c.in-NoForm.is tt) (not_told ks c.form_of-form.ensures c.in-NoForm.is tt);
+          (not_told ks c.from.ensures c.in-NoForm.is tt) (not_told ks c.from.ensures c.in-NoForm.is tt) (not_told ks c.from.ensures c.in-NoForm.is tt) (not_told ks c.from.ensures c.in-NoForm.is tt);
     }

@@ -1,6 +1,8 @@
 -- The loop keeps what was read in the table and the lines from here on still to scan; each turn takes one line.
 use native.Mathlib.Omega.{arith}
-use borrow.Author.Tests.{not-true, not-false}
+use Prim.Native.Nat.{ℕ, ◌+◌}
+use mathlib.Core.Path.{ap, ◌∙◌}
+use Rattle.rules.specs.Numbers.{number}
 use Rattle.reader.proofs.Scan.{at_start, at_end, unfit_line, refused_line, passes, few_lines, small, room, further, next_line}
 use Rattle.reader.proofs.scanning.scan_lines.Goals as goal
 
@@ -12,18 +14,17 @@ loop-at-init c =
 pub overflow_add-line : goal.overflow_add-line
 overflow_add-line c = omega (arith, few_lines c.loop-at.invariant)
 
-pub returns-then-not-l : goal.returns-then-not-l
-returns-then-not-l c =
-    rw c.lines_before-before.ensures.value
-    (unfit_line c.loop-at.invariant c.line_at-l.ensures c.loop-at-test.true (not-true _ c.if-not-l.true) c.unfit_fault.ensures)
+pub returns-in_default : goal.returns-in_default
+returns-in_default c =
+    unfit_line c.loop-at.invariant c.loop-at-test.true c.in_default.ensures (ap number c.at.ensures.fault ∙ c.unfit_fault.ensures)
+    (c.at.ensures.line ∙ ap (λ (b : ℕ). c.loop-at.n + b) c.lines_before-before.ensures.value)
 
 pub returns-in-Err : goal.returns-in-Err
-returns-in-Err c =
-    rw c.lines_before-before.ensures.value (refused_line c.loop-at.invariant c.line_at-l.ensures (not-false _ c.if-not-l.false) c.in-Err.ensures)
+returns-in-Err c = refused_line c.loop-at.invariant c.in-Some.ensures c.in-Err.ensures c.at-in-Err.ensures.fault (c.at-in-Err.ensures.line ∙ ap (λ (b : ℕ). c.loop-at.n + b) c.lines_before-before.ensures.value)
 
 pub put_line-requires : goal.put_line-requires
 put_line-requires c =
-    (omega (arith, c.loop-at.invariant.same_length), room c.loop-at.invariant (passes c.loop-at.invariant c.line_at-l.ensures (not-false _ c.if-not-l.false) c.in_default.ensures))
+    (omega (arith, c.loop-at.invariant.same_length), room c.loop-at.invariant (passes c.loop-at.invariant c.in-Some.ensures c.in_default-fault.ensures))
 
 pub after_line-r-requires : goal.after_line-r-requires
 after_line-r-requires c = small c.loop-at.invariant
@@ -33,11 +34,11 @@ overflow_add-n c = omega (arith, few_lines c.loop-at.invariant)
 
 pub loop-at-smaller : goal.loop-at-smaller
 loop-at-smaller c =
-    further c.loop-at.invariant (passes c.loop-at.invariant c.line_at-l.ensures (not-false _ c.if-not-l.false) c.in_default.ensures) c.loop-at-test.true
+    further c.loop-at.invariant (passes c.loop-at.invariant c.in-Some.ensures c.in_default-fault.ensures) c.loop-at-test.true
 
 pub loop-at-preserved : goal.loop-at-preserved
 loop-at-preserved c =
-    next_line c.loop-at.invariant (passes c.loop-at.invariant c.line_at-l.ensures (not-false _ c.if-not-l.false) c.in_default.ensures) c.put_line.ensures c.after_line-r.ensures c.put_line.auto.words
+    next_line c.loop-at.invariant (passes c.loop-at.invariant c.in-Some.ensures c.in_default-fault.ensures) c.put_line.ensures c.after_line-r.ensures c.put_line.auto.words
 
 pub overflow_add-n-2 : goal.overflow_add-n-2
 overflow_add-n-2 c = omega (arith, few_lines c.loop-at.invariant)
