@@ -1,6 +1,6 @@
 -- From what was written beside the buffer to the writer's answer. A text that reads to the table is what the table's words say, so it is the one
 -- that was written; read again it is accepted and gives the table's words. Where that fails, there is no such text.
-use Rattle.std.proofs.Common.{ℕ, ◌≤◌, ◌<◌, arith, ◌≡◌, refl, sym, ap, ◌∙◌, subst, Bool, true, false, List, [], ◌∷◌, ◌++◌, map, append-nil, inl, inr, ltb, leb, length, take, drop, take-append-drop, length-take-le, ltb-false, lt-ltb, le-ltb, Result, Ok, Err}
+use Rattle.std.proofs.Common.{ℕ, ◌≤◌, ◌<◌, arith, ◌≡◌, refl, sym, ap, ◌∙◌, subst, Bool, true, false, List, [], ◌∷◌, ◌++◌, map, append-nil, inl, inr, ◌⊎◌, ltb, leb, length, take, drop, take-append-drop, length-take-le, ltb-false, lt-ltb, le-ltb, Result, Ok, Err}
 use Rattle.std.proofs.Math.Seq.{take-append_seam, drop-length}
 use Rattle.rules.specs.declared.Mosts.{Mosts}
 use Rattle.rules.specs.Mosts as Most
@@ -85,6 +85,13 @@ pub is_refused : (r : Result Unit Refusal) → is_err r ≡ true → r ≡ Ok tt
 is_refused (Ok u) e is = impossible cc
 is_refused (Err x) e is = impossible cc
 
+-- what was read again is as short as a text must be, so it fits the buffer
+pub fits_buffer : {r : ℕ} (l words buffer : List ℕ) (answer : Result Unit Refusal) → r ≤ length l → Answers (read_call mosts (take r l) words) answer
+    → is_err answer ≡ false → Most.text ≤ length buffer → r ≤ length buffer
+fits_buffer {r} l words buffer answer within answers e room =
+    let a = was_accepted (read_call mosts (take r l) words) answers (is_read answer e) in
+    omega (arith, length-take-le r l within, read_length mosts (take r l) words a.0 a.1, room)
+
 -- read into 8,192 words
 module _ (printed words : List ℕ) {words₁ : List ℕ} (answer : Result Unit Refusal) (wide : length words ≡ Most.words)
     (answers : Answers (read_call mosts printed words) answer) (leaves : words₁ ≡ program_after (read_call mosts printed words) words) where
@@ -92,9 +99,6 @@ module _ (printed words : List ℕ) {words₁ : List ℕ} (answer : Result Unit 
   gives_words P is =
       let none_left : drop Most.words words ≡ [] = subst (λ (k : ℕ). drop k words ≡ []) wide (drop-length words) in
       leaves ∙ ap (λ (x : Reading). program_after x words) is ∙ ap (λ (ws : List ℕ). program_words P ++ ws) none_left ∙ append-nil (program_words P)
-
-  pub is_short : answer ≡ Ok tt → length printed ≤ Most.text
-  is_short read = let a = was_accepted (read_call mosts printed words) answers read in read_length mosts printed words a.0 a.1
 
   module _ {table : List ℕ} (long : Most.words ≤ length table) where
     -- accepted, and with the table's words: it reads to the table
@@ -114,22 +118,15 @@ module _ (printed words : List ℕ) {words₁ : List ℕ} (answer : Result Unit 
       pub other_words_none : {r : Bool} → Same table words₁ r → r ≡ false → NoneReadsTo mosts table
       other_words_none same differ text it = same.other differ (it.words ∙ sym (gives_words it.program (again text it)))
 
--- a script as long as a text may be fits the buffer
-pub script_fits : {r : ℕ} (l buffer : List ℕ) → r ≤ length l → length (take r l) ≤ Most.text → Most.text ≤ length buffer → r ≤ length buffer
-script_fits {r} l buffer within short room = omega (arith, length-take-le r l within, short, room)
-
 -- ---- The answers
 
 module _ (table buffer : List ℕ) where
-  pub short_table_lem : length table < Most.words → WriteCall mosts table buffer (refused No.short_table) buffer
-  unfolding short_table
-  short_table_lem short = rw (lt-ltb (length table) Most.words short) (record { answers = refl; leaves = refl })
+  pub too_short : (length table < Most.words) ⊎ ((Most.words ≤ length table) × (length buffer < Most.text)) → WriteCall mosts table buffer (refused No.short_table) buffer
+  unfolding short_table short_buffer
+  too_short (inl short) = rw (lt-ltb (length table) Most.words short) (record { answers = refl; leaves = refl })
+  too_short (inr (long, short)) = rw (le-ltb (length table) Most.words long, lt-ltb (length buffer) Most.text short) (record { answers = refl; leaves = refl })
 
   module _ (long : Most.words ≤ length table) where
-    pub short_buffer_lem : length buffer < Most.text → WriteCall mosts table buffer (refused No.short_table) buffer
-    unfolding short_table short_buffer
-    short_buffer_lem short = rw (le-ltb (length table) Most.words long, lt-ltb (length buffer) Most.text short) (record { answers = refl; leaves = refl })
-
     module _ (room : Most.text ≤ length buffer) where
       pub turned_away_lem : NoneReadsTo mosts table → WriteCall mosts table buffer (refused No.no_script) buffer
       unfolding short_table short_buffer

@@ -1,18 +1,11 @@
 -- `writer::write` meets its contract: what is written beside the buffer is the only text that can read to the table; read again, it tells whether it does.
-use Rattle.std.proofs.Common.{arith, refl, sym, ◌∙◌, take, length-take-le, rules}
-use Rattle.writer.proofs.WriteOutcomes.{is_written, is_read, is_refused, is_short, script_fits, reads_to, refused_none, other_words_none, short_table_lem, short_buffer_lem, turned_away_lem, written_out}
+use Rattle.std.proofs.Common.{◌≤◌, arith, refl, sym, ◌∙◌, length, take, length-take-le, rules}
+use Rattle.writer.proofs.WriteOutcomes.{is_written, is_read, is_refused, fits_buffer, reads_to, refused_none, other_words_none, too_short, turned_away_lem, written_out}
 use Rattle.writer.proofs.write.Goals as goal
-use Rattle.writer.proofs.write.Goals.{then-table-lt8192-via-then-table-lt8192, then-table-lt8192-via-else-table-lt8192+then-buffer-lt16384}
 use Rattle.writer.proofs.write.Goals.{then-is_err-via-then-is_err, then-is_err-via-else-is_err+then-not-same_table}
 
 pub returns-then-table-lt8192 : goal.returns-then-table-lt8192
-returns-then-table-lt8192 c =
-    let start = c.args in
-    elim c.then-table-lt8192.branch [
-      then-table-lt8192-via-then-table-lt8192 w ↦ short_table_lem start.table.now start.buffer.now w.if-table-lt8192.true
-      | then-table-lt8192-via-else-table-lt8192+then-buffer-lt16384 w ↦
-        short_buffer_lem start.table.now start.buffer.now w.if-table-lt8192.false w.if-buffer-lt16384.true
-    ]
+returns-then-table-lt8192 c = too_short c.args.table.now c.args.buffer.now c.then-table-lt8192.either
 
 pub returns-then-is_err : goal.returns-then-is_err
 returns-then-is_err c =
@@ -32,25 +25,21 @@ returns-then-is_err c =
 
 pub slice_bounds-copy_from_slice-end : goal.slice_bounds-copy_from_slice-end
 slice_bounds-copy_from_slice-end c =
-    let script = c.put_script-length in
-    let read = c.read.ensures in
-    let short = is_short (take script.result script.new.text) _ c.read.result (search rules) read.value read.table_after (is_read _ (sym c.is_err.ensures.value ∙ c.if-is_err.false)) in
-    script_fits script.new.text c.args.buffer.now (omega (arith, script.ensures.most)) short c.if-buffer-lt16384.false
+    fits_buffer _ _ c.args.buffer.now c.read.result (omega (arith, c.put_script-length.ensures.most)) c.read.ensures.value (sym c.if-is_err.ensures.value)
+    c.if-buffer-lt16384.false
 
 pub slice_bounds-copy_from_slice-end-2 : goal.slice_bounds-copy_from_slice-end-2
 slice_bounds-copy_from_slice-end-2 c =
-    let script = c.put_script-length in
-    let read = c.read.ensures in
-    let short = is_short (take script.result script.new.text) _ c.read.result (search rules) read.value read.table_after (is_read _ (sym c.is_err.ensures.value ∙ c.if-is_err.false)) in
-    sym (length-take-le script.result c.args.buffer.now (script_fits script.new.text c.args.buffer.now (omega (arith, script.ensures.most)) short c.if-buffer-lt16384.false))
+    let fits = fits_buffer _ _ c.args.buffer.now c.read.result (omega (arith, c.put_script-length.ensures.most)) c.read.ensures.value (sym c.if-is_err.ensures.value)
+      c.if-buffer-lt16384.false in
+    sym (length-take-le c.put_script-length.result c.args.buffer.now fits)
 
 pub copy_from_slice-requires : goal.copy_from_slice-requires
 copy_from_slice-requires c =
     let script = c.put_script-length in
-    let read = c.read.ensures in
-    let short = is_short (take script.result script.new.text) _ c.read.result (search rules) read.value read.table_after (is_read _ (sym c.is_err.ensures.value ∙ c.if-is_err.false)) in
-    length-take-le script.result c.args.buffer.now (script_fits script.new.text c.args.buffer.now (omega (arith, script.ensures.most)) short c.if-buffer-lt16384.false)
-    ∙ sym (length-take-le script.result script.new.text (omega (arith, script.ensures.most)))
+    let within : script.result ≤ length script.new.text = omega (arith, script.ensures.most) in
+    let fits = fits_buffer _ _ c.args.buffer.now c.read.result within c.read.ensures.value (sym c.if-is_err.ensures.value) c.if-buffer-lt16384.false in
+    length-take-le script.result c.args.buffer.now fits ∙ sym (length-take-le script.result script.new.text within)
 
 pub returns : goal.returns
 returns c =
@@ -59,7 +48,7 @@ returns c =
     let printed = take script.result script.new.text in
     let read = c.read.ensures in
     let it = reads_to printed _ c.read.result (search rules) read.value read.table_after {table = start.table.now} (search rules)
-      (is_read _ (sym c.is_err.ensures.value ∙ c.if-is_err.false)) (c.same_table.ensures.same c.if-not-same_table.false) in
+      (is_read _ (sym c.if-is_err.ensures.value)) (c.same_table.ensures.same c.if-not-same_table.false) in
     let whole = length-take-le script.result script.new.text (omega (arith, script.ensures.most)) in
     written_out start.table.now start.buffer.now (search rules) (search rules) it (λ text other. is_written script.ensures other)
     (rw (c.copy_from_slice.ensures.after, whole) refl) (sym whole)

@@ -10,9 +10,6 @@ pub returns-then-out-gt16384 : goal.returns-then-out-gt16384
 returns-then-out-gt16384 c =
     too_long c.loop-n.invariant.small c.loop-n.invariant.written c.line_count-lines.ensures.line_count (search rules) c.if-out-gt16384.true
 
-pub put_line-requires : goal.put_line-requires
-put_line-requires c = let same = c.loop-n.invariant.written.writes.length_same in (omega (arith, same), search rules, search rules)
-
 pub loop-n-preserved : goal.loop-n-preserved
 loop-n-preserved c =
     let next = c.put_line.ensures in

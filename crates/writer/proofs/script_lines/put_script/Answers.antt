@@ -3,9 +3,6 @@ use Rattle.std.proofs.Common.{rules}
 use Rattle.writer.proofs.Rows.{script_written}
 use Rattle.writer.proofs.script_lines.put_script.Goals as goal
 
-pub put_lines-requires : goal.put_lines-requires
-put_lines-requires c = (search rules, search rules, search rules)
-
 pub returns : goal.returns
 returns c =
     script_written c.new-out.ensures.start c.new-out.ensures.content (search (rules, c.put_lines.ensures.writes.buffer_same)) c.edition.ensures.edition_is
