@@ -1,2 +1,2 @@
 -- Why the code of this crate keeps its contracts.
-mod Parts
+pub mod Parts

@@ -3,6 +3,7 @@
 #![tactic(auto)]
 
 ghost use Rattle.std.specs.Prelude.{OnOk};
+ghost use Rattle.std.specs.Io.KnownBytes.{Appends};
 ghost use Rattle.streams.specs.Counted.{Within};
 ghost use Rattle.streams.specs.Told.{Tells};
 
@@ -39,7 +40,9 @@ pub fn read_all<R: Read>(reader: &mut R, buf: &mut [u8]) -> io::Result<usize>
 }
 
 // Writes all of a text; or fails, after some of it, or none, was written. A write that takes nothing is as good as interrupted.
-pub fn write_all<W: Write>(writer: &mut W, text: &[u8]) -> io::Result<()> {
+pub fn write_all<W: Write>(writer: &mut W, text: &[u8]) -> io::Result<()>
+    ensures { OnOk result (Appends (W.contents writer.old) (W.contents writer.new) text.now) }
+{
     let mut rest = text;
     let mut tries = PATIENCE;
     while !rest.is_empty() {
