@@ -31,6 +31,19 @@ module _ (v : Value) where
   unfolding value_text bracket print_many
   is_channel_lem c e = rw (e, append-nil (decimal c)) refl
 
+-- what is not absent is printed as a value
+pub some_field : (v : Value) → (v ≡ Absent → ⊥) → space ∷ value_text v ≡ field_part v
+unfolding field_part
+some_field Absent some = absurd (some refl)
+some_field (Obj n) some = refl
+some_field (Chan c) some = refl
+
+pub some_message : (v : Value) → (v ≡ Absent → ⊥) → space ∷ value_text v ≡ space ∷ message_text v
+unfolding message_text
+some_message Absent some = absurd (some refl)
+some_message (Obj n) some = refl
+some_message (Chan c) some = refl
+
 -- ---- Lines
 
 -- parts, each after a space, and then the rest

@@ -34,8 +34,7 @@ pub fn put_field(out: &mut Output, v: Value)
 {
     match v {
         Value::Absent => {}
-        Value::Obj(_) => put_value(out, v),
-        Value::Chan(_) => put_value(out, v),
+        _ => put_value(out, v),
     }
 }
 
@@ -46,7 +45,6 @@ pub fn put_message(out: &mut Output, v: Value)
 {
     match v {
         Value::Absent => out.put_text(b" empty"),
-        Value::Obj(_) => put_value(out, v),
-        Value::Chan(_) => put_value(out, v),
+        _ => put_value(out, v),
     }
 }

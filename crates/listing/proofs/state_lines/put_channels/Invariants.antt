@@ -1,5 +1,5 @@
 -- `listing::state_lines::put_channels` meets its contract: before turn c the lines of the channels below c are written.
-use Rattle.std.proofs.Common.{◌*◌, ◌≤◌, ◌<◌, take, drop}
+use Rattle.std.proofs.Common.{◌*◌, ◌≤◌, take, drop}
 use Rattle.rules.specs.Listing.{channel_line, numbered}
 use Rattle.table.specs.StateTable.{Any}
 use Rattle.listing.specs.StateWriting.{Writes}

@@ -1,5 +1,5 @@
 -- `listing::state_lines::put_fields` meets its contract: before turn j the first j fields are written.
-use Rattle.std.proofs.Common.{arith, rules}
+use Rattle.std.proofs.Common.{rules}
 use Rattle.listing.proofs.StateRows.{no_field_yet, field_after, all_fields}
 use Rattle.listing.proofs.state_lines.put_fields.Goals as goal
 

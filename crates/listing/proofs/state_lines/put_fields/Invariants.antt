@@ -1,5 +1,5 @@
 -- `listing::state_lines::put_fields` meets its contract: before turn j the first j fields are written.
-use Rattle.std.proofs.Common.{◌*◌, ◌≤◌, ◌<◌, length, take}
+use Rattle.std.proofs.Common.{◌*◌, ◌<◌, length, take}
 use Rattle.rules.specs.State.{object_at}
 use Rattle.listing.specs.StateWriting.{Writes, value_parts}
 use Rattle.listing.proofs.state_lines.put_fields.Given as goal

@@ -1,5 +1,5 @@
 -- `listing::state_lines::put_objects` meets its contract: before turn o the lines of the objects below o are written.
-use Rattle.std.proofs.Common.{◌*◌, ◌≤◌, ◌<◌, take}
+use Rattle.std.proofs.Common.{◌*◌, take}
 use Rattle.rules.specs.Listing.{object_line, numbered}
 use Rattle.table.specs.StateTable.{Any}
 use Rattle.listing.specs.StateWriting.{Writes}

@@ -1,5 +1,5 @@
 -- `listing::state_lines::put_slots` meets its contract: before turn i the first i slots are written.
-use Rattle.std.proofs.Common.{arith, rules}
+use Rattle.std.proofs.Common.{rules}
 use Rattle.listing.proofs.StateRows.{no_slot_yet, slot_after, all_slots}
 use Rattle.listing.proofs.state_lines.put_slots.Goals as goal
 

@@ -1,5 +1,5 @@
 -- `listing::state_lines::put_slots` meets its contract: before turn i the first i slots are written.
-use Rattle.std.proofs.Common.{◌*◌, ◌≤◌, ◌<◌, take}
+use Rattle.std.proofs.Common.{◌*◌, take}
 use Rattle.table.specs.StateTable.{frame_at}
 use Rattle.listing.specs.StateWriting.{Writes, value_parts, Inner}
 use Rattle.listing.proofs.state_lines.put_slots.Given as goal

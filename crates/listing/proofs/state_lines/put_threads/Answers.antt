@@ -1,5 +1,5 @@
 -- `listing::state_lines::put_threads` meets its contract: before turn t the lines of the threads below t are written.
-use Rattle.std.proofs.Common.{arith, rules}
+use Rattle.std.proofs.Common.{rules}
 use Rattle.listing.proofs.StateRows.{no_thread_yet, thread_after, all_threads}
 use Rattle.listing.proofs.state_lines.put_threads.Goals as goal
 

@@ -1,5 +1,5 @@
 -- `listing::state_lines::put_threads` meets its contract: before turn t the lines of the threads below t are written.
-use Rattle.std.proofs.Common.{◌*◌, ◌≤◌, ◌<◌, take}
+use Rattle.std.proofs.Common.{◌*◌, take}
 use Rattle.rules.specs.Listing.{thread_line, numbered}
 use Rattle.table.specs.StateTable.{Any}
 use Rattle.listing.specs.StateWriting.{Writes}
