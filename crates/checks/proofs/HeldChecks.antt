@@ -2,7 +2,7 @@
 use Prim.Native.Nat.{ℕ, zero, suc, ◌≤◌, ◌<◌}
 use native.Mathlib.Omega.{arith}
 use mathlib.Core.Path.{◌≡◌, refl, sym, ap, ◌∙◌}
-use mathlib.Core.Bool.{Bool, true, false, not, ◌||◌, or-false}
+use mathlib.Core.Bool.{Bool, true, false, not, ◌||◌}
 use mathlib.Core.List.{List, [], ◌∷◌, ◌++◌, map}
 use lib.Dec.{ltb}
 use lib.ListN.{length, take, replicate}
@@ -74,7 +74,7 @@ any_pad : {A : Type 0} (f : A → Bool) (d : A) → f d ≡ false → (us vs : L
 unfolding pad
 any_pad f d fails us vs values few = sym (ap (any f) values ∙ any_more f d fails 4 4 us few)
 
--- ---- One value, and four values, as they are seen
+-- ---- One value, as it is seen
 
 -- what is seen of object n, where the value is that object
 pub foreign_seen : {s : List ℕ} {v : Value} {n : ℕ} (t : ℕ) {r : Bool} → v ≡ Obj n → Sees s (Made n) (λ S. is_foreign t (object_at S.objects n)) r
@@ -84,21 +84,6 @@ foreign_seen t is seen = record { sees = λ S rest held there. rw is (seen.sees 
 pub above_seen : {s : List ℕ} {v : Value} {n : ℕ} (k : Cap) {c : Cap} {r : Bool} → v ≡ Obj n → Sees s (λ S. n < length S.objects) (λ S. (object_at S.objects n).cap) c → r ≡ may_hold k c
     → Sees s (InObjects v) (λ S. above k S v) (not r)
 above_seen k is cap answer = record { sees = λ S rest held there. rw is (ap not answer ∙ ap (λ c. not (may_hold k c)) (cap.sees S rest held (rw is at there))) }
-
-pub four_channels : (a b c d : Value) {ra rb rc rd r : Bool} → ra ≡ is_channel a → rb ≡ is_channel b → rc ≡ is_channel c → rd ≡ is_channel d
-    → r ≡ (ra || (rb || (rc || rd))) → r ≡ any is_channel (a ∷ b ∷ c ∷ d ∷ [])
-unfolding any
-four_channels a b c d a-is b-is c-is d-is answer = rw (or-false (is_channel d), ← a-is, ← b-is, ← c-is, ← d-is) answer
-
-pub any_seen : {s : List ℕ} {a b c d : Value} (g : State → Value → Bool) {ra rb rc rd r : Bool}
-    → Sees s (InObjects a) (λ S. g S a) ra → Sees s (InObjects b) (λ S. g S b) rb → Sees s (InObjects c) (λ S. g S c) rc → Sees s (InObjects d) (λ S. g S d) rd
-    → r ≡ (ra || (rb || (rc || rd))) → Sees s (AllInObjects (a ∷ b ∷ c ∷ d ∷ [])) (λ S. any (g S) (a ∷ b ∷ c ∷ d ∷ [])) r
-unfolding any
-any_seen {d = d} g seen-a seen_b seen-c seen-d answer =
-    record {
-      sees = λ S rest held there.
-          rw (or-false (g S d), ← seen-a.sees S rest held there.0, ← seen_b.sees S rest held there.1.0, ← seen-c.sees S rest held there.1.1.0, ← seen-d.sees S rest held there.1.1.1.0) answer;
-    }
 
 -- ---- new, past its operands: four values, of which no more than are given are made up
 

@@ -5,8 +5,11 @@ use mathlib.Core.Path.{◌≡◌, refl, sym, ap, ◌∙◌, subst}
 use mathlib.Core.Bool.{true, false}
 use mathlib.Core.List.{List, [], ◌∷◌, ◌++◌, map}
 use lib.Dec.{eqb}
-use lib.ListN.{length, take, replicate}
+use lib.ListN.{length, get_or, take, drop, replicate}
 use borrow.Author.Tests.{eqb-true, eqb-false}
+use lib.Seq.{drop-cons}
+use Rattle.std.specs.List.{list_any}
+use Rattle.std.proofs.lemmas.List.{take_more, take-append-drop, take_all}
 use Rattle.rules.specs.Numbers as No
 use Rattle.rules.specs.declared.Value.{Value}
 use Rattle.rules.specs.declared.Value.TheVariants.{Absent}
@@ -16,12 +19,12 @@ use Rattle.rules.specs.Reading.{slot_of}
 use Rattle.rules.specs.State.{Object, Frame, State, slot_at}
 use Rattle.rules.specs.Tables.{operand_item, operand_of}
 use Rattle.rules.specs.Turn.{stop, Res, ok, ◌>>=◌, ◌>>◌, permit, is_iso_object, present, operand, operands, left_by}
-use Rattle.rules.proofs.ListLaws.{impossible, by_bool, every_pad, every_image, every_mapped, every_map}
+use Rattle.rules.proofs.ListLaws.{impossible, by_bool, every_pad, every_image, every_mapped, every_map, every_at}
 use Rattle.rules.proofs.TableWords.{operand_of_word, half_of_word, slot_of_word}
 use Rattle.table.specs.declared.standing.Here.{Here}
 use Rattle.checks.specs.Checked.{outcome_of, passed, Stand, Named, Checks}
-use Rattle.checks.specs.NewItems.{left_by_item, item_slots, item_operand, takes_slot, ChecksItems}
-use Rattle.checks.proofs.CheckLaws.{stays, goes_on, then_ok, then_gives, same_after, given}
+use Rattle.checks.specs.NewItems.{left_by_item, left_by_items, item_slots, item_operand, takes_slot, ChecksItems}
+use Rattle.checks.proofs.CheckLaws.{no_both, stays, goes_on, then_ok, then_gives, same_after, given}
 use Rattle.checks.proofs.OperandChecks.{slot_taken, slot_left}
 use Rattle.checks.proofs.Standing.{OperandChecked}
 
@@ -58,40 +61,47 @@ same_slot_same_answer os vs us (reads s) same =
     rw same (same_after (present (slot_at us s)) _ _ λ v. sym (then_ok (permit false (is_iso_object os v) false) (v, vs)) ∙ then_ok (permit false (is_iso_object os v) false) (v, us))
 same_slot_same_answer os vs us (takes s) same = rw same (same_after (present (slot_at us s)) _ _ λ v. refl)
 
--- ---- One item e, after the items a, b and c
+-- ---- The slot of item suc w, as the items before it leave it
 
-abbrev pub ItemChecked : List ℕ → Here → (a b c e : ℕ) → Res (Unit {0}) → Type 0
-ItemChecked s h a b c e k = Checks s h (item_slots e) (λ P H. item_operand H.state.objects (left_by_item (left_by_item (left_by_item H.frame.slots a) b) c) e) k
+stays_absent : (es : List ℕ) (vs : List Value) (w : ℕ) → slot_at vs (w / 2) ≡ Absent → slot_at (left_by_items vs es) (w / 2) ≡ Absent
+stays_absent [] vs w gone = gone
+stays_absent (e ∷ es) vs w gone = stays_absent es (left_by_item vs e) w (still_absent vs e w gone)
 
-pub no_item_passes : (s : List ℕ) (h : Here) (a b c : ℕ) {e : ℕ} → e ≡ 0 → ItemChecked s h a b c e (ok tt)
-no_item_passes s h a b c none = record { checks = λ P n S f fs rest st named. rw none refl }
+absent_if_any_took : (es : List ℕ) (vs : List Value) (w : ℕ) → list_any (λ a. takes_slot a (suc w)) es ≡ true → slot_at (left_by_items vs es) (w / 2) ≡ Absent
+absent_if_any_took [] vs w some = impossible cc
+absent_if_any_took (e ∷ es) vs w some = by_bool (takes_slot e (suc w))
+    (λ t. stays_absent es (left_by_item vs e) w (absent_if_taken vs e w t))
+    (λ t. absent_if_any_took es (left_by_item vs e) w (rw t at some))
 
-module _ (s : List ℕ) (h : Here) (a b c : ℕ) where
-  pub first_took : (e : ℕ) → takes_slot a e ≡ true → ItemChecked s h a b c e (stop No.absent)
-  first_took zero t = impossible cc
-  first_took (suc w) t =
-      record { checks = λ P n S f fs rest st named. no_operand_there S.objects _ w (still_absent _ c w (still_absent _ b w (absent_if_taken f.slots a w t))) }
+same_if_none_took : (es : List ℕ) (vs : List Value) (w : ℕ) → list_any (λ a. takes_slot a (suc w)) es ≡ false → slot_at (left_by_items vs es) (w / 2) ≡ slot_at vs (w / 2)
+same_if_none_took [] vs w none = refl
+same_if_none_took (e ∷ es) vs w none = by_bool (takes_slot e (suc w))
+    (λ t. let no : true ≡ false = rw t at none in impossible cc)
+    (λ t. same_if_none_took es (left_by_item vs e) w (rw t at none) ∙ same_if_not vs e w t)
 
-  pub second_took : (e : ℕ) → takes_slot b e ≡ true → ItemChecked s h a b c e (stop No.absent)
-  second_took zero t = impossible cc
-  second_took (suc w) t =
-      record { checks = λ P n S f fs rest st named. no_operand_there S.objects _ w (still_absent _ c w (absent_if_taken (left_by_item f.slots a) b w t)) }
+-- ---- One item e, after the items es
 
-  pub third_took : (e : ℕ) → takes_slot c e ≡ true → ItemChecked s h a b c e (stop No.absent)
-  third_took zero t = impossible cc
-  third_took (suc w) t =
-      record { checks = λ P n S f fs rest st named. no_operand_there S.objects _ w (absent_if_taken (left_by_item (left_by_item f.slots a) b) c w t) }
+abbrev pub ItemChecked : List ℕ → Here → List ℕ → ℕ → Res (Unit {0}) → Type 0
+ItemChecked s h es e k = Checks s h (item_slots e) (λ P H. item_operand H.state.objects (left_by_items H.frame.slots es) e) k
+
+pub no_item_passes : (s : List ℕ) (h : Here) (es : List ℕ) {e : ℕ} → e ≡ 0 → ItemChecked s h es e (ok tt)
+no_item_passes s h es none = record { checks = λ P n S f fs rest st named. rw none refl }
+
+module _ (s : List ℕ) (h : Here) (es : List ℕ) where
+  pub one_took : (e : ℕ) → (e ≡ 0 → ⊥) → list_any (λ a. takes_slot a e) es ≡ true → ItemChecked s h es e (stop No.absent)
+  one_took zero some t = absurd (some refl)
+  one_took (suc w) some t = record { checks = λ P n S f fs rest st named. no_operand_there S.objects _ w (absent_if_any_took es f.slots w t) }
 
   -- no earlier item took the slot: the operand of word e - 1 sees it as it stands
-  pub none_took : (e : ℕ) {k : Res (Unit {0})} → (e ≡ 0 → ⊥) → takes_slot a e ≡ false → takes_slot b e ≡ false → takes_slot c e ≡ false → OperandChecked s h (e - 1) k → ItemChecked s h a b c e k
-  none_took zero some ta tb tc first = absurd (some refl)
-  none_took (suc w) {k} some ta tb tc first =
+  pub none_took : (e : ℕ) {k : Res (Unit {0})} → (e ≡ 0 → ⊥) → list_any (λ a. takes_slot a e) es ≡ false → OperandChecked s h (e - 1) k → ItemChecked s h es e k
+  none_took zero some none first = absurd (some refl)
+  none_took (suc w) {k} some none first =
       let word : suc w - 1 ≡ w = omega arith in
       let own : OperandChecked s h w k = subst (λ x. OperandChecked s h x k) word first in
       record {
         checks = λ P n S f fs rest st named.
-            let left = left_by_item (left_by_item (left_by_item f.slots a) b) c in
-            let same : slot_at left (w / 2) ≡ slot_at f.slots (w / 2) = same_if_not _ c w tc ∙ same_if_not _ b w tb ∙ same_if_not f.slots a w ta in
+            let left = left_by_items f.slots es in
+            let same : slot_at left (w / 2) ≡ slot_at f.slots (w / 2) = same_if_none_took es f.slots w none in
             own.checks P n S f fs rest st named ∙ sym (same_slot_same_answer S.objects left f.slots (operand_of w) (rw (slot_of_word w) same)) ∙ then_ok (operand S.objects left (operand_of w)) tt;
       }
 
@@ -147,41 +157,44 @@ items_for_operands all =
       };
     }
 
-module _ {s : List ℕ} {h : Here} (a b c d : ℕ) {ka : Res (Unit {0})} (first : ItemChecked s h 0 0 0 a ka) where
-  pub first_ends : passed ka ≡ false → ItemsChecked s h (a ∷ b ∷ c ∷ d ∷ []) ka
+-- where the first items pass, the rest goes on from the slots that they leave
+rest_goes_on : (os : List Object) (vs : List Value) (es rest : List ℕ) → ok tt ≡ outcome_of (items_in_order os vs es)
+    → outcome_of (items_in_order os vs (es ++ rest)) ≡ outcome_of (items_in_order os (left_by_items vs es) rest)
+unfolding ◌>>=◌ ◌>>◌
+rest_goes_on os vs [] rest passes = refl
+rest_goes_on os vs (e ∷ es) rest passes = by_bool (passed (outcome_of (item_operand os vs e)))
+    (λ first. goes_on (item_operand os vs e) _ first refl ∙ rest_goes_on os (left_by_item vs e) es rest (passes ∙ goes_on (item_operand os vs e) _ first refl))
+    (λ fails. no_both (ok tt) refl (ap passed (passes ∙ sym (stays (item_operand os vs e) _ fails refl)) ∙ fails))
+
+-- the first i items pass
+pub record ItemsGo (s : List ℕ) (h : Here) (items : List ℕ) (i : ℕ) : Type 0 where
+  pub go : (P : Program) (n : ℕ) (S : State) (f : Frame) (fs : List Frame) (rest : List ℕ) → Stand s h P n S f fs rest → Every (λ e. Named (item_slots e) f) items
+      → ok tt ≡ outcome_of (items_in_order S.objects f.slots (take i items))
+
+pub none_yet : (s : List ℕ) (h : Here) (items : List ℕ) → ItemsGo s h items 0
+none_yet s h items = record { go = λ P n S f fs rest st named. refl }
+
+pub all_pass : {s : List ℕ} {h : Here} (items : List ℕ) (i : ℕ) → length items ≤ i → ItemsGo s h items i → ItemsChecked s h items (ok tt)
+all_pass items i past all =
+    record { checks = λ P n S f fs rest st named. all.go P n S f fs rest st named ∙ ap (λ es. outcome_of (items_in_order S.objects f.slots es)) (take_all i items past) }
+
+-- item e is that of number i
+module _ {s : List ℕ} {h : Here} (items : List ℕ) (i : ℕ) (there : i < length items) (so-far : ItemsGo s h items i) where
+  pub one_passes : ItemChecked s h (take i items) (get_or items i 0) (ok tt) → ItemsGo s h items (i + 1)
+  one_passes own =
+      record {
+        go = λ P n S f fs rest st named.
+            own.checks P n S f fs rest st (every_at (λ e. Named (item_slots e) f) items i 0 there named) ∙ then_ok (item_operand S.objects (left_by_items f.slots (take i items)) (get_or items i 0)) tt
+            ∙ sym (rest_goes_on S.objects f.slots (take i items) (get_or items i 0 ∷ []) (so-far.go P n S f fs rest st named))
+            ∙ ap (λ es. outcome_of (items_in_order S.objects f.slots es)) (sym (take_more items i 0 there));
+      }
+
+  pub one_ends : {n : ℕ} → ItemChecked s h (take i items) (get_or items i 0) (stop n) → ItemsChecked s h items (stop n)
   unfolding ◌>>◌
-  first_ends fails = record { checks = λ P n S f fs rest st named. stays (item_operand S.objects f.slots a) _ fails (first.checks P n S f fs rest st named.0) }
-
-  module _ {kb : Res (Unit {0})} (a-passes : passed ka ≡ true) (second : ItemChecked s h a 0 0 b kb) where
-    pub second_ends : passed kb ≡ false → ItemsChecked s h (a ∷ b ∷ c ∷ d ∷ []) kb
-    unfolding ◌>>◌
-    second_ends fails =
-        record {
-          checks = λ P n S f fs rest st named.
-              stays (item_operand S.objects (left_by_item f.slots a) b) _ fails (second.checks P n S f fs rest st named.1.0)
-              ∙ sym (goes_on (item_operand S.objects f.slots a) _ a-passes (first.checks P n S f fs rest st named.0));
-        }
-
-    module _ {kc : Res (Unit {0})} (b-passes : passed kb ≡ true) (third : ItemChecked s h a b 0 c kc) where
-      module _ {P : Program} {n : ℕ} {S : State} {f : Frame} {fs : List Frame} {rest : List ℕ} (st : Stand s h P n S f fs rest) (named : Every (λ e. Named (item_slots e) f) (a ∷ b ∷ c ∷ d ∷ [])) where
-        past_two : outcome_of (items_in_order S.objects f.slots (a ∷ b ∷ c ∷ d ∷ [])) ≡ outcome_of (items_in_order S.objects (left_by_item (left_by_item f.slots a) b) (c ∷ d ∷ []))
-        past_two =
-            goes_on (item_operand S.objects f.slots a) _ a-passes (first.checks P n S f fs rest st named.0)
-            ∙ goes_on (item_operand S.objects (left_by_item f.slots a) b) _ b-passes (second.checks P n S f fs rest st named.1.0)
-
-      pub third_ends : passed kc ≡ false → ItemsChecked s h (a ∷ b ∷ c ∷ d ∷ []) kc
-      unfolding ◌>>◌
-      third_ends fails =
-          record {
-            checks = λ P n S f fs rest st named.
-                stays (item_operand S.objects (left_by_item (left_by_item f.slots a) b) c) _ fails (third.checks P n S f fs rest st named.1.1.0) ∙ sym (past_two st named);
-          }
-
-      pub fourth_ends : {kd : Res (Unit {0})} → passed kc ≡ true → ItemChecked s h a b c d kd → ItemsChecked s h (a ∷ b ∷ c ∷ d ∷ []) kd
-      fourth_ends c-passes fourth =
-          record {
-            checks = λ P n S f fs rest st named.
-                let three = left_by_item (left_by_item (left_by_item f.slots a) b) c in
-                fourth.checks P n S f fs rest st named.1.1.1.0 ∙ then_ok (item_operand S.objects three d) tt
-                ∙ sym (past_two st named ∙ goes_on (item_operand S.objects (left_by_item (left_by_item f.slots a) b) c) _ c-passes (third.checks P n S f fs rest st named.1.1.0));
-          }
+  one_ends own =
+      record {
+        checks = λ P n S f fs rest st named.
+            stays (item_operand S.objects (left_by_items f.slots (take i items)) (get_or items i 0)) _ refl (own.checks P n S f fs rest st (every_at (λ e. Named (item_slots e) f) items i 0 there named))
+            ∙ sym (rest_goes_on S.objects f.slots (take i items) (drop i items) (so-far.go P n S f fs rest st named) ∙ ap (λ es. outcome_of (items_in_order S.objects (left_by_items f.slots (take i items)) es)) (drop-cons items i 0 there))
+            ∙ ap (λ es. outcome_of (items_in_order S.objects f.slots es)) (take-append-drop i items);
+      }

@@ -8,6 +8,8 @@ mod OperandChecks
 pub mod ObjectChecks
 pub mod ChannelChecks
 pub mod CallChecks
+-- a test of each element of a list
+pub mod AnySeen
 -- the items of a new; the values that it would hold; both
 pub mod ItemChecks
 mod HeldChecks

@@ -4,7 +4,7 @@ use native.Mathlib.Omega.{arith}
 use mathlib.Core.Path.{◌≡◌, refl, sym, ap, ◌∙◌, subst}
 use mathlib.Core.Bool.{true, false}
 use mathlib.Core.List.{List, [], ◌∷◌, map}
-use lib.ListN.{length-map}
+use lib.ListN.{length, get_or, length-map}
 use Rattle.rules.specs.declared.Cap.{Cap}
 use Rattle.rules.specs.declared.Value.{Value}
 use Rattle.rules.specs.declared.Value.TheVariants.{Absent, Obj, Chan}
@@ -22,7 +22,7 @@ use Rattle.rules.proofs.Moves.{left_was_there}
 use Rattle.table.specs.declared.standing.Here.{Here}
 use Rattle.table.specs.StateTable.{InTable, Sees, frame_at}
 use Rattle.checks.specs.Checked.{outcome_of, passed, InObjects, here_at, Stand, Named}
-use Rattle.checks.specs.NewItems.{hold_all, item_slots, item_value, AllInObjects, ChecksItems, ChecksHeld, ChecksNew}
+use Rattle.checks.specs.NewItems.{hold_all, item_slots, item_value, AllInObjects, ChecksItems, ItemsRead, ChecksHeld, ChecksNew}
 use Rattle.checks.proofs.CheckLaws.{stays, then_ok, then_gives, same_after, given, no_both}
 use Rattle.checks.proofs.Standing.{SlotSeen, frame_is, slots_few, slot_in_table, slot_in_objects}
 use Rattle.checks.proofs.ItemChecks.{items_named}
@@ -102,13 +102,27 @@ items_values vs [] = refl
 items_values vs (w ∷ ws) = rw (half_of_word w, items_values vs ws) refl
 
 -- the values of four items are those of the operands' slots
-pub values_read : {s : List ℕ} {h : Here} {P : Program} {n : ℕ} {S : State} {f : Frame} {fs : List Frame} {rest : List ℕ} → Stand s h P n S f fs rest
+values_read : {s : List ℕ} {h : Here} {P : Program} {n : ℕ} {S : State} {f : Frame} {fs : List Frame} {rest : List ℕ} → Stand s h P n S f fs rest
     → {a b c d : ℕ} {va vb vc vd : Value} → ItemSeen s h a va → ItemSeen s h b vb → ItemSeen s h c vc → ItemSeen s h d vd
     → (ws : List Operand) → a ∷ b ∷ c ∷ d ∷ [] ≡ pad 4 0 (map operand_item ws) → Named (map slot_of ws) f → va ∷ vb ∷ vc ∷ vd ∷ [] ≡ pad 4 Absent (slots_of f.slots ws)
 values_read {f = f} st {a} {b} {c} {d} seen-a seen_b seen-c seen-d ws is named =
     let each = items_named f ws is named in
     rw (item_read st a seen-a each.0, item_read st b seen_b each.1.0, item_read st c seen-c each.1.1.0, item_read st d seen-d each.1.1.1.0)
     (ap (map (item_value f.slots)) is ∙ map_pad (item_value f.slots) 4 0 (map operand_item ws) ∙ ap (pad 4 Absent) (items_values f.slots ws))
+
+pub four_there : {A : Type 0} (d : A) (xs : List A) → length xs ≡ 4 → xs ≡ get_or xs 0 d ∷ get_or xs 1 d ∷ get_or xs 2 d ∷ get_or xs 3 d ∷ []
+four_there d [] four = absurd (omega arith)
+four_there d (a ∷ []) four = absurd (omega arith)
+four_there d (a ∷ b ∷ []) four = absurd (omega arith)
+four_there d (a ∷ b ∷ c ∷ []) four = absurd (omega arith)
+four_there d (a ∷ b ∷ c ∷ e ∷ []) four = refl
+four_there d (a ∷ b ∷ c ∷ e ∷ x ∷ xs) four = absurd (omega arith)
+
+pub items_read : {s : List ℕ} {h : Here} (items : List ℕ) → length items ≡ 4 → {va vb vc vd : Value}
+    → ItemSeen s h (get_or items 0 0) va → ItemSeen s h (get_or items 1 0) vb → ItemSeen s h (get_or items 2 0) vc → ItemSeen s h (get_or items 3 0) vd
+    → ItemsRead s h items (va ∷ vb ∷ vc ∷ vd ∷ [])
+items_read items four seen-a seen_b seen-c seen-d =
+    record { read = λ ws is P n S f fs rest st named. values_read st seen-a seen_b seen-c seen-d ws (sym (four_there 0 items four) ∙ is) named }
 
 -- ---- new
 
@@ -118,23 +132,22 @@ new_checks_values : (H : R.Here) (k : Cap) (kind : ℕ) (ws : List Operand) (us 
 unfolding new_line hold_all object ◌>>=◌ ◌>>◌
 new_checks_values H k kind ws us left gives = rw gives (same_after (all_objects us) _ _ λ ns. same_after (permit _ _ _) _ _ λ _. then_ok (check _ _) _)
 
-module _ {s : List ℕ} {h : Here} (k : Cap) {a b c d : ℕ} {first : Res (Unit {0})} (checked : ChecksItems s h (a ∷ b ∷ c ∷ d ∷ []) first) where
-  pub new_no_operands : passed first ≡ false → ChecksNew s h k (a ∷ b ∷ c ∷ d ∷ []) first
+module _ {s : List ℕ} {h : Here} (k : Cap) {items : List ℕ} {first : Res (Unit {0})} (checked : ChecksItems s h items first) where
+  pub new_no_operands : passed first ≡ false → ChecksNew s h k items first
   unfolding new_line
   new_no_operands fails =
       record {
         checks = λ ws is few kind. record { checks = λ P n S f fs rest st named. stays _ _ fails ((checked.checks ws is few).checks P n S f fs rest st named) };
       }
 
-  pub new_of_values : {va vb vc vd : Value} {r : Res (Unit {0})} → passed first ≡ true → ItemSeen s h a va → ItemSeen s h b vb → ItemSeen s h c vc → ItemSeen s h d vd
-      → ChecksHeld s h.thread k (va ∷ vb ∷ vc ∷ vd ∷ []) r → ChecksNew s h k (a ∷ b ∷ c ∷ d ∷ []) r
-  new_of_values passes seen-a seen_b seen-c seen-d held =
+  pub new_of_values : {values : List Value} {r : Res (Unit {0})} → passed first ≡ true → ItemsRead s h items values → ChecksHeld s h.thread k values r → ChecksNew s h k items r
+  new_of_values passes read held =
       record {
         checks = λ ws is few kind. record {
           checks = λ P n S f fs rest st named.
               let gave = all_given S.objects f.slots ws passes ((checked.checks ws is few).checks P n S f fs rest st named) in
               let us = slots_of f.slots ws in
-              let values = values_read st seen-a seen_b seen-c seen-d ws is named in
+              let values = read.read ws is P n S f fs rest st named in
               let made : AllInObjects us S = every_image (λ v. InObjects v S) _ ws (every_map (λ w filled. slot_in_objects st (slot_of w)) ws (every_mapped _ slot_of ws named)) in
               (held.checks us values (omega (arith, few, length-map ws (λ w. slot_at f.slots (slot_of w)))) gave.there).sees S rest st.held made
               ∙ new_checks_values (here_at S h.thread f fs) k kind ws us gave.left gave.gives;

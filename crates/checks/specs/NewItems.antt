@@ -7,15 +7,15 @@ use Rattle.rules.specs.Mosts as Most
 use Rattle.rules.specs.Mosts.{mosts}
 use Rattle.rules.specs.Numbers as No
 use Rattle.rules.specs.Lists.{pad, any, Every}
-use Rattle.rules.specs.Script.{Operand}
+use Rattle.rules.specs.Script.{Operand, Program}
 use Rattle.rules.specs.Reading.{slot_of}
-use Rattle.rules.specs.State.{Object, State, object_at, slot_at}
+use Rattle.rules.specs.State.{Object, Frame, State, object_at, slot_at}
 use Rattle.rules.specs.Tables.{operand_item, operand_of}
 use Rattle.rules.specs.Turn as R
 use Rattle.rules.specs.Turn.{Res, ok, ◌>>=◌, ◌>>◌, check, permit, may_hold, is_foreign, is_absent, operand, left_by, operands, all_objects}
 use Rattle.table.specs.declared.standing.Here.{Here}
 use Rattle.table.specs.StateTable.{Sees}
-use Rattle.checks.specs.Checked.{outcome_of, InObjects, Checks}
+use Rattle.checks.specs.Checked.{outcome_of, InObjects, Stand, Named, Checks}
 
 -- new, past its operands, which give the values us
 unfoldable pub hold_all : ℕ → Cap → State → List Value → Res (Unit {0})
@@ -29,6 +29,11 @@ hold_all t k S us = do
 abbrev pub left_by_item : List Value → ℕ → List Value
 left_by_item vs zero = vs
 left_by_item vs (suc w) = left_by vs (operand_of w)
+
+-- these items one after the other
+abbrev pub left_by_items : List Value → List ℕ → List Value
+left_by_items vs [] = vs
+left_by_items vs (e ∷ es) = left_by_items (left_by_item vs e) es
 
 abbrev pub item_slots : ℕ → List ℕ
 item_slots zero = []
@@ -64,6 +69,11 @@ is_channel (Chan c) = true
 
 abbrev pub AllInObjects : List Value → State → Type 0
 AllInObjects vs S = Every (λ v. InObjects v S) vs
+
+-- the values are those that stood in the slots of the operands whose items these are
+pub record ItemsRead (s : List ℕ) (h : Here) (items : List ℕ) (values : List Value) : Type 0 where
+  pub read : (ws : List Operand) → items ≡ pad Most.operands 0 (map operand_item ws) → (P : Program) (n : ℕ) (S : State) (f : Frame) (fs : List Frame) (rest : List ℕ)
+      → Stand s h P n S f fs rest → Named (map slot_of ws) f → values ≡ pad Most.operands Absent (map (λ w. slot_at f.slots (slot_of w)) ws)
 
 -- the operands of a new; the values that they gave
 pub record ChecksItems (s : List ℕ) (h : Here) (items : List ℕ) (k : Res (Unit {0})) : Type 0 where

@@ -4,7 +4,7 @@ ghost use Rattle.rules.specs.Lists.{any, Every};
 ghost use Rattle.rules.specs.State.{slot_at};
 ghost use Rattle.table.specs.StateTable.{InTable, Sees, frame_at};
 ghost use Rattle.checks.specs.Checked.{checked, InObjects, Checks};
-ghost use Rattle.checks.specs.NewItems.{left_by_item, item_slots, item_operand, item_value, takes_slot, foreign_to, above, is_channel, AllInObjects, ChecksItems, ChecksHeld};
+ghost use Rattle.checks.specs.NewItems.{left_by_items, item_slots, item_operand, item_value, takes_slot, foreign_to, above, AllInObjects, ItemsRead, ChecksItems, ChecksHeld};
 
 use super::form_checks::{is_foreign, operand, operand_check, permission_check};
 use rules::{Cap, Fault, Value};
@@ -20,35 +20,29 @@ fn takes_slot(a: u16, e: u16) -> bool
     a as usize == (e as usize - 1) / 2 * 2 + 2
 }
 
-// The operand of item e, which sees what the items a, b and c before it took.
-fn item_check(s: &[u16], h: Here, a: u16, b: u16, c: u16, e: u16) -> Result<(), Fault>
+// The operand of item e, which sees what the items before it took.
+fn item_check(s: &[u16], h: Here, before: &[u16], e: u16) -> Result<(), Fault>
     requires { 8192 ≤ length s.now }
-    ensures { Checks s.now h (item_slots e) (λ P H. item_operand H.state.objects (left_by_item (left_by_item (left_by_item H.frame.slots a) b) c) e) (checked result) }
+    ensures { Checks s.now h (item_slots e) (λ P H. item_operand H.state.objects (left_by_items H.frame.slots before.now) e) (checked result) }
 {
     if e == 0 {
         return Ok(());
     }
-    if takes_slot(a, e) {
-        return Err(Fault::Absent);
-    }
-    if takes_slot(b, e) {
-        return Err(Fault::Absent);
-    }
-    if takes_slot(c, e) {
+    if before.iter().any(|a| takes_slot(*a, e)) {
         return Err(Fault::Absent);
     }
     operand_check(s, h, e - 1)
 }
 
 // "All operands come first, left to right, each seeing what the earlier ones took."
-pub fn items_check(s: &[u16], h: Here, a: u16, b: u16, c: u16, d: u16) -> Result<(), Fault>
+pub fn items_check(s: &[u16], h: Here, items: [u16; 4]) -> Result<(), Fault>
     requires { 8192 ≤ length s.now }
-    ensures { ChecksItems s.now h (a ∷ b ∷ c ∷ d ∷ []) (checked result) }
+    ensures { ChecksItems s.now h items (checked result) }
 {
-    item_check(s, h, 0, 0, 0, a)?;
-    item_check(s, h, a, 0, 0, b)?;
-    item_check(s, h, a, b, 0, c)?;
-    item_check(s, h, a, b, c, d)
+    for i in 0..4 {
+        item_check(s, h, &items[..i], items[i])?;
+    }
+    Ok(())
 }
 
 // The value of an item's slot; absent where there is no item.
@@ -63,14 +57,18 @@ pub fn item_value(s: &[u16], h: Here, e: u16) -> Value
     operand(s, h, e - 1)
 }
 
-fn is_channel(v: Value) -> bool
-    ensures { result ≡ is_channel v }
+// The values of these items, in order.
+pub fn item_values(s: &[u16], h: Here, items: [u16; 4]) -> [Value; 4]
+    requires { 8192 ≤ length s.now }
+    ensures in_table { Every InTable result }
+    ensures read { ItemsRead s.now h items result }
 {
-    match v {
-        Value::Absent => false,
-        Value::Obj(_) => false,
-        Value::Chan(_) => true,
-    }
+    [
+        item_value(s, h, items[0]),
+        item_value(s, h, items[1]),
+        item_value(s, h, items[2]),
+        item_value(s, h, items[3]),
+    ]
 }
 
 // Whether a value is local to another thread than t.
@@ -97,72 +95,35 @@ fn is_above(s: &[u16], c: Cap, v: Value) -> bool
     }
 }
 
-fn any_of(a: bool, b: bool, c: bool, d: bool) -> bool
-    ensures { result ≡ (a || (b || (c || d))) }
+// Whether any value is local to another thread than t.
+fn any_foreign(s: &[u16], t: usize, values: &[Value]) -> bool
+    requires { (8192 ≤ length s.now) × Every InTable values.now }
+    ensures { Sees s.now (AllInObjects values.now) (λ S. any (foreign_to t S) values.now) result }
 {
-    if a {
-        return true;
-    }
-    if b {
-        return true;
-    }
-    if c {
-        return true;
-    }
-    d
+    values.iter().any(|v| is_foreign_value(s, t, *v))
 }
 
-fn any_channel(a: Value, b: Value, c: Value, d: Value) -> bool
-    ensures { result ≡ any is_channel (a ∷ b ∷ c ∷ d ∷ []) }
+// Whether any value is above capability k.
+fn any_above(s: &[u16], k: Cap, values: &[Value]) -> bool
+    requires { (8192 ≤ length s.now) × Every InTable values.now }
+    ensures { Sees s.now (AllInObjects values.now) (λ S. any (above k S) values.now) result }
 {
-    any_of(is_channel(a), is_channel(b), is_channel(c), is_channel(d))
-}
-
-fn any_foreign(s: &[u16], t: usize, a: Value, b: Value, c: Value, d: Value) -> bool
-    requires { (8192 ≤ length s.now) × InTable a × InTable b × InTable c × InTable d }
-    ensures { Sees s.now (AllInObjects (a ∷ b ∷ c ∷ d ∷ [])) (λ S. any (foreign_to t S) (a ∷ b ∷ c ∷ d ∷ [])) result }
-{
-    any_of(
-        is_foreign_value(s, t, a),
-        is_foreign_value(s, t, b),
-        is_foreign_value(s, t, c),
-        is_foreign_value(s, t, d),
-    )
-}
-
-fn any_above(s: &[u16], k: Cap, a: Value, b: Value, c: Value, d: Value) -> bool
-    requires { (8192 ≤ length s.now) × InTable a × InTable b × InTable c × InTable d }
-    ensures { Sees s.now (AllInObjects (a ∷ b ∷ c ∷ d ∷ [])) (λ S. any (above k S) (a ∷ b ∷ c ∷ d ∷ [])) result }
-{
-    any_of(
-        is_above(s, k, a),
-        is_above(s, k, b),
-        is_above(s, k, c),
-        is_above(s, k, d),
-    )
+    values.iter().any(|v| is_above(s, k, *v))
 }
 
 // The most objects of a run.
 const OBJECTS: u16 = 256;
 
 // "any value a channel 13; any value above K, .. 14", or 20 for "new's value that is local with another creator"; "objects used up 16".
-pub fn hold_check(
-    s: &[u16],
-    t: usize,
-    k: Cap,
-    a: Value,
-    b: Value,
-    c: Value,
-    d: Value,
-) -> Result<(), Fault>
-    requires { (8192 ≤ length s.now) × InTable a × InTable b × InTable c × InTable d }
-    ensures { ChecksHeld s.now t k (a ∷ b ∷ c ∷ d ∷ []) (checked result) }
+pub fn hold_check(s: &[u16], t: usize, k: Cap, values: [Value; 4]) -> Result<(), Fault>
+    requires { (8192 ≤ length s.now) × Every InTable values }
+    ensures { ChecksHeld s.now t k values (checked result) }
 {
-    if any_channel(a, b, c, d) {
+    if values.iter().any(|v| matches!(v, Value::Chan(_))) {
         return Err(Fault::WrongThing);
     }
-    let foreign = any_foreign(s, t, a, b, c, d);
-    let other = any_above(s, k, a, b, c, d);
+    let foreign = any_foreign(s, t, &values);
+    let other = any_above(s, k, &values);
     permission_check(foreign, false, other)?;
     if table::object_count(s) < OBJECTS {
         return Ok(());

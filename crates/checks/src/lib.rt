@@ -9,4 +9,4 @@ pub use form_checks::{
     operand_check, permission_check, put_check, put_into, recv_check, seen, sent_check, slot_of,
     spawn_check, swap_into,
 };
-pub use items::{hold_check, item_value, items_check};
+pub use items::{hold_check, item_value, item_values, items_check};

@@ -5,17 +5,19 @@ use native.Mathlib.Nat.{mod-eq_of_lt}
 use native.Mathlib.Numerals.{add-one}
 use native.Mathlib.Omega.{arith}
 use mathlib.Core.Path.{◌≡◌, refl, sym, ap, ◌∙◌, subst}
-use mathlib.Core.Bool.{Bool, true, false, ◌||◌}
+use mathlib.Core.Bool.{Bool}
 use mathlib.Core.List.{List, [], ◌∷◌, ◌++◌, map, map-append, append_assoc, append-nil}
-use lib.ListN.{length, get_or, take, drop, length-append, length-map, get_or-append, get_or-map, drop_of_length-le}
-use lib.Seq.{drop-cons, take-suc, get_or-take, length-take-le}
+use lib.ListN.{length, get_or, take, length-append, length-map, get_or-append, get_or-map}
+use lib.Seq.{take-suc, length-take-le}
 use Rattle.rules.specs.declared.Cap.{Cap}
 use Rattle.rules.specs.declared.Value.{Value}
 use Rattle.rules.specs.declared.Value.TheVariants.{Absent}
 use Rattle.rules.specs.Lists.{pad, any, Every}
 use Rattle.rules.specs.State.{Object, State, no_object, object_at, slot_at}
 use Rattle.rules.specs.Turn.{is_foreign, put_objects}
-use Rattle.rules.proofs.ListLaws.{every_at, every_parts}
+use Rattle.rules.proofs.ListLaws.{every_map, every_parts}
+use Rattle.std.proofs.lemmas.List.{take_more, take_all}
+use Rattle.checks.proofs.AnySeen.{SeenAs}
 use Rattle.table.specs.StateTable.{Counted, Sees, FieldIn, Makes, made, recount, raised, all_raised, Counts}
 use Rattle.checks.specs.Checked.{Made, Fielded}
 use Rattle.checks.proofs.Standing.{field_in}
@@ -28,54 +30,21 @@ use Rattle.turn.proofs.TurnSteps.{four_by_place}
 abbrev pub foreign_in : ℕ → State → ℕ → Bool
 foreign_in t S i = is_foreign t (object_at S.objects i)
 
--- none of the first i is
-pub record NoneBefore (s : List ℕ) (t : ℕ) (ms : List ℕ) (i : ℕ) : Type 0 where
-  pub is : {N : ℕ → ℕ} (S : State) (rest : List ℕ) → Counted s N S rest → AllMade ms S → any (foreign_in t S) ms ≡ any (foreign_in t S) (drop i ms)
+-- there, and so it has a place in the table
+abbrev pub Placed : ℕ → State → Type 0
+Placed i S = (length S.objects ≤ 256) × Made i S
 
-pub none_before : {s : List ℕ} {t : ℕ} {ms : List ℕ} → NoneBefore s t ms 0
-none_before = record { is = λ S rest held there. refl }
-
-module _ (s : List ℕ) (t : ℕ) (order : List ℕ) (count i : ℕ) (within : i < count) (long : count ≤ length order) where
-  abbrev met : List ℕ
-  met = take count order
-
-  module _ {S : State} (there : AllMade met S) where
-    met_made : Made (get_or order i 0) S
-    met_made =
-        let below : i < length met = omega (arith, length-take-le count order long) in
-        subst (λ x. Made x S) (get_or-take count order i 0 within) (every_at (λ x. Made x S) met i 0 below there.made)
-
-    met_number : get_or order i 0 % 256 ≡ get_or order i 0
-    met_number = mod-eq_of_lt (omega (arith, met_made, there.few))
-
-    any_from_here : any (foreign_in t S) (drop i met) ≡ (foreign_in t S (get_or order i 0) || any (foreign_in t S) (drop (suc i) met))
-    unfolding any
-    any_from_here =
-        let below : i < length met = omega (arith, length-take-le count order long) in
-        ap (any (foreign_in t S)) (drop-cons met i 0 below) ∙ ap (λ x. foreign_in t S x || any (foreign_in t S) (drop (suc i) met)) (get_or-take count order i 0 within)
-
-  module _ {r : Bool} (before : NoneBefore s t met i) (seen : Sees s (Made (get_or order i 0 % 256)) (λ S. foreign_in t S (get_or order i 0 % 256)) r) where
-    here_is : {N : ℕ → ℕ} (S : State) (rest : List ℕ) → Counted s N S rest → AllMade met S → any (foreign_in t S) met ≡ (r || any (foreign_in t S) (drop (suc i) met))
-    here_is S rest held there =
-        let same = met_number there in
-        let read : r ≡ foreign_in t S (get_or order i 0) = rw same at (seen.sees S rest held (rw same (met_made there))) in
-        before.is S rest held there ∙ any_from_here there ∙ ap (λ b. b || any (foreign_in t S) (drop (suc i) met)) (sym read)
-
-    pub one_is_foreign : r ≡ true → Sees s (AllMade met) (λ S. any (foreign_in t S) met) true
-    one_is_foreign is = record { sees = λ S rest held there. sym (here_is S rest held there ∙ ap (λ b. b || any (foreign_in t S) (drop (suc i) met)) is) }
-
-    pub one_is_not : r ≡ false → NoneBefore s t met (i + 1)
-    one_is_not is = record {
-      is = λ S rest held there.
-          here_is S rest held there ∙ ap (λ b. b || any (foreign_in t S) (drop (suc i) met)) is ∙ ap (λ j. any (foreign_in t S) (drop j met)) (sym (add-one i));
+pub number_seen : {s : List ℕ} {b : Bool} (t i : ℕ) → Sees s (Made (i % 256)) (λ S. foreign_in t S (i % 256)) b → SeenAs s Placed (foreign_in t) b i
+number_seen t i seen =
+    record {
+      sees = λ S rest held there.
+          let same : i % 256 ≡ i = mod-eq_of_lt (omega (arith, there.0, there.1)) in
+          rw same at (seen.sees S rest held (rw same there.1));
     }
 
-pub none_is_foreign : {s : List ℕ} {t : ℕ} (order : List ℕ) (count i : ℕ) → count ≤ i → count ≤ length order → NoneBefore s t (take count order) i
-    → Sees s (AllMade (take count order)) (λ S. any (foreign_in t S) (take count order)) false
-unfolding any
-none_is_foreign order count i all long before =
-    let past : length (take count order) ≤ i = omega (arith, length-take-le count order long) in
-    record { sees = λ S rest held there. sym (before.is S rest held there ∙ ap (any (foreign_in _ S)) (drop_of_length-le (take count order) past)) }
+pub met_seen : {s : List ℕ} {b : Bool} (t : ℕ) (order : List ℕ) → Sees s (λ S. Every (λ i. Placed i S) order) (λ S. any (foreign_in t S) order) b
+    → Sees s (AllMade order) (λ S. any (foreign_in t S) order) b
+met_seen t order seen = record { sees = λ S rest held there. seen.sees S rest held (every_map (λ i made. (there.few, made)) order there.made) }
 
 -- ---- One copy
 
@@ -97,12 +66,19 @@ four_raised (a ∷ b ∷ c ∷ []) N few = refl
 four_raised (a ∷ b ∷ c ∷ d ∷ []) N few = refl
 four_raised (a ∷ b ∷ c ∷ d ∷ e ∷ vs) N few = absurd (omega arith)
 
-pub four_held : {s s₁ s₂ s₃ s₄ : List ℕ} (a b c d : Value) → Counts (raised a) s s₁ → Counts (raised b) s₁ s₂ → Counts (raised c) s₂ s₃ → Counts (raised d) s₃ s₄
-    → Counts (all_raised (a ∷ b ∷ c ∷ d ∷ [])) s s₄
+pub none_held : (s : List ℕ) (vs : List Value) → Counts (all_raised (take 0 vs)) s s
 unfolding all_raised
-four_held a b c d holds-a holds-b holds-c holds-d = record {
-  counts = λ S rest held. holds-d.counts S rest (holds-c.counts S rest (holds-b.counts S rest (holds-a.counts S rest held)));
+none_held s vs = record { counts = λ S rest held. held }
+
+pub one_more_held : {s s₁ s₂ : List ℕ} (vs : List Value) (i : ℕ) → i < length vs → Counts (all_raised (take i vs)) s s₁ → Counts (raised (get_or vs i Absent)) s₁ s₂
+    → Counts (all_raised (take (i + 1) vs)) s s₂
+unfolding all_raised
+one_more_held vs i there before last = record {
+  counts = λ {N} S rest held. rw (take_more vs i Absent there, raised_append (take i vs) (get_or vs i Absent ∷ []) N) (last.counts S rest (before.counts S rest held));
 }
+
+pub all_held : {s s₁ : List ℕ} (vs : List Value) (i : ℕ) → length vs ≤ i → Counts (all_raised (take i vs)) s s₁ → Counts (all_raised vs) s s₁
+all_held vs i past held = rw (take_all i vs past) at held
 
 -- four fields, of which those that the object does not have are absent; each is held
 pub copy_made : {s s₁ s₂ : List ℕ} {t n cap kind : ℕ} {a b c d : Value} (places : List ℕ) (first o : ℕ)
@@ -133,9 +109,9 @@ copy_made {s₁ = s₁} {s₂ = s₂} {t = t} {a = a} {b = b} {c = c} {d = d} pl
 
 -- ---- The copies, in order
 
-pub none_copied : {s : List ℕ} {t cap first : ℕ} {places : List ℕ} → CopiesAll t cap places first [] s s
+pub none_copied : (s : List ℕ) (t cap first : ℕ) (places order : List ℕ) → CopiesAll t cap places first (take 0 order) s s
 unfolding all_copied put_objects fields_copied all_raised
-none_copied = record { copies = λ k S rest ranked held can. rw (append-nil S.objects) held }
+none_copied s t cap first places order = record { copies = λ k S rest ranked held can. rw (append-nil S.objects) held }
 
 fields_then : (places : List ℕ) (b : ℕ) (os : List Object) (ms : List ℕ) (o : ℕ)
     → fields_copied places b os (ms ++ (o ∷ [])) ≡ fields_copied places b os ms ++ map (renamed_by places b) (object_at os o).fields
@@ -196,13 +172,17 @@ module _ (order : List ℕ) (i : ℕ) (within : i < length order) (t : ℕ) (pla
           (sym (raised_append (fields_copied places first S.objects (take i order)) here N))
 
   pub one_more_copied : {s s₁ s₂ : List ℕ} {cap : ℕ} → CopiesAll t cap places first (take i order) s s₁ → CopiesOne t cap places first (first + i) (get_or order i 0 % 256) s₁ s₂
-      → CopiesAll t cap places first (take (suc i) order) s s₂
+      → CopiesAll t cap places first (take (i + 1) order) s s₂
   one_more_copied {s₂ = s₂} before next =
-      record {
+      rw (add-one i) (record {
         copies = λ {N} k S rest ranked held can.
             let before-it = all_copied k t places first (take i order) S in
             let now_held = before.copies k S rest ranked held (record { next = can.next; sources = (sources can).0 }) in
             let made-too = rw (source_number can) at (next.copies k before-it rest ranked now_held (rw (source_number can) (can_copy can k))) in
             subst (λ (R : State). Counted s₂ (all_raised (fields_copied places first S.objects (take (suc i) order)) N) R rest) (then_copied can k)
             (subst (λ (M : ℕ → ℕ). Counted s₂ M (one_copied k t places first (get_or order i 0) before-it) rest) (then_raised can k N) made-too);
-      }
+      })
+
+pub all_are_copied : {s s₁ : List ℕ} {t cap first : ℕ} {places : List ℕ} (order : List ℕ) (i : ℕ) → length order ≤ i → CopiesAll t cap places first (take i order) s s₁
+    → CopiesAll t cap places first order s s₁
+all_are_copied order i past copied = rw (take_all i order past) at copied

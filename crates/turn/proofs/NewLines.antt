@@ -1,11 +1,12 @@
 -- The line that makes an object: its fields are what stood in the operands' slots, the object is given and held, then each operand's slot is left in order.
-use Prim.Native.Nat.{ℕ, zero, suc, ◌-◌, ◌%◌, ◌≤◌, ◌<◌}
+use Prim.Native.Nat.{ℕ, zero, suc, ◌+◌, ◌-◌, ◌%◌, ◌≤◌, ◌<◌}
 use native.Mathlib.Nat.{mod-eq_of_lt}
 use native.Mathlib.Omega.{arith}
 use mathlib.Core.Path.{◌≡◌, refl, ap, ◌∙◌, subst}
 use mathlib.Core.Bool.{false}
 use mathlib.Core.List.{List, [], ◌∷◌, ◌++◌, map}
-use lib.ListN.{length, take, replicate}
+use lib.ListN.{length, get_or, take, replicate}
+use Rattle.std.proofs.lemmas.List.{take_more, take_all}
 use Rattle.rules.specs.declared.Cap.{Cap}
 use Rattle.rules.specs.declared.Value.{Value}
 use Rattle.rules.specs.declared.Value.TheVariants.{Absent, Obj}
@@ -29,8 +30,8 @@ use Rattle.std.specs.Prelude.{Result, Ok}
 use Rattle.std.specs.Result.{IsErrAnd}
 use Rattle.checks.specs.declared.form_checks.Halt.{Halt}
 use Rattle.checks.specs.Checked.{halted, here_at, Stand, Named}
-use Rattle.checks.specs.NewItems.{ChecksNew}
-use Rattle.checks.proofs.NewChecks.{slots_of, were_there, ItemSeen, values_read}
+use Rattle.checks.specs.NewItems.{ItemsRead, ChecksNew}
+use Rattle.checks.proofs.NewChecks.{slots_of, were_there}
 use Rattle.turn.specs.Performed.{item_emptied, Leaves, LeavesItem, Went, to_next, Always, PerformsNew}
 use Rattle.turn.proofs.SlotLines.{kept_gained}
 use Rattle.turn.proofs.Settled.{Written, only_gained, raised_append}
@@ -57,6 +58,21 @@ item_left {s} {s₁} t k (suc w) {v} some leaves =
 pub data ItemsLeft (t k : ℕ) : (items : List ℕ) (values : List Value) (s s₁ : List ℕ) → Type 0 where
   none_left : {s : List ℕ} → ItemsLeft t k [] [] s s
   then_left : {e : ℕ} {v : Value} {es : List ℕ} {vs : List Value} {s s₁ s₂ : List ℕ} → LeavesItem t k e v s s₁ → ItemsLeft t k es vs s₁ s₂ → ItemsLeft t k (e ∷ es) (v ∷ vs) s s₂
+
+pub left_more : {t k : ℕ} (items : List ℕ) (values : List Value) {s s₁ s₂ : List ℕ} (i : ℕ) → i < length items → i < length values → ItemsLeft t k (take i items) (take i values) s s₁
+    → LeavesItem t k (get_or items i 0) (get_or values i Absent) s₁ s₂ → ItemsLeft t k (take (i + 1) items) (take (i + 1) values) s s₂
+left_more items values i there also before last = rw (take_more items i 0 there, take_more values i Absent also) (one_left before last)
+  where
+    one_left : {t k e : ℕ} {v : Value} {es : List ℕ} {vs : List Value} {s s₁ s₂ : List ℕ} → ItemsLeft t k es vs s s₁ → LeavesItem t k e v s₁ s₂ → ItemsLeft t k (es ++ (e ∷ [])) (vs ++ (v ∷ [])) s s₂
+    one_left none_left last = then_left last none_left
+    one_left (then_left first before) last = then_left first (one_left before last)
+
+pub none_left_yet : {s : List ℕ} (t k : ℕ) (items : List ℕ) (values : List Value) → ItemsLeft t k (take 0 items) (take 0 values) s s
+none_left_yet t k items values = none_left
+
+pub all_left : {t k : ℕ} (items : List ℕ) (values : List Value) {s s₁ : List ℕ} (i : ℕ) → length items ≤ i → length values ≤ i → ItemsLeft t k (take i items) (take i values) s s₁
+    → ItemsLeft t k items values s s₁
+all_left items values i past also left = rw (take_all i items past, take_all i values also) at left
 
 -- ---- What the operands gave
 
@@ -117,15 +133,6 @@ module _ {s : List ℕ} {h : Here} {P : Program} {n : ℕ} {S : State} {f : Fram
 
   operands_named : Every (λ w. slot_of w < length f.slots) ws
   operands_named = every_map (operand_names (block_at P f.block).sort (length f.slots)) ws (let_names st at_line).1
-
--- the values of the items are those that stood in the operands' slots
-pub record ItemsRead (s : List ℕ) (h : Here) (items : List ℕ) (values : List Value) : Type 0 where
-  pub read : (ws : List Operand) → items ≡ pad 4 0 (map operand_item ws) → (P : Program) (n : ℕ) (S : State) (f : Frame) (fs : List Frame) (rest : List ℕ)
-      → Stand s h P n S f fs rest → Named (map slot_of ws) f → values ≡ pad 4 Absent (slots_of f.slots ws)
-
-pub items_read : {s : List ℕ} {h : Here} {a b c d : ℕ} {va vb vc vd : Value} → ItemSeen s h a va → ItemSeen s h b vb → ItemSeen s h c vc → ItemSeen s h d vd
-    → ItemsRead s h (a ∷ b ∷ c ∷ d ∷ []) (va ∷ vb ∷ vc ∷ vd ∷ [])
-items_read seen-a seen_b seen-c seen-d = record { read = λ ws is P n S f fs rest st named. values_read st seen-a seen_b seen-c seen-d ws is named }
 
 -- ---- The line whose operands are these items, whose check is k
 

@@ -1,7 +1,7 @@
 // A copy: the objects met are numbered and checked, then each is copied, and what the copy holds gets a holder more; then the let gives the first copy. A
 // copy that stops has written nothing.
-ghost use Rattle.std.specs.Prelude.{◌≡◌, [], ◌∷◌, ◌+◌, ◌≤◌, ◌<◌, length, take};
-ghost use Rattle.rules.specs.Lists.{any};
+ghost use Rattle.std.specs.Prelude.{◌≡◌, ◌+◌, ◌≤◌, ◌<◌, length};
+ghost use Rattle.rules.specs.Lists.{any, Every};
 ghost use Rattle.rules.specs.Script.{copy, bind};
 ghost use Rattle.rules.specs.State.{object_at, slot_at};
 ghost use Rattle.rules.specs.Turn.{is_foreign};
@@ -16,18 +16,11 @@ use rules::{Cap, Fault, Value};
 use table::Here;
 
 // Whether any of the objects met is local to another thread than t.
-fn any_foreign_met(s: &[u16], t: usize, order: &[u16], count: usize) -> bool
-    requires { (8192 ≤ length s.now) × (count ≤ length order.now) }
-    ensures { Sees s.now (AllMade (take count order.now)) (λ S. any (λ i. is_foreign t (object_at S.objects i)) (take count order.now)) result }
+fn any_foreign_met(s: &[u16], t: usize, order: &[u16]) -> bool
+    requires { 8192 ≤ length s.now }
+    ensures { Sees s.now (AllMade order.now) (λ S. any (λ i. is_foreign t (object_at S.objects i)) order.now) result }
 {
-    let mut i: usize = 0;
-    while i < count {
-        if checks::is_foreign(s, t, order[i] % 256) {
-            return true;
-        }
-        i += 1;
-    }
-    false
+    order.iter().any(|o| checks::is_foreign(s, t, *o % 256))
 }
 
 // What a copy holds where its source holds v. `places` has one more than the place of each object met; the copy of the one at place i has number
@@ -56,14 +49,13 @@ fn copied_field(s: &[u16], places: &[u16], first: usize, o: u16, j: u16) -> Valu
 }
 
 // Each value gets a holder more.
-fn hold_all(s: &mut [u16], a: Value, b: Value, c: Value, d: Value)
-    requires { (8192 ≤ length s.old) × InTable a × InTable b × InTable c × InTable d }
-    ensures { Counts (all_raised (a ∷ b ∷ c ∷ d ∷ [])) s.old s.new }
+fn hold_all(s: &mut [u16], values: [Value; 4])
+    requires { (8192 ≤ length s.old) × Every InTable values }
+    ensures { Counts (all_raised values) s.old s.new }
 {
-    table::hold(s, a);
-    table::hold(s, b);
-    table::hold(s, c);
-    table::hold(s, d);
+    for v in values {
+        table::hold(s, v);
+    }
 }
 
 // The copy of object o is made, with number n, and each of its fields is held.
@@ -77,28 +69,17 @@ fn add_copy_of(s: &mut [u16], t: u16, cap: u16, places: &[u16], first: usize, n:
     let c = copied_field(s, places, first, o, 2);
     let d = copied_field(s, places, first, o, 3);
     table::add_object(s, t, n, cap, kind, a, b, c, d);
-    hold_all(s, a, b, c, d);
+    hold_all(s, [a, b, c, d]);
 }
 
-// The first j objects met are copied, in order.
-fn add_copies(
-    s: &mut [u16],
-    t: u16,
-    cap: u16,
-    places: &[u16],
-    order: &[u16],
-    first: usize,
-    j: usize,
-)
-    requires { (8192 ≤ length s.old) × (256 ≤ length places.now) × (j ≤ length order.now) × (first + j ≤ 256) }
-    ensures { CopiesAll t cap places.now first (take j order.now) s.old s.new }
+// The objects met are copied, in order.
+fn add_copies(s: &mut [u16], t: u16, cap: u16, places: &[u16], order: &[u16], first: usize)
+    requires { (8192 ≤ length s.old) × (256 ≤ length places.now) × (first + length order.now ≤ 256) }
+    ensures { CopiesAll t cap places.now first order.now s.old s.new }
 {
-    if j == 0 {
-        return;
+    for i in 0..order.len() {
+        add_copy_of(s, t, cap, places, first, (first + i) as u16, order[i] % 256);
     }
-    let i = j - 1;
-    add_copies(s, t, cap, places, order, first, i);
-    add_copy_of(s, t, cap, places, first, (first + i) as u16, order[i] % 256);
 }
 
 // The objects met from object n are copied, unless "any object met local to another thread 20, too few objects left for all copies 16".
@@ -110,13 +91,13 @@ fn copy_from(s: &mut [u16], t: usize, cap: u16, n: u16) -> Result<(), Fault>
     let mut order = [0u16; 256];
     let count = walk::walk(s, &mut places, &mut order, 0, Value::Obj(n));
     let first = table::object_count(s) as usize;
-    if any_foreign_met(s, t, &order, count) {
+    if any_foreign_met(s, t, &order[..count]) {
         return Err(Fault::Foreign);
     }
     if 256 < first + count {
         return Err(Fault::UsedUp);
     }
-    add_copies(s, t as u16, cap, &places, &order, first, count);
+    add_copies(s, t as u16, cap, &places, &order[..count], first);
     Ok(())
 }
 

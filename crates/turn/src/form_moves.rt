@@ -106,33 +106,21 @@ pub fn call_line(p: &[u16], s: &mut [u16], h: Here, i: u16, j: u16, w: u16) -> R
     Ok(Move::Turned)
 }
 
-pub fn new_line(
-    s: &mut [u16],
-    h: Here,
-    k: Cap,
-    kind: u16,
-    a: u16,
-    b: u16,
-    c: u16,
-    d: u16,
-) -> Result<Move, Halt>
+pub fn new_line(s: &mut [u16], h: Here, k: Cap, kind: u16, items: [u16; 4]) -> Result<Move, Halt>
     requires { 8192 ≤ length s.old }
-    ensures { PerformsNew s.old h k kind (a ∷ b ∷ c ∷ d ∷ []) result s.new }
+    ensures { PerformsNew s.old h k kind items result s.new }
 {
-    checks::items_check(s, h, a, b, c, d)?;
-    let va = checks::item_value(s, h, a);
-    let vb = checks::item_value(s, h, b);
-    let vc = checks::item_value(s, h, c);
-    let vd = checks::item_value(s, h, d);
-    checks::hold_check(s, h.thread, k, va, vb, vc, vd)?;
+    checks::items_check(s, h, items)?;
+    let values = checks::item_values(s, h, items);
+    checks::hold_check(s, h.thread, k, values)?;
     let n = table::object_count(s) % 256;
-    table::add_object(s, h.thread as u16, n, k.rank() as u16, kind, va, vb, vc, vd);
+    let [a, b, c, d] = values;
+    table::add_object(s, h.thread as u16, n, k.rank() as u16, kind, a, b, c, d);
     table::give_value(s, h, Value::Obj(n));
     table::hold(s, Value::Obj(n)); // in that slot
-    leave_item(s, h, a, va);
-    leave_item(s, h, b, vb);
-    leave_item(s, h, c, vc);
-    leave_item(s, h, d, vd);
+    for i in 0..4 {
+        leave_item(s, h, items[i], values[i]);
+    }
     Ok(Move::Next)
 }
 

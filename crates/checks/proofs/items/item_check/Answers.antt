@@ -1,31 +1,20 @@
 -- `checks::items::item_check` meets its contract: an item whose slot an earlier one took finds it absent; any other sees the slot as it stands.
-use mathlib.Core.Path.{sym, ◌∙◌}
-use Rattle.checks.proofs.ItemChecks.{no_item_passes, first_took, second_took, third_took, none_took}
+use Rattle.std.proofs.Common.{sym, ◌∙◌, rules, tests}
+use Rattle.std.proofs.lemmas.Iterator.{YieldsList-from_slice}
+use Rattle.std.proofs.lemmas.Iterator.Search.{any_from_yields_List}
+use Rattle.checks.specs.NewItems.{takes_slot}
+use Rattle.checks.proofs.ItemChecks.{no_item_passes, one_took, none_took}
 use Rattle.checks.proofs.items.item_check.Goals as goal
 
 pub returns-then-e-eq0 : goal.returns-then-e-eq0
-returns-then-e-eq0 c =
-    let x = c.args in
-    no_item_passes _ x.h x.a x.b x.c c.if-e-eq0.true
+returns-then-e-eq0 c = no_item_passes _ c.args.h c.args.before.now c.if-e-eq0.true
 
-pub returns-then-takes_slot : goal.returns-then-takes_slot
-returns-then-takes_slot c =
-    let x = c.args in
-    first_took _ x.h x.a x.b x.c x.e (sym c.takes_slot.ensures ∙ c.if-takes_slot.true)
-
-pub returns-then-takes_slot-2 : goal.returns-then-takes_slot-2
-returns-then-takes_slot-2 c =
-    let x = c.args in
-    second_took _ x.h x.a x.b x.c x.e (sym c.takes_slot-2.ensures ∙ c.if-takes_slot-2.true)
-
-pub returns-then-takes_slot-3 : goal.returns-then-takes_slot-3
-returns-then-takes_slot-3 c =
-    let x = c.args in
-    third_took _ x.h x.a x.b x.c x.e (sym c.takes_slot-3.ensures ∙ c.if-takes_slot-3.true)
+pub returns-then-any : goal.returns-then-any
+returns-then-any c =
+    let is = any_from_yields_List (λ a. takes_slot a c.args.e) _ _ c.any.result c.any.ensures.ran (YieldsList-from_slice c.args.before.now cc) (λ x b q k. search (rules, tests)) in
+    one_took _ c.args.h c.args.before.now c.args.e c.if-e-eq0.false (sym is ∙ c.if-any.true)
 
 pub returns : goal.returns
 returns c =
-    let x = c.args in
-    none_took _ x.h x.a x.b x.c x.e c.if-e-eq0.false
-    (sym c.takes_slot.ensures ∙ c.if-takes_slot.false) (sym c.takes_slot-2.ensures ∙ c.if-takes_slot-2.false) (sym c.takes_slot-3.ensures ∙ c.if-takes_slot-3.false)
-    c.operand_check.ensures
+    let is = any_from_yields_List (λ a. takes_slot a c.args.e) _ _ c.any.result c.any.ensures.ran (YieldsList-from_slice c.args.before.now cc) (λ x b q k. search (rules, tests)) in
+    none_took _ c.args.h c.args.before.now c.args.e c.if-e-eq0.false (sym is ∙ c.if-any.false) c.operand_check.ensures

@@ -1,21 +1,19 @@
--- `turn::copies::any_foreign_met` meets its contract: before turn i none of the first i is foreign.
-use Rattle.turn.proofs.CopiesMade.{none_before, one_is_foreign, one_is_not, none_is_foreign}
-use Rattle.std.proofs.Common.{rules}
+-- `turn::copies::any_foreign_met` meets its contract: what the closure sees of each object is seen of the list.
+use Rattle.std.proofs.Common.{◌%◌, true, false, rules, tests}
+use Rattle.std.proofs.lemmas.Iterator.{YieldsList-from_slice, cases_from_any}
+use Rattle.table.specs.StateTable.{Sees}
+use Rattle.checks.specs.Checked.{Made}
+use Rattle.checks.proofs.AnySeen.{SeenAs, any_seen}
+use Rattle.turn.proofs.CopiesMade.{foreign_in, Placed, number_seen, met_seen}
 use Rattle.turn.proofs.copies.any_foreign_met.Goals as goal
-
-pub loop-i-init : goal.loop-i-init
-loop-i-init c = (search rules, none_before)
-
-pub returns-then-is_foreign : goal.returns-then-is_foreign
-returns-then-is_foreign c =
-    let a = c.args in
-    one_is_foreign a.s.now a.t a.order.now a.count c.loop-i.i c.loop-i-test.true c.requires.1 c.loop-i.invariant.1 c.is_foreign.ensures c.if-is_foreign.true
-
-pub loop-i-preserved : goal.loop-i-preserved
-loop-i-preserved c =
-    let a = c.args in
-    (search rules, one_is_not a.s.now a.t a.order.now a.count c.loop-i.i c.loop-i-test.true c.requires.1 c.loop-i.invariant.1 c.is_foreign.ensures c.if-is_foreign.false)
 
 pub returns : goal.returns
 returns c =
-    none_is_foreign c.args.order.now c.args.count c.loop-i.i (search rules) c.requires.1 c.loop-i.invariant.1
+    let s = c.args.s.now in
+    let t = c.args.t in
+    met_seen t c.args.order.now
+    (any_seen Placed (foreign_in t) 0 c.args.order.now c.any.result
+    (cases_from_any _ _ c.any.result (SeenAs s Placed (foreign_in t) true) (SeenAs s Placed (foreign_in t) false) c.any.ensures.ran
+    (YieldsList-from_slice c.args.order.now cc)
+    (λ x q k. let seen : Sees s (Made (x.now % 256)) (λ S. foreign_in t S (x.now % 256)) true = search (rules, tests) in number_seen t x.now seen)
+    (λ x q k. let seen : Sees s (Made (x.now % 256)) (λ S. foreign_in t S (x.now % 256)) false = search (rules, tests) in (search rules, number_seen t x.now seen))))

@@ -1,6 +1,7 @@
 -- `turn::copies::copy_from` meets its contract: what is met is numbered and checked as the rule does; where it passes each is copied.
-use native.Mathlib.Omega.{arith}
+use Rattle.std.proofs.Common.{◌≤◌, length, arith}
 use lib.ListN.{replicate}
+use lib.Seq.{length-take-le}
 use Rattle.walk.proofs.Numbers.{few_unmet}
 use Rattle.walk.proofs.FromNothing.{met_few}
 use Rattle.turn.proofs.CopyLines.{from_foreign, from_used_up, from_copied}
@@ -10,8 +11,13 @@ use Rattle.turn.proofs.copies.copy_from.Goals as goal
 pub walk-count-requires : goal.walk-count-requires
 walk-count-requires c = (search rules, search rules, search rules, c.requires.2, omega (arith, few_unmet 256 (replicate 256 0)))
 
-pub any_foreign_met-requires : goal.any_foreign_met-requires
-any_foreign_met-requires c = (search rules, omega (arith, met_few c.walk-count.ensures.grows))
+pub slice_bounds-order-end : goal.slice_bounds-order-end
+slice_bounds-order-end c = omega (arith, met_few c.walk-count.ensures.grows)
+
+pub slice_bounds-any_foreign_met-end : goal.slice_bounds-any_foreign_met-end
+slice_bounds-any_foreign_met-end c =
+    let few : c.walk-count.result ≤ length c.walk-count.new.order = omega (arith, met_few c.walk-count.ensures.grows) in
+    omega (arith, length-take-le c.walk-count.result c.walk-count.new.order few)
 
 pub overflow_add-first : goal.overflow_add-first
 overflow_add-first c =
