@@ -6,18 +6,19 @@ use mathlib.Core.Path.{◌≡◌, refl, sym, ap, ◌∙◌, subst}
 use mathlib.Core.Bool.{Bool, true, false, not, cond}
 use mathlib.Core.List.{List, [], ◌∷◌, ◌++◌, append-nil}
 use lib.Dec.{eqb}
-use lib.ListN.{length, get_or, set, drop}
-use lib.Seq.{paste, set-append_left, drop_at}
+use lib.ListN.{length, get_or, set, take, drop, replicate}
+use lib.Seq.{set-append_left, drop_at, length-take-le}
+use borrow.Author.Tests.{eq-eqb, ne_eqb}
 use Rattle.rules.specs.Mosts as Most
 use Rattle.rules.specs.Lists.{rising, pad}
 use Rattle.rules.specs.Calls.{list_words}
 use Rattle.rules.proofs.ListLaws.{length_pad, length_snoc, pad_snoc}
-use Rattle.table.proofs.StateFrames.{zeros}
 use Rattle.reach.specs.Reported.{met_below}
 
-pub all_cleared : (l : List ℕ) → paste l 0 (zeros 256) 256 ≡ list_words [] ++ drop 256 l
-unfolding zeros pad
-all_cleared l = refl
+-- a list whose first 256 words are filled with 0
+pub all_cleared : (l m : List ℕ) → 256 ≤ length l → m ≡ replicate (length (take 256 l)) 0 → m ++ drop 256 l ≡ list_words [] ++ drop 256 l
+unfolding pad
+all_cleared l m wide e = rw (e, length-take-le 256 l wide) refl
 
 -- ---- Number by number
 
@@ -48,7 +49,7 @@ unfolding rising
 met_next places i b e = ap (λ k. met_below k places) (add-one i) ∙ ap (λ c. met_below i places ++ cond c (i ∷ []) []) (sym e)
 
 module _ {places : List ℕ} {list list₁ list₂ : List ℕ} {i n r : ℕ} (so : Listing places list i n list₁) (more : i < 256) where
-  pub number_next : (b : Bool) → b ≡ not (eqb (get_or places i 0) 0) → r ≡ cond b (n + 1) n → list₂ ≡ cond b (set list₁ n i) list₁ → Listing places list (i + 1) r list₂
+  number_next : (b : Bool) → b ≡ not (eqb (get_or places i 0) 0) → r ≡ cond b (n + 1) n → list₂ ≡ cond b (set list₁ n i) list₁ → Listing places list (i + 1) r list₂
   number_next true e place words =
       let xs : List ℕ = met_below i places in
       let rest : List ℕ = drop Most.reach_list list in
@@ -69,3 +70,9 @@ module _ {places : List ℕ} {list list₁ list₂ : List ℕ} {i n r : ℕ} (so
         count = place ∙ so.count ∙ sym (ap length same);
         words = words ∙ so.words ∙ ap (λ (l : List ℕ). list_words l ++ drop Most.reach_list list) (sym same);
       }
+
+  pub number_met : (get_or places i 0 ≡ 0 → ⊥) → r ≡ n + 1 → list₂ ≡ set list₁ n i → Listing places list (i + 1) r list₂
+  number_met other = number_next true (sym (ap not (ne_eqb (get_or places i 0) 0 other)))
+
+  pub number_not_met : get_or places i 0 ≡ 0 → r ≡ n → list₂ ≡ list₁ → Listing places list (i + 1) r list₂
+  number_not_met is = number_next false (sym (ap not (eq-eqb (get_or places i 0) 0 is)))

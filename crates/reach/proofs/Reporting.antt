@@ -3,7 +3,7 @@ use Prim.Native.Nat.{ℕ, ◌%◌, ◌≤◌, ◌<◌}
 use native.Mathlib.Nat.{mod-eq_of_lt}
 use native.Mathlib.Omega.{arith}
 use mathlib.Core.Path.{◌≡◌, refl, sym, ap, ◌∙◌, subst}
-use mathlib.Core.Bool.{Bool, true, false, not}
+use mathlib.Core.Bool.{Bool, true, not}
 use mathlib.Core.List.{List, [], ◌++◌}
 use mathlib.Core.Logic.{◌↔◌}
 use lib.Dec.{eqb, ltb}
@@ -13,6 +13,7 @@ use Rattle.rules.specs.declared.Value.{Value}
 use Rattle.rules.specs.Mosts as Most
 use Rattle.rules.specs.Mosts.{mosts}
 use Rattle.rules.specs.Numbers as No
+use Rattle.rules.specs.Numbers.{number}
 use Rattle.rules.specs.Script.{Program}
 use Rattle.rules.specs.Reading.{Reading, turned_away}
 use Rattle.rules.specs.State.{Object, State}
@@ -28,13 +29,13 @@ use Rattle.rules.proofs.Reports.{rising_lists, roots_made, reached_range, reach_
 use Rattle.table.specs.StateTable.{Sees, Any}
 use Rattle.walk.specs.Walking.{Tally, tally}
 use Rattle.walk.proofs.Numbers.{number_met, no_number_not_met, none_numbered}
-use Rattle.run.specs.declared.Answer.{Answer}
-use Rattle.run.specs.declared.Answer.TheVariants.{Refused}
-use Rattle.run.specs.RunAnswers.{is_refusal, Ran}
+use Rattle.std.specs.Prelude.{Result, Ok, Err}
+use Rattle.rules.specs.Refusals.{Refuses}
+use Rattle.rules.specs.declared.faults.Refusal.{Refusal}
+use Rattle.run.specs.declared.Outcome.{Outcome}
+use Rattle.run.specs.RunAnswers.{told, Ran}
 use Rattle.run.proofs.AnswerTells.{refusal_is}
 use Rattle.run.proofs.Answering.{Stands, ran_stands}
-use Rattle.reach.specs.declared.Report.{Report}
-use Rattle.reach.specs.declared.Report.TheVariants as T
 use Rattle.reach.specs.Reported.{Reports, WalkedAll, WalksRoots, met_below, ReportsState, Reached}
 
 -- ---- The report on a state
@@ -67,29 +68,19 @@ met_list {P} {n} {S} t {w} fits walked =
     low : (x : ℕ) → ReachedFrom S.objects (roots P S t) x → x < 256
     low x r = omega (arith, fits.few_objects, reached_range fits (roots P S t) (roots_made fits t) x r)
 
--- what is too short is refused
-pub no_program : {p s list : List ℕ} {t : ℕ} → length p < Most.words → ReportsState p s t list (T.Refused No.short_table 0) list
-no_program short = record { reports = λ p-long s-long list-long P n S rest loaded held valid fits. absurd (omega arith); refuses = λ some. (refl, refl) }
-
-pub no_state : {p s list : List ℕ} {t : ℕ} → length s < Most.words → ReportsState p s t list (T.Refused No.short_table 0) list
-no_state short = record { reports = λ p-long s-long list-long P n S rest loaded held valid fits. absurd (omega arith); refuses = λ some. (refl, refl) }
-
-pub no_list : {p s list : List ℕ} {t : ℕ} → length list < Most.reach_list → ReportsState p s t list (T.Refused No.short_table 0) list
-no_list short = record { reports = λ p-long s-long list-long P n S rest loaded held valid fits. absurd (omega arith); refuses = λ some. (refl, refl) }
-
 module _ {p s list : List ℕ} {t d : ℕ} (p-fits : Most.words ≤ length p) (s-fits : Most.words ≤ length s) (list-fits : Most.reach_list ≤ length list)
     (counted : Sees s Any (λ S. length S.threads) d) where
-  pub not_reported : d ≤ t → ReportsState p s t list (T.Refused No.no_thread 0) list
-  not_reported past =
+  pub not_reported : {r : Result ℕ Refusal} → d ≤ t → Refuses r No.no_thread 0 → ReportsState p s t list r list
+  not_reported {r} past is =
       record {
         reports = λ p-long s-long list-long P n S rest loaded held valid fits.
             let few : length S.threads ≤ t = omega (arith, counted.sees S rest held tt) in
-            subst (λ (b : Bool). Reports (report_on P S t b) list (T.Refused No.no_thread 0) list) (sym (le-ltb t (length S.threads) few)) (record { answers = refl; leaves = refl });
+            subst (λ (b : Bool). Reports (report_on P S t b) list r list) (sym (le-ltb t (length S.threads) few)) (record { answers = is; leaves = refl });
         refuses = λ some. absurd (some p-fits s-fits list-fits);
       }
 
   pub reported : {order : List ℕ} {w : Tally} {r : ℕ} {list₁ : List ℕ} → t < d → WalksRoots p s (tally (replicate 256 0) order 0) (t % 16) w
-      → r ≡ length (met_below 256 w.places) → list₁ ≡ list_words (met_below 256 w.places) ++ drop Most.reach_list list → ReportsState p s t list (T.Reached r) list₁
+      → r ≡ length (met_below 256 w.places) → list₁ ≡ list_words (met_below 256 w.places) ++ drop Most.reach_list list → ReportsState p s t list (Ok r) list₁
   reported {order} {w} {r} {list₁} there walks number words =
       record {
         reports = λ p-long s-long list-long P n S rest loaded held valid fits.
@@ -97,9 +88,9 @@ module _ {p s list : List ℕ} {t d : ℕ} (p-fits : Most.words ≤ length p) (s
             let place : t % 16 ≡ t = mod-eq_of_lt (omega (arith, fits.few_threads)) in
             let walked : WalkedAll S (roots P S t) [] w = rw place at (walks.walks P n S rest [] loaded held valid fits (none_numbered 256 order)) in
             let is = met_list t fits walked in
-            subst (λ (b : Bool). Reports (report_on P S t b) list (T.Reached r) list₁) (sym (lt-ltb t (length S.threads) started))
+            subst (λ (b : Bool). Reports (report_on P S t b) list (Ok r) list₁) (sym (lt-ltb t (length S.threads) started))
             (record {
-              answers = ap T.Reached (number ∙ ap length is);
+              answers = ap Ok (number ∙ ap length is);
               leaves = words ∙ ap (λ (l : List ℕ). list_words l ++ drop Most.reach_list list) is;
             });
         refuses = λ some. absurd (some p-fits s-fits list-fits);
@@ -107,26 +98,26 @@ module _ {p s list : List ℕ} {t d : ℕ} (p-fits : Most.words ≤ length p) (s
 
 -- ---- The report on a run
 
-module _ (text turns program state list : List ℕ) (t : ℕ) {a : Answer} {p s : List ℕ}
+module _ (text turns program state list : List ℕ) (t : ℕ) {a : Result Outcome Refusal} {p s : List ℕ}
     (ran : Ran (lent_inputs mosts text turns program state (ltb (length list) Most.reach_list)) turns program state a p s) where
   -- the run was turned away
-  pub reach_away : {k n : ℕ} → a ≡ Refused k n → Reached (reach_call mosts text turns program state list) turns t program state list (T.Refused k n) p s list
+  pub reach_away : {e : Refusal} → a ≡ Err e → Reached (reach_call mosts text turns program state list) turns t program state list (Err e) p s list
   unfolding reach_call
-  reach_away {k} {n} is =
+  reach_away {e} is =
       let C = lent_inputs mosts text turns program state (ltb (length list) Most.reach_list) in
-      let away : C ≡ turned_away k n = refusal_is turns C (sym is ∙ ran.answers) in
+      let away : C ≡ turned_away (number e.fault) e.line = refusal_is turns C (sym (ap told is) ∙ ran.answers) in
       record {
-        report = rw away (record { answers = refl; leaves = refl });
+        report = rw away (record { answers = record { refusal = e; is = refl; number_is = refl; line_is = refl }; leaves = refl });
         program_is = ran.program_is;
         state_is = ran.state_is;
       }
 
   -- the run was made
-  module _ (e : is_refusal a ≡ false) where
+  module _ {x : Outcome} (e : a ≡ Ok x) where
     stands : Stands (lent_inputs mosts text turns program state (ltb (length list) Most.reach_list)) turns state p s
     stands = ran_stands text turns program state (ltb (length list) Most.reach_list) ran e
 
-    pub reach_told : {list₁ : List ℕ} {r : Report} → ReportsState p s t list r list₁
+    pub reach_told : {list₁ : List ℕ} {r : Result ℕ Refusal} → ReportsState p s t list r list₁
         → Reached (reach_call mosts text turns program state list) turns t program state list r p s list₁
     unfolding reach_call lent_inputs inputs
     reach_told {list₁} {r} reports =

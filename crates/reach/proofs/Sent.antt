@@ -14,7 +14,7 @@ use Rattle.rules.specs.State.{Frame, Sender, ready, waiting, State, thread_at, c
 use Rattle.rules.specs.Tables.{sender_word, line_words, row}
 use Rattle.rules.specs.Reach.{message_of, message_on, send_target, put_by, in_flight}
 use Rattle.rules.proofs.ListLaws.{by_bool}
-use Rattle.table.specs.declared.state.Here.{Here}
+use Rattle.table.specs.declared.standing.Here.{Here}
 use Rattle.table.specs.StateTable.{InTable, Sees, Any}
 use Rattle.table.proofs.Places.{message_in_table}
 use Rattle.checks.proofs.Standing.{SlotSeen, slot_place, slot_read}

@@ -1,11 +1,13 @@
 -- What each part of the report does.
-use Rattle.std.specs.Prelude.{ℕ, ◌+◌, ◌≤◌, ◌≡◌, not, cond, List, eqb, ltb, length, get_or}
+use Rattle.std.specs.Prelude.{ℕ, ◌+◌, ◌≤◌, ◌≡◌, not, cond, List, eqb, ltb, length, get_or, Result, Ok}
 use Rattle.rules.specs.declared.Value.{Value}
 use Rattle.rules.specs.declared.Value.TheVariants.{Absent}
 use Rattle.rules.specs.Mosts as Most
 use Rattle.rules.specs.Mosts.{mosts}
 use Rattle.rules.specs.Reading.{Reading}
 use Rattle.rules.specs.Numbers as No
+use Rattle.rules.specs.Refusals.{Refuses}
+use Rattle.rules.specs.declared.faults.Refusal.{Refusal}
 use Rattle.rules.specs.Lists.{rising}
 use Rattle.rules.specs.Script.{Program}
 use Rattle.rules.specs.Valid.{Valid}
@@ -17,17 +19,15 @@ use Rattle.rules.specs.Calls.{unreported, reached, report_on, reach_call, reach_
 use Rattle.table.specs.StateTable.{Held}
 use Rattle.walk.specs.Walking.{Tally, Numbered, WalkedTo}
 use Rattle.turn.specs.Performed.{Loaded}
-use Rattle.reach.specs.declared.Report.{Report}
-use Rattle.reach.specs.declared.Report.TheVariants as T
 
--- the report as the code's enum: "with their number"
-abbrev pub report_of : Calls.Report → Report
-report_of (unreported k n) = T.Refused k n
-report_of (reached objects) = T.Reached (length objects)
+-- the report as the code answers it: "with their number"
+abbrev pub Answers : Calls.Report → Result ℕ Refusal → Type 0
+Answers (unreported k n) r = Refuses r k n
+Answers (reached objects) r = r ≡ Ok (length objects)
 
 -- the answer is this report's, and so is the list
-pub record Reports (R : Calls.Report) (list : List ℕ) (r : Report) (list₁ : List ℕ) : Type 0 where
-  pub answers : r ≡ report_of R
+pub record Reports (R : Calls.Report) (list : List ℕ) (r : Result ℕ Refusal) (list₁ : List ℕ) : Type 0 where
+  pub answers : Answers R r
   pub leaves : list₁ ≡ list_after R list
 
 -- ---- The walk
@@ -63,20 +63,20 @@ met_below k places = rising k (λ x. not (eqb (get_or places x 0) 0))
 -- ---- The report
 
 -- on the program and the state that a run left in two tables
-pub record ReportsState (p s : List ℕ) (t : ℕ) (list : List ℕ) (r : Report) (list₁ : List ℕ) : Type 0 where
+pub record ReportsState (p s : List ℕ) (t : ℕ) (list : List ℕ) (r : Result ℕ Refusal) (list₁ : List ℕ) : Type 0 where
   pub reports : Most.words ≤ length p → Most.words ≤ length s → Most.reach_list ≤ length list
       → (P : Program) (n : ℕ) (S : State) (rest : List ℕ) → Loaded p P → Held s S rest → Valid mosts P → Fits mosts P n S
       → Reports (report_on P S t (ltb t (length S.threads))) list r list₁
   -- where a slice is too short for that
-  pub refuses : (Most.words ≤ length p → Most.words ≤ length s → Most.reach_list ≤ length list → ⊥) → (r ≡ T.Refused No.short_table 0) × (list₁ ≡ list)
+  pub refuses : (Most.words ≤ length p → Most.words ≤ length s → Most.reach_list ≤ length list → ⊥) → Refuses r No.short_table 0 × (list₁ ≡ list)
 
 -- what a report answers and leaves in what it was lent, by what its inputs come to
-pub record Reached (C : Reading) (turns : List ℕ) (t : ℕ) (program state list : List ℕ) (r : Report) (program₁ state₁ list₁ : List ℕ) : Type 0 where
+pub record Reached (C : Reading) (turns : List ℕ) (t : ℕ) (program state list : List ℕ) (r : Result ℕ Refusal) (program₁ state₁ list₁ : List ℕ) : Type 0 where
   pub report : Reports (reach_report mosts turns t C) list r list₁
   pub program_is : program₁ ≡ program_after C program
   pub state_is : state₁ ≡ state_after mosts turns C state
 
 -- "a reach report", of its inputs as lent
-abbrev pub Reaches : (text turns program state : List ℕ) → (t : ℕ) → (list : List ℕ) → Report → (program₁ state₁ list₁ : List ℕ) → Type 0
+abbrev pub Reaches : (text turns program state : List ℕ) → (t : ℕ) → (list : List ℕ) → Result ℕ Refusal → (program₁ state₁ list₁ : List ℕ) → Type 0
 Reaches text turns program state t list r program₁ state₁ list₁ =
     Reached (reach_call mosts text turns program state list) turns t program state list r program₁ state₁ list₁

@@ -29,13 +29,12 @@ pub fn in_flight(p: &[u16], s: &[u16], t: usize) -> Value
         return Value::Absent;
     }
     let h = table::locate(p, s, t, n);
-    let form = rules::form_of(table::part(p, h, 0));
+    let form = Form::from(h.part(p, 0));
     match form {
         Form::Send => {
-            let x = table::slot(s, h, table::part(p, h, 1) as usize % 16);
+            let x = table::slot(s, h, h.part(p, 1) as usize % 16);
             match x {
-                Value::Absent => Value::Absent,
-                Value::Obj(_) => Value::Absent,
+                Value::Absent | Value::Obj(_) => Value::Absent,
                 Value::Chan(c) => message_for(s, c, table::sender(s, t)),
             }
         }

@@ -2,6 +2,7 @@
 use native.Mathlib.Omega.{arith}
 use mathlib.Core.Path.{subst}
 use mathlib.Core.List.{[], ◌∷◌}
+use mathlib.Core.Logic.{⊎_elim}
 use Rattle.rules.specs.declared.forms.Form.TheVariants.{Send}
 use Rattle.rules.proofs.FormNumbers.{number_told, all_but, not_told}
 use Rattle.table.specs.StateTable.{InTable}
@@ -18,24 +19,28 @@ message_for-requires c =
 
 pub returns-in-Absent : goal.returns-in-Absent
 returns-in-Absent c =
-    let is-send = number_told c.form_of-form.ensures c.in-Send.is (omega arith) in
-    let place = locates c.frame_count-n.ensures.sees c.if-n-eq0.false c.locate-h.ensures.placed.1 c.locate-h.ensures.stands in record { in_table = tt; sees_in_flight = target_absent place c.locate-h.ensures.placed.1 c.part.ensures c.part-in-Send.ensures is-send c.slot-x.ensures.sees c.in-Absent.is }
-
-pub returns-in-Obj : goal.returns-in-Obj
-returns-in-Obj c =
-    let is-send = number_told c.form_of-form.ensures c.in-Send.is (omega arith) in
-    let place = locates c.frame_count-n.ensures.sees c.if-n-eq0.false c.locate-h.ensures.placed.1 c.locate-h.ensures.stands in record { in_table = tt; sees_in_flight = target_object place c.locate-h.ensures.placed.1 c.part.ensures c.part-in-Send.ensures is-send c.slot-x.ensures.sees c.in-Obj.is }
+    let is-send = number_told c.from-form.ensures c.in-Send.is (omega arith) in
+    let place = locates c.frame_count-n.ensures.sees c.if-n-eq0.false c.locate-h.ensures.thread c.locate-h.ensures.stands in
+    record {
+      in_table = tt;
+      sees_in_flight = ⊎_elim
+          (target_absent place c.locate-h.ensures.thread c.part.ensures c.part-in-Send.ensures is-send c.slot-x.ensures.sees)
+          (λ o. target_object place c.locate-h.ensures.thread c.part.ensures c.part-in-Send.ensures is-send c.slot-x.ensures.sees o.1)
+          c.in-Absent.is;
+    }
 
 pub returns-in-Chan : goal.returns-in-Chan
 returns-in-Chan c =
-    let is-send = number_told c.form_of-form.ensures c.in-Send.is (omega arith) in
-    let place = locates c.frame_count-n.ensures.sees c.if-n-eq0.false c.locate-h.ensures.placed.1 c.locate-h.ensures.stands in record {
+    let is-send = number_told c.from-form.ensures c.in-Send.is (omega arith) in
+    let place = locates c.frame_count-n.ensures.sees c.if-n-eq0.false c.locate-h.ensures.thread c.locate-h.ensures.stands in
+    record {
       in_table = c.message_for.ensures.in_table;
-      sees_in_flight = target_channel place c.locate-h.ensures.placed.1 c.part.ensures c.part-in-Send.ensures is-send c.slot-x.ensures.sees
+      sees_in_flight = target_channel place c.locate-h.ensures.thread c.part.ensures c.part-in-Send.ensures is-send c.slot-x.ensures.sees
           c.in-Chan.is c.sender.ensures.sees c.message_for.ensures.sees;
     }
 
 pub returns-in-NoForm : goal.returns-in-NoForm
 returns-in-NoForm c =
-    let no-send = not_told (all_but (Send ∷ [])) c.form_of-form.ensures c.in-NoForm.is tt in
-    let place = locates c.frame_count-n.ensures.sees c.if-n-eq0.false c.locate-h.ensures.placed.1 c.locate-h.ensures.stands in record { in_table = tt; sees_in_flight = at_no_send place c.locate-h.ensures.placed.1 c.part.ensures no-send }
+    let no-send = not_told (all_but (Send ∷ [])) c.from-form.ensures c.in-NoForm.is tt in
+    let place = locates c.frame_count-n.ensures.sees c.if-n-eq0.false c.locate-h.ensures.thread c.locate-h.ensures.stands in
+    record { in_table = tt; sees_in_flight = at_no_send place c.locate-h.ensures.thread c.part.ensures no-send }
