@@ -4,9 +4,7 @@ use Rattle.rules.specs.declared.faults.Fault.TheVariants.{ShortTable}
 use Rattle.rules.specs.declared.faults.Refusal.{Refusal}
 use Rattle.rules.specs.Mosts as Most
 use Rattle.rules.specs.Mosts.{mosts}
-use Rattle.rules.specs.Numbers as No
 use Rattle.rules.specs.Numbers.{number}
-use Rattle.rules.specs.Refusals.{Refuses}
 use Rattle.rules.specs.Reading.{Reading, turned_away}
 use Rattle.rules.specs.Run.{run}
 use Rattle.rules.specs.Calls.{short_table, inputs, lent_inputs}

@@ -3,7 +3,7 @@ use Rattle.std.proofs.Common.{ℕ, ◌+◌, ◌*◌, ◌≤◌, ◌<◌, zero-ad
 use Rattle.std.proofs.Math.ListN.{get_or-eq_default}
 use Rattle.rules.specs.declared.Cap.{Cap}
 use Rattle.rules.specs.declared.Value.{Value}
-use Rattle.rules.specs.declared.Value.TheVariants.{Absent}
+use Rattle.rules.specs.declared.Value.TheVariants.{Absent, Obj, Chan}
 use Rattle.rules.specs.Mosts as Most
 use Rattle.rules.specs.Text.{bytes}
 use Rattle.rules.specs.Templates.{print}
@@ -23,6 +23,13 @@ use Rattle.listing.proofs.LineTexts.{no_lines, line_next}
 -- a node's line, by its capability
 abbrev pub node_text : ℕ → Cap → List ℕ
 node_text n k = print node_t (n, (n, (k, tt))) ++ (look k ++ bytes "];\n")
+
+-- no edge for what is not an object
+pub no_edge : (o j : ℕ) (v : Value) → ((n : ℕ) → v ≡ Obj n → ⊥) → [] ≡ edge_line o j v
+unfolding edge_line
+no_edge o j Absent other = refl
+no_edge o j (Chan c) other = refl
+no_edge o j (Obj n) other = absurd (other n refl)
 
 -- one field more; past the last one there is no edge
 edge_next : (o : ℕ) (vs : List Value) (j : ℕ) → numbered (edge_line o) 0 (take j vs) ++ edge_line o j (slot_at vs j) ≡ numbered (edge_line o) 0 (take (j + 1) vs)

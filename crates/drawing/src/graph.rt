@@ -65,18 +65,14 @@ fn put_edge(out: &mut Output, o: u16, j: u16, v: Value)
     requires { HasRoom 34 out.old }
     ensures { Wrote 34 out.old out.new (edge_line o j v) }
 {
-    match v {
-        Value::Absent => {}
-        Value::Chan(_) => {}
-        Value::Obj(n) => {
-            out.put_text(b"  ");
-            out.put_decimal(o as usize);
-            out.put_text(b" -> ");
-            out.put_decimal(n as usize);
-            out.put_text(b" [label=\"");
-            out.put_decimal(j as usize);
-            out.put_text(b"\"];\n");
-        }
+    if let Value::Obj(n) = v {
+        out.put_text(b"  ");
+        out.put_decimal(o as usize);
+        out.put_text(b" -> ");
+        out.put_decimal(n as usize);
+        out.put_text(b" [label=\"");
+        out.put_decimal(j as usize);
+        out.put_text(b"\"];\n");
     }
 }
 

@@ -1,5 +1,5 @@
 -- `drawing::graph::put_edges` meets its contract: before turn o the lines of the objects below o are written.
-use Rattle.std.proofs.Common.{◌*◌, ◌<◌, take}
+use Rattle.std.proofs.Common.{◌*◌, take}
 use Rattle.rules.specs.Listing.{numbered}
 use Rattle.rules.specs.Drawing.{edge_lines}
 use Rattle.table.specs.StateTable.{Any}

@@ -1,5 +1,5 @@
 -- `drawing::graph::put_fields` meets its contract: before turn j the edges of the first j fields are written.
-use Rattle.std.proofs.Common.{arith, rules}
+use Rattle.std.proofs.Common.{rules}
 use Rattle.drawing.proofs.GraphLines.{no_edge_yet, edge_after, all_edges}
 use Rattle.drawing.proofs.graph.put_fields.Goals as goal
 
