@@ -3,12 +3,12 @@
 
 ghost use Rattle.std.specs.Prelude.{◌≡◌, ◌-◌, ◌≤◌, length, take, drop};
 ghost use Rattle.rules.specs.Text.{lines, join};
-ghost use Rattle.buffer.specs.Writing.{Wrote};
+ghost use Rattle.buffer.specs.Outputs.{HasRoom, Wrote};
 ghost use Rattle.listing.specs.Outputs.{printed_of, output_after};
 ghost use Rattle.explain.specs.Pages.{page};
 
-use buffer::put_text;
-use listing::Printed;
+use buffer::Output;
+use rules::{Fault, Refusal};
 
 // A page of five lines for each number: its word, what it means, what to do.
 const PAGES: [u8; 5990] = *b"\
@@ -120,37 +120,39 @@ one that the printed run lists, or add turns to make it.\n\
 ";
 
 // Some lines of a text.
-fn put_lines(output: &mut [u8], text: &[u8], from: usize, to: usize) -> usize
-    requires { (from ≤ to) × (length text.now ≤ 32768) × (32768 ≤ length output.old) }
-    ensures { Wrote 32768 output.old output.new 0 result (join (take (to - from) (drop from (lines text.now)))) }
+fn put_lines(out: &mut Output, text: &[u8], from: usize, to: usize)
+    requires { HasRoom 32768 out.old × (from ≤ to) × (length text.now ≤ 32768) }
+    ensures { Wrote 32768 out.old out.new (join (take (to - from) (drop from (lines text.now)))) }
 {
     let start = reader::line_start(text, from);
     let end = reader::line_start(text, to);
-    put_text(output, 0, &text[start..end])
+    out.put_text(&text[start..end]);
 }
 
 // The page of a number.
-fn put_page(output: &mut [u8], n: usize) -> usize
-    requires { (n ≤ 21) × (32768 ≤ length output.old) }
-    ensures { Wrote 32768 output.old output.new 0 result (page n) }
+fn put_page(out: &mut Output, n: usize)
+    requires { HasRoom 32768 out.old × (n ≤ 21) }
+    ensures { Wrote 32768 out.old out.new (page n) }
 {
     if n == 0 {
-        return 0;
+        return;
     }
-    put_lines(output, &PAGES, 5 * (n - 1), 5 * n)
+    put_lines(out, &PAGES, 5 * (n - 1), 5 * n);
 }
 
 // Prints what is said of a number, and nothing for one that is none of 1 to 21. An output under 32,768 bytes is refused with 9 and stays as it
 // was.
-pub fn print_explained(number: usize, output: &mut [u8]) -> Printed
+pub fn print_explained(number: usize, output: &mut [u8]) -> Result<usize, Refusal>
     ensures value { result ≡ printed_of (page number) output.old }
     ensures output_after { output.new ≡ output_after (page number) output.old }
 {
     if output.len() < 32768 {
-        return Printed::Refused(rules::numbers::SHORT_TABLE, 0);
+        return Err(Fault::ShortTable.at(0));
     }
     if 21 < number {
-        return Printed::Written(0);
+        return Ok(0);
     }
-    Printed::Written(put_page(output, number))
+    let mut out = Output::new(output);
+    put_page(&mut out, number);
+    Ok(out.at)
 }

@@ -96,9 +96,6 @@ module _ (input list : List ℕ) where
 pub whole_again : (input : List ℕ) (at : ℕ) → at ≤ length input → take at input ++ take (length input - at) (drop at input) ≡ input
 whole_again input at h = rw (take_all (length input - at) (drop at input) (simp length-drop (omega arith))) (take-append-drop at input)
 
-pub rest_whole : (input : List ℕ) (at : ℕ) → at ≤ length input → take (length input - at) (drop at input) ≡ drop at input
-rest_whole input at h = take_all (length input - at) (drop at input) (simp length-drop (omega arith))
-
 pub parts_fit : {input list list₁ : List ℕ} {r : Result Parts Misfit} → Splits input list r list₁ → {p : Parts} → r ≡ Ok p → (p.script ≤ length input) × (p.turns ≤ length list₁)
 parts_fit {input} {list₁ = list₁} splits e =
     (subst (λ (r : Result Parts Misfit). cut_of r ≤ length input) e splits.cut, subst (λ (r : Result Parts Misfit). turns_in r ≤ length list₁) e splits.few)

@@ -3,7 +3,7 @@ use Prim.Native.Nat.{ℕ, ◌+◌, ◌%◌, ◌≤◌, ◌<◌}
 use native.Mathlib.Numerals.{add-one}
 use native.Mathlib.Omega.{arith}
 use mathlib.Core.Path.{◌≡◌, refl, sym, ap, ◌∙◌}
-use mathlib.Core.Bool.{Bool, true, false, ◌&&◌, ◌||◌, cond}
+use mathlib.Core.Bool.{Bool, true, false, ◌||◌, cond}
 use mathlib.Core.List.{List, [], ◌∷◌, ◌++◌, map}
 use lib.Dec.{ltb}
 use lib.ListN.{length, take, drop, get_or, set, length-append, length-drop, drop_of_length-le}
@@ -20,7 +20,7 @@ use Rattle.rules.proofs.ListLaws.{or_false, any_snoc}
 use Rattle.rules.proofs.Printing.{says_of, number_front, fit_prints}
 use Rattle.grammar.specs.Words.{begins}
 use Rattle.grammar.proofs.Many.{ReadTo, read_none, read_inside, read_more, read_fails, read_all, number_shortens}
-use Rattle.grammar.proofs.Told.{Fits, Fails, word, past, no_word, done, some_numbers, past_numbers, no_numbers}
+use Rattle.grammar.proofs.Told.{Fails, word, past, no_word, done, some_numbers, past_numbers, no_numbers}
 use Rattle.grammar.specs.declared.parts.Part.{Part}
 use Rattle.replay.specs.declared.turns_line.Numbers.{Numbers}
 use Rattle.replay.specs.Told.{Stored}

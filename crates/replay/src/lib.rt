@@ -4,12 +4,12 @@
 mod ending;
 mod turns_line;
 
-ghost use Rattle.std.specs.Prelude.{◌≡◌, None};
+ghost use Rattle.std.specs.Prelude.{◌≡◌, length, None};
 ghost use Rattle.rules.specs.Mosts.{mosts};
 ghost use Rattle.rules.specs.Input.{boxrun};
 ghost use Rattle.listing.specs.Outputs.{printed_of, output_after};
 ghost use Rattle.replay.specs.Given.{Splits};
-ghost use Rattle.replay.specs.Printing.{TakesParts, PrintsParts};
+ghost use Rattle.replay.specs.Printing.{TakesParts, DoesJob, PrintsParts};
 
 use ending::{last_start, lines_before};
 use rules::{Fault, Refusal};
@@ -27,6 +27,15 @@ pub struct Parts {
 pub struct Misfit {
     pub refusal: Refusal,
     pub script: Option<usize>,
+}
+
+// What is told of it.
+impl From<Misfit> for Refusal {
+    ghost from_gives = { λ m r. r ≡ m.refusal };
+
+    fn from(misfit: Misfit) -> Refusal {
+        misfit.refusal
+    }
 }
 
 // The input is turned away whole.
@@ -64,8 +73,27 @@ pub fn split(input: &[u8], turns: &mut [u8]) -> Result<Parts, Misfit>
     }
 }
 
-// Takes an input apart and lets a job print what it makes of the parts: the script's text, the turns and the last line. What is turned away is
-// printed as its refusal. An output that has not the room is refused with 9 and stays as it was.
+// Takes an input apart and lets a job write what it makes of the parts: the script's text, the turns and the last line.
+fn do_job<F: FnOnce(&[u8], &[u8], &[u8], &mut [u8]) -> Result<usize, Refusal>>(
+    input: &[u8],
+    output: &mut [u8],
+    job: F,
+) -> Result<usize, Refusal>
+    requires { TakesParts (F.pre job) input.now (length output.old) }
+    ensures { DoesJob (F.post job) input.now output.old result output.new }
+{
+    let mut turns = [0u8; 32768];
+    let parts = split(input, &mut turns)?;
+    job(
+        &input[..parts.script],
+        &turns[..parts.turns],
+        &input[parts.script..],
+        output,
+    )
+}
+
+// The same; a refusal, that of the input or the one that the job answers, is printed. An output that has not the room is refused with 9 and stays as
+// it was.
 pub fn print_parts<F: FnOnce(&[u8], &[u8], &[u8], &mut [u8]) -> Result<usize, Refusal>>(
     input: &[u8],
     room: usize,
@@ -78,17 +106,9 @@ pub fn print_parts<F: FnOnce(&[u8], &[u8], &[u8], &mut [u8]) -> Result<usize, Re
     if output.len() < room {
         return Err(Fault::ShortTable.at(0));
     }
-    let mut turns = [0u8; 32768];
-    match split(input, &mut turns) {
-        Ok(parts) => job(
-            &input[..parts.script],
-            &turns[..parts.turns],
-            &input[parts.script..],
-            output,
-        ),
-        Err(misfit) => {
-            listing::print_refusal(misfit.refusal.fault.number(), misfit.refusal.line, output)
-        }
+    match do_job(input, output, job) {
+        Ok(n) => Ok(n),
+        Err(refusal) => listing::print_refusal(refusal.fault.number(), refusal.line, output),
     }
 }
 
