@@ -105,7 +105,8 @@ pub fn operand_at(s: &[u8], at: usize) -> Option<Part>
     let Some(slot) = digit(byte(s, at + 6)) else {
         return long_operand_at(s, at);
     };
-    if byte(s, at + 7) != b')' {
+    let closed = byte(s, at + 7) == b')';
+    if !closed {
         return long_operand_at(s, at);
     }
     let reads = begins_at(s, at, b"(read ");
