@@ -91,10 +91,12 @@ fn copy_from(s: &mut [u16], t: usize, cap: u16, n: u16) -> Result<(), Fault>
     let mut order = [0u16; 256];
     let count = walk::walk(s, &mut places, &mut order, 0, Value::Obj(n));
     let first = table::object_count(s) as usize;
-    if any_foreign_met(s, t, &order[..count]) {
+    let foreign = any_foreign_met(s, t, &order[..count]);
+    let used_up = 256 < first + count;
+    if foreign {
         return Err(Fault::Foreign);
     }
-    if 256 < first + count {
+    if used_up {
         return Err(Fault::UsedUp);
     }
     add_copies(s, t as u16, cap, &places, &order[..count], first);

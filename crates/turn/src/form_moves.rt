@@ -64,7 +64,7 @@ pub fn field_line(s: &mut [u16], h: Here, i: u16, j: u16) -> Result<Move, Halt>
     let alias = checks::is_iso_object(s, v);
     checks::permission_check(foreign, alias, false)?;
     table::give_value(s, h, v);
-    table::hold(s, v);
+    table::hold(s, v); // in that slot too
     Ok(Move::Next)
 }
 

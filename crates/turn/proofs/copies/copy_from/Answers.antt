@@ -19,20 +19,20 @@ slice_bounds-any_foreign_met-end c =
     let few : c.walk-count.result ≤ length c.walk-count.new.order = omega (arith, met_few c.walk-count.ensures.grows) in
     omega (arith, length-take-le c.walk-count.result c.walk-count.new.order few)
 
-pub overflow_add-first : goal.overflow_add-first
-overflow_add-first c =
+pub overflow_add-used_up : goal.overflow_add-used_up
+overflow_add-used_up c =
     omega (arith, met_few c.walk-count.ensures.grows)
 
-pub returns-then-any_foreign_met : goal.returns-then-any_foreign_met
-returns-then-any_foreign_met c =
-    from_foreign c.walk-count.ensures.walks _ _ c.any_foreign_met.ensures c.object_count-first.ensures.sees c.if-any_foreign_met.true
+pub returns-then-foreign : goal.returns-then-foreign
+returns-then-foreign c =
+    from_foreign c.walk-count.ensures.walks _ _ c.any_foreign_met-foreign.ensures c.object_count-first.ensures.sees c.if-foreign.true
 
-pub returns-then-first-count-gt256 : goal.returns-then-first-count-gt256
-returns-then-first-count-gt256 c =
-    from_used_up c.walk-count.ensures.walks _ _ c.any_foreign_met.ensures c.object_count-first.ensures.sees c.if-any_foreign_met.false
-    c.if-first-count-gt256.true
+pub returns-then-used_up : goal.returns-then-used_up
+returns-then-used_up c =
+    from_used_up c.walk-count.ensures.walks _ _ c.any_foreign_met-foreign.ensures c.object_count-first.ensures.sees c.if-foreign.false
+    c.if-used_up.true
 
 pub returns : goal.returns
 returns c =
-    from_copied c.walk-count.ensures.walks _ _ c.any_foreign_met.ensures c.object_count-first.ensures.sees c.if-any_foreign_met.false
-    c.if-first-count-gt256.false c.add_copies.ensures
+    from_copied c.walk-count.ensures.walks _ _ c.any_foreign_met-foreign.ensures c.object_count-first.ensures.sees c.if-foreign.false
+    c.if-used_up.false c.add_copies.ensures
