@@ -1,13 +1,15 @@
 -- What the loop over the turns keeps: the counts so far, and that the rules' own tally goes on from them.
-use Prim.Native.Nat.{ℕ, suc, ◌+◌, ◌≤◌, ◌<◌}
-use native.Mathlib.Nat.{add-zero}
+use Prim.Native.Nat.{ℕ, suc, min, ◌-◌, ◌*◌, ◌+◌, ◌≤◌, ◌<◌}
+use native.Mathlib.Nat.{add-zero, min-eq_left, min-eq_right}
 use native.Mathlib.Numerals.{add-one}
 use native.Mathlib.Omega.{arith}
-use mathlib.Core.Path.{◌≡◌, refl, sym, ap, ◌∙◌}
+use mathlib.Core.Path.{◌≡◌, refl, sym, ap, ap₂, ◌∙◌}
 use mathlib.Core.Bool.{Bool, true, false}
 use mathlib.Core.List.{List, [], ◌∷◌}
-use lib.ListN.{length, get_or, drop, length-set, drop_of_length-le}
-use lib.Seq.{drop-cons}
+use lib.ListN.{length, get_or, take, drop, length-drop, length-set, drop_of_length-le}
+use lib.Seq.{drop-cons, take_all, take-nil}
+use lib.Dec.{ltb, leb}
+use borrow.Author.Tests.{ltb-true, ltb-false, leb-true, leb-false}
 use Rattle.rules.specs.Mosts as Most
 use Rattle.rules.specs.Mosts.{mosts}
 use Rattle.rules.specs.Script.{Program}
@@ -16,15 +18,42 @@ use Rattle.rules.specs.State.{State, thread_at, start}
 use Rattle.rules.specs.Turn.{Res, ok, wait, stop, turn}
 use Rattle.rules.specs.Run.{stopped, run, run_from, after, advance, is_finished, block_of, line_now}
 use Rattle.rules.specs.Fits.{Fits}
-use Rattle.rules.proofs.ListLaws.{impossible, every_get, every_set, every_replicate}
+use Rattle.rules.proofs.ListLaws.{impossible, by_bool, every_get, every_set, every_replicate}
 use Rattle.rules.proofs.Keeps.{keeps_turn, keeps_run}
 use Rattle.table.specs.StateTable.{Held, Starts}
 use Rattle.turn.specs.Performed.{Loaded}
 use Rattle.run.specs.Reached.{going}
 use Rattle.tally.specs.declared.Fate.{Fate}
-use Rattle.tally.specs.declared.Fate.TheVariants.{Unplayed}
-use Rattle.tally.specs.Fates.{fate_by, count_at, raise, none_counted, tally_from, tally, goes_on, played_from, played}
+use Rattle.tally.specs.contracts.Fate as F
+use Rattle.tally.specs.declared.Fate.TheVariants.{Moved, Waited, Idled, Halted, Unplayed}
+use Rattle.tally.specs.Fates.{fate_by, fate_number, row_of, count_at, raise, none_counted, tally_from, tally, goes_on, played_from, played}
 use Rattle.tally.specs.Counted.{TakesOne, stops, Low, unplayed_from, CountsPlayed, Tallies}
+
+-- ---- Places
+
+-- a derived `==`, by the five cases
+pub equals_halted : (f : Fate) → denote.Enum.Bare.sameb F.the_type f Halted ≡ stops f
+equals_halted Moved = refl
+equals_halted Waited = refl
+equals_halted Idled = refl
+equals_halted Halted = refl
+equals_halted Unplayed = refl
+
+-- the fates stand in the order of their counts
+tag_is : (f : Fate) → denote.Enum.Declared.tag_of F.the_type f ≡ fate_number f
+tag_is Moved = refl
+tag_is Waited = refl
+tag_is Idled = refl
+tag_is Halted = refl
+tag_is Unplayed = refl
+
+row_is : (t : ℕ) → min t 16 ≡ row_of t
+row_is t = by_bool (ltb t 16)
+    (λ b. rw b (min-eq_left (let low = ltb-true t 16 b in omega arith)))
+    (λ b. rw b (min-eq_right (ltb-false t 16 b)))
+
+pub place_is : (t : ℕ) (f : Fate) → min t 16 * 5 + denote.Enum.Declared.tag_of F.the_type f ≡ count_at t f
+place_is t f = ap₂ (λ (r n : ℕ). r * 5 + n) (row_is t) (tag_is f)
 
 -- ---- Counts
 
@@ -217,10 +246,11 @@ module _ {p s₀ turns s counts s₁ : List ℕ} {i t : ℕ} {r : Fate} (countin
       stop_played P rest so (stop k) found = gone_on so found ∙ add-zero i
 
 -- all are played
-pub all_counted : {p s₀ turns s counts : List ℕ} {i : ℕ} → Counting p s₀ turns s counts i → length turns ≤ i → CountsPlayed p s₀ turns i counts
+pub all_counted : {p s₀ turns s counts : List ℕ} {i r : ℕ} → Counting p s₀ turns s counts i → length turns ≤ i → r ≡ i → CountsPlayed p s₀ turns r counts
 unfolding tally_from played_from unplayed_from
-all_counted {turns = turns} {counts = counts} {i = i} counting all =
-    record {
+all_counted {turns = turns} {counts = counts} {i = i} counting all same =
+    rw same
+    (record {
       low = low_up i (i + 1) counts (omega arith) counting.low;
       wide = counting.wide;
       within = counting.within;
@@ -232,9 +262,21 @@ all_counted {turns = turns} {counts = counts} {i = i} counting all =
           let so = counting.sofar P rest loaded valid held in
           so.played_on ∙ ap (λ (ts : List ℕ). i + played_from mosts P (going so.state so.moves) ts) (drop_of_length-le turns all) ∙ add-zero i
           );
-    }
+    })
 
 -- ---- The turns after the stop
+
+-- those from a place on, or none
+pub turns_behind : (turns : List ℕ) (n m : ℕ) → m ≡ min n (length turns) → take (length turns - m) (drop m turns) ≡ drop n turns
+turns_behind turns n m is = by_bool (leb n (length turns))
+    (λ b.
+    let low = leb-true n (length turns) b in
+    let same : m ≡ n = is ∙ min-eq_left low in
+    rw same (take_all (length turns - n) (drop n turns) (simp length-drop (omega arith))))
+    (λ b.
+    let past = leb-false n (length turns) b in
+    let same : m ≡ length turns = is ∙ min-eq_right (omega arith) in
+    rw (same, drop_of_length-le turns {i = length turns} (omega arith), drop_of_length-le turns {i = n} (omega arith)) (take-nil (length turns - length turns)))
 
 pub unplayed_one : (turns counts : List ℕ) (i t : ℕ) → i < length turns → t ≡ get_or turns i 0
     → unplayed_from counts (drop i turns) ≡ unplayed_from (raise counts (count_at t Unplayed)) (drop (i + 1) turns)

@@ -2,13 +2,13 @@
 #![tactic(auto)]
 
 ghost use Rattle.std.specs.Prelude.{◌≡◌, ◌+◌, ◌≤◌, length, drop};
-ghost use Rattle.tally.specs.Fates.{fate_number, row_of, count_at, raise, none_counted};
-ghost use Rattle.tally.specs.Counted.{TakesOne, stops, Low, CountsPlayed, Tallies, unplayed_from};
+ghost use Rattle.tally.specs.Fates.{count_at, raise, none_counted};
+ghost use Rattle.tally.specs.Counted.{TakesOne, Low, CountsPlayed, Tallies, unplayed_from};
 
-use checks::Step;
+use checks::Halt;
 
 // What comes of a turn: it moves, waits, idles (a finished or unstarted thread's), stops the run, or stands after the stop.
-#[derive(Clone, Copy)]
+#[derive(Clone, Copy, Debug, PartialEq, Eq)]
 pub enum Fate {
     Moved,
     Waited,
@@ -25,44 +25,13 @@ pub struct Tallied {
     pub played: usize,
 }
 
-fn fate_number(fate: Fate) -> usize
-    ensures { (result ≡ fate_number fate) × (result ≤ 4) }
-{
-    match fate {
-        Fate::Moved => 0,
-        Fate::Waited => 1,
-        Fate::Idled => 2,
-        Fate::Halted => 3,
-        Fate::Unplayed => 4,
-    }
-}
-
-fn row_of(t: usize) -> usize
-    ensures { (result ≡ row_of t) × (result ≤ 16) }
-{
-    if t < 16 { t } else { 16 }
-}
-
-// Whether it stops the run.
-fn is_stop(fate: Fate) -> bool
-    ensures { result ≡ stops fate }
-{
-    match fate {
-        Fate::Moved => false,
-        Fate::Waited => false,
-        Fate::Idled => false,
-        Fate::Halted => true,
-        Fate::Unplayed => false,
-    }
-}
-
 // One more of a fate for thread t.
 fn count(counts: &mut [u16], t: usize, fate: Fate)
     requires { (length counts.old ≡ 85) × Low 32768 counts.old }
     ensures { counts.new ≡ raise counts.old (count_at t fate) }
 {
-    let row = row_of(t);
-    let at = row * 5 + fate_number(fate);
+    let row = t.min(16); // past the last thread
+    let at = row * 5 + fate as usize;
     counts[at] += 1;
 }
 
@@ -77,11 +46,10 @@ pub fn take_turn(p: &[u16], s: &mut [u16], t: usize) -> Fate
     if table::frame_count(s, t) == 0 {
         return Fate::Idled; // unstarted or finished
     }
-    let step = turn::turn(p, s, t);
-    match step {
-        Step::Next | Step::Stay | Step::Turned => Fate::Moved,
-        Step::Waits => Fate::Waited,
-        _ => Fate::Halted,
+    match turn::turn(p, s, t) {
+        Ok(_) => Fate::Moved,
+        Err(Halt::Waits) => Fate::Waited,
+        Err(Halt::Stops(_)) => Fate::Halted,
     }
 }
 
@@ -90,17 +58,15 @@ fn count_played(p: &[u16], s: &mut [u16], turns: &[u8], counts: &mut [u16]) -> u
     requires { (8192 ≤ length p.now) × (8192 ≤ length s.old) × (length turns.now ≤ 32768) × (counts.old ≡ none_counted) }
     ensures { CountsPlayed p.now s.old turns.now result counts.new }
 {
-    let mut i: usize = 0;
-    while i < turns.len() {
-        let t = turns[i] as usize;
+    for (i, turn) in turns.iter().enumerate() {
+        let t = *turn as usize;
         let fate = take_turn(p, s, t);
         count(counts, t, fate);
-        if is_stop(fate) {
+        if fate == Fate::Halted {
             return i;
         }
-        i += 1;
     }
-    i
+    turns.len()
 }
 
 // Counts the turns after number `from`, which are not played.
@@ -108,11 +74,9 @@ fn count_unplayed(turns: &[u8], from: usize, counts: &mut [u16])
     requires { (length turns.now ≤ 32768) × (length counts.old ≡ 85) × Low (from + 1) counts.old × (from ≤ length turns.now) }
     ensures { counts.new ≡ unplayed_from counts.old (drop (from + 1) turns.now) }
 {
-    let mut i = from + 1;
-    while i < turns.len() {
-        let t = turns[i] as usize;
-        count(counts, t, Fate::Unplayed);
-        i += 1;
+    let rest = &turns[(from + 1).min(turns.len())..];
+    for turn in rest {
+        count(counts, *turn as usize, Fate::Unplayed);
     }
 }
 
