@@ -93,7 +93,7 @@ fn finish(r: Sofar, lines: usize, line: usize) -> Result<Counts, Refusal>
     Ok(Counts {
         kinds: r.kinds,
         blocks: r.blocks,
-        lines: lines,
+        lines,
     })
 }
 
@@ -109,7 +109,7 @@ pub fn scan_lines(
 {
     let before = lines_before(second);
     let mut r = Sofar {
-        second: second,
+        second,
         kinds: 0,
         blocks: 0,
         lets: 0,

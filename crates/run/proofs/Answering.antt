@@ -74,10 +74,10 @@ unfolding inputs long_turns
 as_read text turns short few = rw (le-ltb _ _ few) (by_bool (long_text text) (λ t. rw t) (λ t. rw t))
 
 module _ (text turns : List ℕ) (short : Bool) {p s p₁ s₁ : List ℕ} where
-  pub makes_long : Most.turns < length turns → Makes text turns short p s (Err (record { fault = F.Overlong; line = 0 })) p₁ s₁
+  pub makes_long : {e : Refusal} → Most.turns < length turns → e.fault ≡ F.Overlong → e.line ≡ 0 → Makes text turns short p s (Err e) p₁ s₁
   unfolding inputs reading long_turns
-  makes_long h =
-      let away = Read.refuses (record { fault = F.Overlong; line = 0 }) in
+  makes_long {e} h fault_is line_is =
+      let away = Read.refuses_by e fault_is line_is in
       record { makes = λ p-fresh s-fresh. rw (lt-ltb _ _ h) (by_bool (long_text text) (λ t. rw t away) (λ t. rw t away)) }
 
   -- a fresh table has its length

@@ -56,16 +56,10 @@ pub fn make(
     ensures { Makes text.now turns.now short p.old s.old result p.new s.new }
 {
     if 32768 < turns.len() {
-        return Err(Refusal {
-            fault: Fault::Overlong,
-            line: 0,
-        });
+        return Err(Fault::Overlong.at(0));
     }
     if p.len() < 8192 || s.len() < 8192 {
-        return Err(Refusal {
-            fault: Fault::ShortTable,
-            line: 0,
-        }); // no fresh table
+        return Err(Fault::ShortTable.at(0)); // no fresh table
     }
     reader::make(text, short, p)?;
     Ok(run_program(p, s, turns))

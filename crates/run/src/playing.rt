@@ -22,11 +22,11 @@ fn stop_at(s: &[u16], here: Here, fault: Fault, moves: u16) -> Stop
     ensures { StopsAt s.now here fault moves result }
 {
     Stop {
-        fault: fault,
+        fault,
         thread: here.thread as u16,
         block: table::frame_block(s, here.thread, here.depth),
         line: table::frame_line(s, here.thread, here.depth),
-        moves: moves,
+        moves,
     }
 }
 

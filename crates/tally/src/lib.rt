@@ -89,8 +89,5 @@ pub fn tally(p: &[u16], s: &mut [u16], turns: &[u8]) -> Tallied
     let mut counts = [0u16; 85];
     let played = count_played(p, s, turns, &mut counts);
     count_unplayed(turns, played, &mut counts);
-    Tallied {
-        counts: counts,
-        played: played,
-    }
+    Tallied { counts, played }
 }

@@ -4,7 +4,7 @@ use Rattle.run.proofs.Answering.{makes_long, makes_unfit, makes_away, makes_run}
 use Rattle.run.proofs.make.Goals as goal
 
 pub returns-then-turns-gt32768 : goal.returns-then-turns-gt32768
-returns-then-turns-gt32768 c = makes_long c.args.text.now c.args.turns.now c.args.short c.if-turns-gt32768.true
+returns-then-turns-gt32768 c = makes_long c.args.text.now c.args.turns.now c.args.short c.if-turns-gt32768.true c.at.ensures.fault c.at.ensures.line
 
 pub returns-then-p-lt8192 : goal.returns-then-p-lt8192
 returns-then-p-lt8192 c = makes_unfit c.args.text.now c.args.turns.now c.args.short c.then-p-lt8192.either
