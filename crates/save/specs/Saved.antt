@@ -1,6 +1,6 @@
 -- What box save prints of an input: "Every text that the reader accepts comes back byte for byte from its table", and its line of turns after
 -- it; what boxrun turns away, as boxrun does.
-use Rattle.std.specs.Prelude.{ℕ, false, List, ◌++◌}
+use Rattle.std.specs.Prelude.{ℕ, false, List, ◌++◌, Result}
 use Rattle.rules.specs.Mosts as Most
 use Rattle.rules.specs.Mosts.{mosts}
 use Rattle.rules.specs.Reading.{Reading, turned_away, accepted, reading}
@@ -8,7 +8,7 @@ use Rattle.rules.specs.Run.{refused}
 use Rattle.rules.specs.Calls.{long_text}
 use Rattle.rules.specs.Listing.{answer_line}
 use Rattle.rules.specs.Input.{Outcome, turns_away, ran, outcome}
-use Rattle.listing.specs.declared.Printed.{Printed}
+use Rattle.rules.specs.declared.faults.Refusal.{Refusal}
 use Rattle.listing.specs.Outputs.{printed_in, output_in}
 
 abbrev pub saved_as : List ℕ → Outcome → List ℕ
@@ -31,7 +31,7 @@ abbrev pub saved_bytes : ℕ
 saved_bytes = Most.input
 
 -- as a printed run stands in a lent output, which is longer here
-unfoldable pub saved_in : (text output : List ℕ) → Printed
+unfoldable pub saved_in : (text output : List ℕ) → Result ℕ Refusal
 saved_in text output = printed_in saved_bytes text output
 
 unfoldable pub saved_after : (text output : List ℕ) → List ℕ

@@ -1,33 +1,27 @@
--- `save::save_script` meets its contract: a script that was read comes back from its table, and a refusal is printed as its line.
+-- A script that was read comes back from its table, with what follows it; else its refusal is answered.
 use native.Mathlib.Omega.{arith}
-use mathlib.Core.Path.{sym, ◌∙◌}
-use lib.ListN.{take, drop, length-drop}
-use lib.Seq.{length-take-le}
-use Rattle.save.proofs.Saves.{script_refused, script_written, count_written, rest_written, never_refused}
+use mathlib.Core.Path.{refl}
 use Rattle.std.proofs.Common.{rules}
+use Rattle.std.proofs.lemmas.Result.{err_from_is_err_and}
+use Rattle.save.proofs.Saves.{refusal_line, script_written, count_written, rest_written, never_refused}
 use Rattle.save.proofs.save_script.Goals as goal
 
-pub slice_bounds-read-end : goal.slice_bounds-read-end
-slice_bounds-read-end c = sym (length-take-le c.args.at c.args.input.now c.requires.0)
+pub returns-in_err-read : goal.returns-in_err-read
+returns-in_err-read c =
+    let away = err_from_is_err_and c.from_residual.result c.from_residual.ensures.1 in
+    rw (away.1, away.2) (refusal_line c.args.text.now _ (search rules) c.args.last.now c.read.ensures.value c.in_err-read.was, refl)
 
-pub put_rest-requires : goal.put_rest-requires
-put_rest-requires c =
-    let is = sym c.in-Read.is ∙ c.read-answer.ensures.value in
-    let written = script_written (take c.args.at c.args.input.now) _ (search rules) (drop c.args.at c.args.input.now) is c.read-answer.ensures.table_after c.requires.2 c.write-written.ensures in
-    let count = count_written (take c.args.at c.args.input.now) (drop c.args.at c.args.input.now) c.args.output.now written c.in-Written.is in
-    (omega arith, omega (arith, count, length-take-le c.args.at c.args.input.now c.requires.0, length-drop c.args.at c.args.input.now, c.requires.1, c.requires.2))
+pub returns-in-Err : goal.returns-in-Err
+returns-in-Err c =
+    let written = script_written c.args.text.now _ (search rules) c.args.last.now c.read.ensures.value c.in_ok-read.was c.read.ensures.table_after c.requires.1 c.write.ensures in
+    absurd (never_refused c.args.text.now c.args.last.now c.args.output.now written c.in-Err.is)
 
-pub returns-in-Refused : goal.returns-in-Refused
-returns-in-Refused c =
-    let is = sym c.in-Refused.is ∙ c.read-answer.ensures.value in let all = script_refused (take c.args.at c.args.input.now) _ (search rules) (drop c.args.at c.args.input.now) c.args.output.now c.requires.2 is (c.print_refusal.ensures.value, c.print_refusal.ensures.output_after) in record { value = all.0; output_after = all.1 }
+pub put_text-requires : goal.put_text-requires
+put_text-requires c =
+    let written = script_written c.args.text.now _ (search rules) c.args.last.now c.read.ensures.value c.in_ok-read.was c.read.ensures.table_after c.requires.1 c.write.ensures in
+    omega (arith, count_written c.args.text.now c.args.last.now c.args.output.now written c.in-Ok.is, c.requires.0, c.requires.1, c.write.auto.buffer)
 
-pub returns-in-Refused-written : goal.returns-in-Refused-written
-returns-in-Refused-written c =
-    let is = sym c.in-Read.is ∙ c.read-answer.ensures.value in
-    let written = script_written (take c.args.at c.args.input.now) _ (search rules) (drop c.args.at c.args.input.now) is c.read-answer.ensures.table_after c.requires.2 c.write-written.ensures in
-    absurd (never_refused (take c.args.at c.args.input.now) (drop c.args.at c.args.input.now) c.args.output.now written c.in-Refused-written.is)
-
-pub returns-in-Written : goal.returns-in-Written
-returns-in-Written c =
-    let is = sym c.in-Read.is ∙ c.read-answer.ensures.value in
-    let written = script_written (take c.args.at c.args.input.now) _ (search rules) (drop c.args.at c.args.input.now) is c.read-answer.ensures.table_after c.requires.2 c.write-written.ensures in let all = rest_written (take c.args.at c.args.input.now) (drop c.args.at c.args.input.now) c.args.output.now written c.in-Written.is c.requires.2 c.put_rest.ensures in record { value = all.0; output_after = all.1 }
+pub returns : goal.returns
+returns c =
+    let written = script_written c.args.text.now _ (search rules) c.args.last.now c.read.ensures.value c.in_ok-read.was c.read.ensures.table_after c.requires.1 c.write.ensures in
+    rest_written c.args.text.now c.args.last.now c.args.output.now written c.in-Ok.is c.put_text.ensures.writes (search (rules, c.put_text.ensures.buffer_same))
