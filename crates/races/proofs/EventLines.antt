@@ -1,11 +1,12 @@
 -- The event of the line where a thread stands, as the tables tell it: the words of the line's row name the slot, which is filled, so that what the code reads is what the rule reads.
-use Prim.Native.Nat.{ℕ, ◌/◌, ◌%◌, ◌≤◌}
+use Prim.Native.Nat.{ℕ, ◌/◌, ◌%◌, ◌≤◌, ◌<◌}
 use native.Mathlib.Omega.{arith}
 use mathlib.Core.Path.{◌≡◌, refl, sym, ap, ◌∙◌}
+use mathlib.Core.Logic.{◌⊎◌, ⊎_elim}
 use mathlib.Core.List.{List, [], ◌∷◌}
 use lib.ListN.{length, get_or}
 use Rattle.rules.specs.declared.Value.{Value}
-use Rattle.rules.specs.declared.Value.TheVariants.{Obj, Chan}
+use Rattle.rules.specs.declared.Value.TheVariants.{Absent, Obj, Chan}
 use Rattle.rules.specs.declared.Event.{Event}
 use Rattle.rules.specs.declared.Event.TheVariants.{Quiet, Reads, Swaps, Puts, Receives, Copies}
 use Rattle.rules.specs.Lists.{pad}
@@ -15,21 +16,34 @@ use Rattle.rules.specs.Tables.{sender_word, line_words, row}
 use Rattle.rules.specs.Turn as R
 use Rattle.rules.specs.Races.{on_object, message_in, put_event, let_event, line_event, frames_event, event}
 use Rattle.rules.proofs.TableWords.{slot_of_word, sender_tells}
-use Rattle.table.specs.declared.state.Here.{Here}
+use Rattle.table.specs.declared.standing.Here.{Here}
 use Rattle.table.specs.StateTable.{InTable, Sees, Any, frame_at}
 use Rattle.table.proofs.Places.{has_place}
 use Rattle.checks.specs.Checked.{here_at, Stand}
 use Rattle.checks.proofs.Standing.{SlotSeen, MessageSeen, frame_is, slot_in_table, slot_place, slot_found, slot_read}
 use Rattle.turn.proofs.TurnSteps.{let_names, word_names}
 use Rattle.turn.proofs.Dispatch.{word_at, Tells, tells_field, tells_swap, tells_send, tells_recv, tells_copy}
+use Rattle.walk.specs.declared.Met.{Met}
+use Rattle.walk.specs.Walking.{Walks, Of}
+use Rattle.walk.specs.Walked.{tally_of}
+use Rattle.walk.proofs.FromNothing.{walk_from_nothing}
 use Rattle.turn.proofs.Located.{no_frames, Finds}
-use Rattle.races.specs.Events.{LineTells, TurnTells, MeetsFrom, Meets}
+use Rattle.races.specs.Events.{ObjectBelow, OnObject, LineTells, TurnTells, NoneMet, Meets}
 use Rattle.races.proofs.EventLaws.{event_at_lem, message_made}
 
 -- ---- What is read of the table
 
-pub object_told : {v : Value} {n : ℕ} (e : ℕ → Event) → v ≡ Obj n → e n ≡ on_object v e
-object_told e is = rw is refl
+-- what a closure does to an object is what the definition says of it
+pub object_told : (v : Value) {Does : ℕ → Event → Type 0} {r : Event} (e : ℕ → Event) → ((n : ℕ) (d : Event) → Does n d → d ≡ e n) → OnObject Does v r
+    → r ≡ on_object v e
+object_told Absent e does told = told
+object_told (Obj n) {r = r} e does told = does n r told
+object_told (Chan c) e does told = told
+
+pub object_below : (v : Value) {r : Event} (e : ℕ → Event) → ((n : ℕ) → n < 256 → ObjectBelow 256 (e n)) → InTable v → r ≡ on_object v e → ObjectBelow 256 r
+object_below Absent e below there is = rw is tt
+object_below (Obj n) e below there is = rw is (below n there)
+object_below (Chan c) e below there is = rw is tt
 
 -- the message of the channel that a slot holds
 abbrev pub MessageInSeen : List ℕ → Value → Value → Type 0
@@ -179,12 +193,13 @@ module _ {p s : List ℕ} {t : ℕ} where
 
 -- ---- The objects met
 
-module _ {s : List ℕ} {e : Event} {order : List ℕ} {x r : ℕ} (from : MeetsFrom s x order r) where
-  pub puts_meets : e ≡ Puts x → Meets s e order r
-  puts_meets is = record { meets = λ P n S rest held fits there. rw is (from.meets P n S rest held fits (rw is at there)) }
-
-  pub receives_meets : e ≡ Receives x → Meets s e order r
-  receives_meets is = record { meets = λ P n S rest held fits there. rw is (from.meets P n S rest held fits (rw is at there)) }
-
-  pub copies_meets : e ≡ Copies x → Meets s e order r
-  copies_meets is = record { meets = λ P n S rest held fits there. rw is (from.meets P n S rest held fits (rw is at there)) }
+-- its object is walked
+pub walk_meets : {s : List ℕ} {e : Event} (m m₁ : Met) (x : ℕ) → (e ≡ Puts x) ⊎ ((e ≡ Receives x) ⊎ (e ≡ Copies x)) → NoneMet m
+    → Walks s (tally_of m) (Of (Obj x)) (λ S. Obj x ∷ []) (tally_of m₁) → Meets s e m₁.order.now m₁.count
+walk_meets m m₁ x is nothing walks =
+    let from = rw nothing at walks in
+    record {
+      meets = λ P n S rest held fits.
+          ⊎_elim (λ a. rw a (λ there. (walk_from_nothing from held fits there).listed))
+          (⊎_elim (λ a. rw a (λ there. (walk_from_nothing from held fits there).listed)) (λ a. rw a (λ there. (walk_from_nothing from held fits there).listed))) is;
+    }

@@ -14,8 +14,9 @@ use Rattle.rules.specs.Mosts.{mosts}
 use Rattle.rules.specs.Script.{Program}
 use Rattle.rules.specs.Races.{thread_of, puts_at, receives_at, apart, put_between, handed_over}
 use Rattle.rules.proofs.ListLaws.{impossible, by_bool, and_true}
+use Rattle.std.specs.Prelude.{Option, None, Some}
 use Rattle.races.specs.declared.marks.Found.{Found}
-use Rattle.races.specs.Marks.{unhanded, latest_in, latest_on, found, better, over_fields, over_objects}
+use Rattle.races.specs.Marks.{unhanded, latest_in, latest_on, race_on, mark_of, later, over_fields, over_objects}
 use Rattle.races.proofs.Lasts.{or_left, or_right, and_both, any_there, any_some, LastIs, last_agrees, last_none, last_most, last_below_lem}
 use Rattle.races.proofs.Marked.{receive_mark, put_after}
 
@@ -217,41 +218,64 @@ module _ (P : Program) (ts : List ℕ) where
 
 -- ---- The latest over the fields of objects
 
+abbrev pub found_object : Option Found → ℕ
+found_object None = 0
+found_object (Some F) = F.object
+
+abbrev pub found_field : Option Found → ℕ
+found_field None = 0
+found_field (Some F) = F.field
+
 -- what is found has a property, if it is anything
-pub record Finds (Q : (turn object field : ℕ) → Type 0) (F : Found) : Type 0 where
-  pub has : (i : ℕ) → F.turn ≡ suc i → Q i F.object F.field
+pub record Finds (Q : (turn object field : ℕ) → Type 0) (F : Option Found) : Type 0 where
+  pub has : (i : ℕ) → mark_of F ≡ suc i → Q i (found_object F) (found_field F)
+
+pub none_finds : {Q : (turn object field : ℕ) → Type 0} → Finds Q None
+none_finds = record { has = λ i is. impossible cc }
+
+pub race_finds : {Q : (turn object field : ℕ) → Type 0} (m n f : ℕ) → ((i : ℕ) → m ≡ suc i → Q i n f) → Finds Q (race_on m n f)
+race_finds zero n f each = record { has = λ i is. impossible cc }
+race_finds (suc m) n f each = record { has = each }
+
+pub race_mark : (m n f : ℕ) → mark_of (race_on m n f) ≡ m
+race_mark zero n f = refl
+race_mark (suc m) n f = refl
 
 either : {A : Type 0} (Q : A → Type 0) (b : Bool) (x y : A) → Q x → Q y → Q (cond b x y)
 either Q true x y p q = p
 either Q false x y p q = q
 
-better_upto : (F : Found) (r n f : ℕ) → (F.turn ≤ (better F r n f).turn) × (r ≤ (better F r n f).turn)
-better_upto F r n f = by_bool (ltb F.turn r)
-    (λ e. let less = ltb-true F.turn r e in rw e (omega arith, le_refl r))
-    (λ e. rw e (le_refl F.turn, ltb-false F.turn r e))
+later_upto : (F G : Option Found) → (mark_of F ≤ mark_of (later F G)) × (mark_of G ≤ mark_of (later F G))
+later_upto F G = by_bool (ltb (mark_of F) (mark_of G))
+    (λ e. let less = ltb-true (mark_of F) (mark_of G) e in rw e (omega arith, le_refl (mark_of G)))
+    (λ e. rw e (le_refl (mark_of F), ltb-false (mark_of F) (mark_of G) e))
+
+-- the mark of a field is in what is found then
+race_upto : (F : Option Found) (m n f : ℕ) → (mark_of F ≤ mark_of (later F (race_on m n f))) × (m ≤ mark_of (later F (race_on m n f)))
+race_upto F m n f = let upto = later_upto F (race_on m n f) in (upto.0, subst (λ k. k ≤ mark_of (later F (race_on m n f))) (race_mark m n f) upto.1)
 
 module _ (swaps puts receives : List ℕ) (t : ℕ) where
-  fields_upto : (n : ℕ) (F : Found) (c : ℕ) → F.turn ≤ (over_fields swaps puts receives t n F c).turn
+  fields_upto : (n : ℕ) (F : Option Found) (c : ℕ) → mark_of F ≤ mark_of (over_fields swaps puts receives t n F c)
   unfolding over_fields
-  fields_upto n F zero = le_refl F.turn
-  fields_upto n F (suc c) = le_trans (fields_upto n F c) (better_upto (over_fields swaps puts receives t n F c) (latest_on swaps puts receives t n c) n c).0
+  fields_upto n F zero = le_refl (mark_of F)
+  fields_upto n F (suc c) = le_trans (fields_upto n F c) (race_upto (over_fields swaps puts receives t n F c) (latest_on swaps puts receives t n c) n c).0
 
-  fields_cover : (n : ℕ) (F : Found) (c f : ℕ) → f < c → latest_on swaps puts receives t n f ≤ (over_fields swaps puts receives t n F c).turn
+  fields_cover : (n : ℕ) (F : Option Found) (c f : ℕ) → f < c → latest_on swaps puts receives t n f ≤ mark_of (over_fields swaps puts receives t n F c)
   unfolding over_fields
   fields_cover n F zero f low = absurd (not-suc-le-zero low)
   fields_cover n F (suc c) f low =
-      let upto = better_upto (over_fields swaps puts receives t n F c) (latest_on swaps puts receives t n c) n c in
+      let upto = race_upto (over_fields swaps puts receives t n F c) (latest_on swaps puts receives t n c) n c in
       by_bool (eqb f c)
       (λ e. rw (eqb-true f c e) upto.1)
       (λ e. let other = eqb-false f c e in le_trans (fields_cover n F c f (omega arith)) upto.0)
 
-  objects_upto : (F : Found) (ns : List ℕ) → F.turn ≤ (over_objects swaps puts receives t F ns).turn
+  objects_upto : (F : Option Found) (ns : List ℕ) → mark_of F ≤ mark_of (over_objects swaps puts receives t F ns)
   unfolding over_objects
-  objects_upto F [] = le_refl F.turn
+  objects_upto F [] = le_refl (mark_of F)
   objects_upto F (n ∷ ns) = le_trans (fields_upto n F 4) (objects_upto (over_fields swaps puts receives t n F 4) ns)
 
-  pub objects_cover : (F : Found) (ns : List ℕ) (n f : ℕ) → among n ns ≡ true → f < 4
-      → latest_on swaps puts receives t n f ≤ (over_objects swaps puts receives t F ns).turn
+  pub objects_cover : (F : Option Found) (ns : List ℕ) (n f : ℕ) → among n ns ≡ true → f < 4
+      → latest_on swaps puts receives t n f ≤ mark_of (over_objects swaps puts receives t F ns)
   unfolding over_objects
   objects_cover F [] n f h low = absurd (false≢true h)
   objects_cover F (x ∷ ns) n f h low = by_bool (eqb n x)
@@ -259,17 +283,18 @@ module _ (swaps puts receives : List ℕ) (t : ℕ) where
       (λ e. objects_cover (over_fields swaps puts receives t x F 4) ns n f (rw e at h) low)
 
   module _ (Q : (turn object field : ℕ) → Type 0) where
-    fields_find : (n : ℕ) (F : Found) (c : ℕ) → Finds Q F → ((i f : ℕ) → f < c → latest_on swaps puts receives t n f ≡ suc i → Q i n f)
+    fields_find : (n : ℕ) (F : Option Found) (c : ℕ) → Finds Q F → ((i f : ℕ) → f < c → latest_on swaps puts receives t n f ≡ suc i → Q i n f)
         → Finds Q (over_fields swaps puts receives t n F c)
     unfolding over_fields
     fields_find n F zero finds each = finds
     fields_find n F (suc c) finds each =
         let before = over_fields swaps puts receives t n F c in
-        either (Finds Q) (ltb before.turn (latest_on swaps puts receives t n c)) (found (latest_on swaps puts receives t n c) n c) before
-        (record { has = λ i is. each i c (le_refl (suc c)) is })
+        let this = race_on (latest_on swaps puts receives t n c) n c in
+        either (Finds Q) (ltb (mark_of before) (mark_of this)) this before
+        (race_finds (latest_on swaps puts receives t n c) n c (λ i is. each i c (le_refl (suc c)) is))
         (fields_find n F c finds (λ i f low. each i f (omega arith)))
 
-    pub objects_find : (F : Found) (ns : List ℕ) → Finds Q F → ((i n f : ℕ) → among n ns ≡ true → f < 4 → latest_on swaps puts receives t n f ≡ suc i → Q i n f)
+    pub objects_find : (F : Option Found) (ns : List ℕ) → Finds Q F → ((i n f : ℕ) → among n ns ≡ true → f < 4 → latest_on swaps puts receives t n f ≡ suc i → Q i n f)
         → Finds Q (over_objects swaps puts receives t F ns)
     unfolding over_objects
     objects_find F [] finds each = finds

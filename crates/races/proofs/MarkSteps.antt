@@ -1,18 +1,19 @@
 -- Why the loops note what they should: each step changes one row, and the words of different objects, fields and threads stand apart.
-use Prim.Native.Nat.{ℕ, suc, ◌+◌, ◌*◌, ◌%◌, ◌≤◌, ◌<◌}
+use Prim.Native.Nat.{ℕ, suc, ◌+◌, ◌*◌, ◌%◌, ◌≤◌, ◌<◌, max}
 use native.Mathlib.Omega.{arith}
 use mathlib.Core.Path.{◌≡◌, refl, sym, ap, ◌∙◌}
 use mathlib.Core.Bool.{Bool, true, false, ◌&&◌, ◌||◌, cond, false≢true}
 use mathlib.Core.List.{List, [], ◌∷◌, ◌++◌, map, map-append}
-use lib.Dec.{eqb}
+use lib.Dec.{eqb, ltb}
 use lib.ListN.{length, get_or, set, take, length-set}
 use lib.Seq.{take-suc, get_or-set_same, get_or-set_other}
-use borrow.Author.Tests.{eqb-true, eqb-false, eq-eqb, ne_eqb}
+use borrow.Author.Tests.{eqb-true, eqb-false, eq-eqb, ne_eqb, ltb-true, ltb-false}
+use Rattle.std.specs.Prelude.{Option, None}
 use Rattle.rules.specs.Lists.{among}
 use Rattle.rules.proofs.ListLaws.{by_bool, and_true}
 use Rattle.walk.proofs.Numbers.{among_snoc}
 use Rattle.races.specs.declared.marks.Found.{Found}
-use Rattle.races.specs.Marks.{field_at, objects_in, MarksMet, MarksFields, first_of, MarksFirst, most, unhanded, latest_in, latest_on, better, over_fields, over_objects, nothing}
+use Rattle.races.specs.Marks.{field_at, objects_in, MarksMet, MarksFields, first_of, MarksFirst, most, unhanded, latest_in, latest_on, race_on, later, over_fields, over_objects}
 
 -- ---- One word set
 
@@ -37,15 +38,15 @@ in_rows x n u t few-u few-t = parts_same 16 x n u t few-u few-t (λ e. (omega ar
 
 -- ---- One object more
 
-objects_snoc : (order : List ℕ) (i : ℕ) → i < length order → objects_in (i + 1) order ≡ objects_in i order ++ (get_or order i 0 % 256 ∷ [])
+objects_snoc : (order : List ℕ) (i : ℕ) → i < length order → objects_in (take (i + 1) order) ≡ objects_in (take i order) ++ (get_or order i 0 % 256 ∷ [])
 objects_snoc order i there =
     let next : i + 1 ≡ suc i = omega arith in
-    ap (λ (k : ℕ). objects_in k order) next
+    ap (λ (k : ℕ). objects_in (take k order)) next
     ∙ ap (map (λ (y : ℕ). y % 256)) (take-suc order i 0 there)
     ∙ map-append (λ (y : ℕ). y % 256) (take i order) (get_or order i 0 ∷ [])
 
-objects_next : (x : ℕ) (order : List ℕ) (i : ℕ) → i < length order → among x (objects_in (i + 1) order) ≡ (among x (objects_in i order) || eqb x (get_or order i 0 % 256))
-objects_next x order i there = ap (among x) (objects_snoc order i there) ∙ among_snoc x (get_or order i 0 % 256) (objects_in i order)
+objects_next : (x : ℕ) (order : List ℕ) (i : ℕ) → i < length order → among x (objects_in (take (i + 1) order)) ≡ (among x (objects_in (take i order)) || eqb x (get_or order i 0 % 256))
+objects_next x order i there = ap (among x) (objects_snoc order i there) ∙ among_snoc x (get_or order i 0 % 256) (objects_in (take i order))
 
 one_more : (a e b : Bool) (v old : ℕ) → cond (e && b) v (cond (a && b) v old) ≡ cond ((a || e) && b) v old
 one_more true true true v old = refl
@@ -60,23 +61,23 @@ one_more false false false v old = refl
 module _ (order : List ℕ) (t mark : ℕ) (few : t < 16) where
   -- ---- Rows of objects
 
-  pub none_met : (ws : List ℕ) → MarksMet (objects_in 0 order) t mark ws ws
+  pub none_met : (ws : List ℕ) → MarksMet (objects_in (take 0 order)) t mark ws ws
   none_met ws = record { each = λ n u _ _. refl }
 
-  pub one_met : {ws ws₁ : List ℕ} (i : ℕ) → i < length order → 4096 ≤ length ws₁ → MarksMet (objects_in i order) t mark ws ws₁
-      → MarksMet (objects_in (i + 1) order) t mark ws (set ws₁ (get_or order i 0 % 256 * 16 + t) mark)
+  pub one_met : {ws ws₁ : List ℕ} (i : ℕ) → i < length order → 4096 ≤ length ws₁ → MarksMet (objects_in (take i order)) t mark ws ws₁
+      → MarksMet (objects_in (take (i + 1) order)) t mark ws (set ws₁ (get_or order i 0 % 256 * 16 + t) mark)
   one_met {ws} {ws₁} i there wide so =
       let n = get_or order i 0 % 256 in
       record {
         each = λ x u x-few u-few.
             word_set ws₁ (n * 16 + t) (x * 16 + u) mark (omega arith)
             ∙ rw (in_rows x n u t u-few few, so.each x u x-few u-few, objects_next x order i there)
-            (one_more (among x (objects_in i order)) (eqb x n) (eqb u t) mark (get_or ws (x * 16 + u) 0));
+            (one_more (among x (objects_in (take i order))) (eqb x n) (eqb u t) mark (get_or ws (x * 16 + u) 0));
       }
 
   -- ---- Rows of fields
 
-  pub none_marked : (ws : List ℕ) → MarksFields (objects_in 0 order) t mark ws ws
+  pub none_marked : (ws : List ℕ) → MarksFields (objects_in (take 0 order)) t mark ws ws
   none_marked ws = record { each = λ n f u _ _ _. refl }
 
   -- four rows of an object
@@ -129,15 +130,15 @@ module _ (order : List ℕ) (t mark : ℕ) (few : t < 16) where
       true_not_false : true ≡ false → ⊥
       true_not_false e = let z : ◌≡◌ {A = ℕ} 0 1 = cc in omega arith
 
-  pub one_marked : {ws ws₁ : List ℕ} (i : ℕ) → i < length order → 16384 ≤ length ws₁ → MarksFields (objects_in i order) t mark ws ws₁
-      → MarksFields (objects_in (i + 1) order) t mark ws (four ws₁ (get_or order i 0 % 256 * 64 + t))
+  pub one_marked : {ws ws₁ : List ℕ} (i : ℕ) → i < length order → 16384 ≤ length ws₁ → MarksFields (objects_in (take i order)) t mark ws ws₁
+      → MarksFields (objects_in (take (i + 1) order)) t mark ws (four ws₁ (get_or order i 0 % 256 * 64 + t))
   one_marked {ws} {ws₁} i there wide so =
       let n = get_or order i 0 % 256 in
       record {
         each = λ x f u x-few f-few u-few.
             four_each ws₁ n x f u (omega arith) wide f-few u-few
             ∙ rw (so.each x f u x-few f-few u-few, objects_next x order i there)
-            (one_more (among x (objects_in i order)) (eqb x n) (eqb u t) mark (get_or ws (field_at x f u) 0));
+            (one_more (among x (objects_in (take i order))) (eqb x n) (eqb u t) mark (get_or ws (field_at x f u) 0));
       }
 
 -- ---- First puts
@@ -158,7 +159,7 @@ unfolding four_first
 four_steps mark ws at first second third fourth = rw (fourth, third, second, first) refl
 
 module _ (order : List ℕ) (t mark : ℕ) (few : t < 16) where
-  pub none_first : (ws : List ℕ) → MarksFirst (objects_in 0 order) t mark ws ws
+  pub none_first : (ws : List ℕ) → MarksFirst (objects_in (take 0 order)) t mark ws ws
   none_first ws = record { each = λ n f u _ _ _. refl }
 
   -- a word set to the first of what it was
@@ -235,42 +236,60 @@ module _ (order : List ℕ) (t mark : ℕ) (few : t < 16) where
   first_twice false false true was = refl
   first_twice false false false was = refl
 
-  pub one_first : {ws ws₁ : List ℕ} (i : ℕ) → i < length order → 16384 ≤ length ws₁ → MarksFirst (objects_in i order) t mark ws ws₁
-      → MarksFirst (objects_in (i + 1) order) t mark ws (four_first mark ws₁ (get_or order i 0 % 256 * 64 + t))
+  pub one_first : {ws ws₁ : List ℕ} (i : ℕ) → i < length order → 16384 ≤ length ws₁ → MarksFirst (objects_in (take i order)) t mark ws ws₁
+      → MarksFirst (objects_in (take (i + 1) order)) t mark ws (four_first mark ws₁ (get_or order i 0 % 256 * 64 + t))
   one_first {ws} {ws₁} i there wide so =
       let n = get_or order i 0 % 256 in
       record {
         each = λ x f u x-few f-few u-few.
             first_each ws₁ n x f u (omega arith) wide f-few u-few
             ∙ rw (so.each x f u x-few f-few u-few, objects_next x order i there)
-            (first_twice (among x (objects_in i order)) (eqb x n) (eqb u t) (get_or ws (field_at x f u) 0));
+            (first_twice (among x (objects_in (take i order))) (eqb x n) (eqb u t) (get_or ws (field_at x f u) 0));
       }
 
 -- ---- What is found, one step more
 
-pub latest_next : (ws puts : List ℕ) (a q t u : ℕ) {last x r : ℕ} → last ≡ latest_in ws puts a q t u
-    → x ≡ cond (eqb u t) 0 (unhanded (get_or ws (a * 16 + u) 0) (get_or puts (a * 16 + u) 0) q) → r ≡ most last x → r ≡ latest_in ws puts a q t (u + 1)
+pub max_most : (a b : ℕ) → max a b ≡ most a b
+max_most a b = by_bool (ltb a b)
+    (λ e. let less = ltb-true a b e in rw e (omega arith))
+    (λ e. let few = ltb-false a b e in rw e (omega arith))
+
+most_none : (a : ℕ) → most a 0 ≡ a
+most_none a = by_bool (ltb a 0) (λ e. let less = ltb-true a 0 e in absurd (omega arith)) (λ e. rw e refl)
+
+-- the turns of the same thread are passed over
+
+pub latest_skips : (ws puts : List ℕ) (a q t u : ℕ) {last : ℕ} → u ≡ t → last ≡ latest_in ws puts a q t u → last ≡ latest_in ws puts a q t (u + 1)
 unfolding latest_in
-latest_next ws puts a q t u so this is =
+latest_skips ws puts a q t u same so =
     let next : u + 1 ≡ suc u = omega arith in
-    rw next (is ∙ rw (so, this) refl)
+    rw (next, eq-eqb u t same) (so ∙ sym (most_none _))
+
+pub latest_next : (ws puts : List ℕ) (a q t u : ℕ) {last x r : ℕ} → (u ≡ t → ⊥) → last ≡ latest_in ws puts a q t u
+    → x ≡ unhanded (get_or ws (a * 16 + u) 0) (get_or puts (a * 16 + u) 0) q → r ≡ max last x → r ≡ latest_in ws puts a q t (u + 1)
+unfolding latest_in
+latest_next ws puts a q t u other so this is =
+    let next : u + 1 ≡ suc u = omega arith in
+    rw (next, ne_eqb u t other) (is ∙ rw (so, this) (max_most _ _))
 
 module _ (swaps puts receives : List ℕ) (t : ℕ) where
-  pub fields_next : (n : ℕ) (F : Found) (f : ℕ) {G R : Found} {x : ℕ} → G ≡ over_fields swaps puts receives t n F f
-      → x ≡ latest_on swaps puts receives t n f → R ≡ better G x n f → R ≡ over_fields swaps puts receives t n F (f + 1)
+  pub fields_next : (n : ℕ) (F : Option Found) (f : ℕ) {G R : Option Found} → G ≡ over_fields swaps puts receives t n F f
+      → R ≡ later G (race_on (latest_on swaps puts receives t n f) n f) → R ≡ over_fields swaps puts receives t n F (f + 1)
   unfolding over_fields
-  fields_next n F f so this is =
+  fields_next n F f so is =
       let next : f + 1 ≡ suc f = omega arith in
-      rw next (is ∙ rw (so, this) refl)
+      rw next (is ∙ rw so refl)
 
-  over_snoc : (F : Found) (ns : List ℕ) (n : ℕ) → over_objects swaps puts receives t F (ns ++ (n ∷ [])) ≡ over_fields swaps puts receives t n (over_objects swaps puts receives t F ns) 4
+  over_snoc : (F : Option Found) (ns : List ℕ) (n : ℕ)
+      → over_objects swaps puts receives t F (ns ++ (n ∷ [])) ≡ over_fields swaps puts receives t n (over_objects swaps puts receives t F ns) 4
   unfolding over_objects
   over_snoc F [] n = refl
   over_snoc F (x ∷ ns) n = over_snoc (over_fields swaps puts receives t x F 4) ns n
 
-  pub objects_found_next : (order : List ℕ) (i : ℕ) {G R : Found} → i < length order → G ≡ over_objects swaps puts receives t nothing (objects_in i order)
-      → R ≡ over_fields swaps puts receives t (get_or order i 0 % 256) G 4 → R ≡ over_objects swaps puts receives t nothing (objects_in (i + 1) order)
+  pub objects_found_next : (order : List ℕ) (i : ℕ) {G R : Option Found} → i < length order
+      → G ≡ over_objects swaps puts receives t None (objects_in (take i order))
+      → R ≡ over_fields swaps puts receives t (get_or order i 0 % 256) G 4 → R ≡ over_objects swaps puts receives t None (objects_in (take (i + 1) order))
   objects_found_next order i there so is =
       is
-      ∙ rw so (sym (over_snoc nothing (objects_in i order) (get_or order i 0 % 256)))
-      ∙ ap (over_objects swaps puts receives t nothing) (sym (objects_snoc order i there))
+      ∙ rw so (sym (over_snoc None (objects_in (take i order)) (get_or order i 0 % 256)))
+      ∙ ap (over_objects swaps puts receives t None) (sym (objects_snoc order i there))

@@ -16,9 +16,30 @@ use Rattle.rules.specs.Script.{Program}
 use Rattle.rules.specs.Races.{meets, reads_of, swaps_of, puts_of, receives_of, objects_at, thread_of, event_at, reads_at, swaps_at, puts_at, receives_at}
 use Rattle.rules.proofs.ListLaws.{by_bool}
 use Rattle.rules.proofs.Counts.{eqb_sym}
+use Rattle.std.specs.Prelude.{Option}
 use Rattle.races.specs.declared.marks.Found.{Found}
+use Rattle.races.specs.declared.marks.Rows.{Rows}
+use Rattle.races.specs.declared.marks.Marks.{Marks}
 use Rattle.races.specs.Events.{ObjectBelow, met_by}
-use Rattle.races.specs.Marks.{Marks, receive_at, field_at, MarksMet, MarksFields, first_of, MarksFirst, Notes}
+use Rattle.races.specs.Marks.{Roomy, receive_at, field_at, MarksMet, MarksFields, first_of, MarksFirst, Notes}
+
+-- ---- The rows of marks that are the same
+
+module _ {M N : Marks} (same : M ≡ N) where
+  same_receives : M.receives ≡ N.receives
+  same_receives = ap (λ (m : Marks). m.receives) same
+
+  same_reads : M.reads.last ≡ N.reads.last
+  same_reads = ap (λ (m : Marks). m.reads.last) same
+
+  same_read_puts : M.reads.puts ≡ N.reads.puts
+  same_read_puts = ap (λ (m : Marks). m.reads.puts) same
+
+  same_swaps : M.swaps.last ≡ N.swaps.last
+  same_swaps = ap (λ (m : Marks). m.swaps.last) same
+
+  same_swap_puts : M.swaps.puts ≡ N.swaps.puts
+  same_swap_puts = ap (λ (m : Marks). m.swaps.puts) same
 
 -- ---- The word of a thread
 
@@ -41,13 +62,6 @@ FieldBelow n (Swaps x f) = f < n
 FieldBelow n (Puts x) = Unit {0}
 FieldBelow n (Receives x) = Unit {0}
 FieldBelow n (Copies x) = Unit {0}
-
--- room for a word of each thread in the rows of each field
-pub record Roomy (M : Marks) : Type 0 where
-  pub reads : 16384 ≤ length M.reads
-  pub read_puts : 16384 ≤ length M.read_puts
-  pub swaps : 16384 ≤ length M.swaps
-  pub swap_puts : 16384 ≤ length M.swap_puts
 
 pub low_part : (g : ℕ) → g < 4 → g % 4 ≡ g
 low_part g g< = omega arith
@@ -86,15 +100,15 @@ module _ (P : Program) (ts : List ℕ) where
 
   pub record HasMarks (k : ℕ) (M : Marks) : Type 0 where
     pub receives : (n u : ℕ) → n < 256 → u < 16 → get_or M.receives (receive_at n u) 0 ≡ receive_mark k n u
-    pub reads : (n f u : ℕ) → n < 256 → f < 4 → u < 16 → get_or M.reads (field_at n f u) 0 ≡ read_mark k n f u
-    pub read_puts : (n f u : ℕ) → n < 256 → f < 4 → u < 16 → get_or M.read_puts (field_at n f u) 0 ≡ put_after (λ i. reads_at mosts P ts i n f) k n u
-    pub swaps : (n f u : ℕ) → n < 256 → f < 4 → u < 16 → get_or M.swaps (field_at n f u) 0 ≡ swap_mark k n f u
-    pub swap_puts : (n f u : ℕ) → n < 256 → f < 4 → u < 16 → get_or M.swap_puts (field_at n f u) 0 ≡ put_after (λ i. swaps_at mosts P ts i n f) k n u
+    pub reads : (n f u : ℕ) → n < 256 → f < 4 → u < 16 → get_or M.reads.last (field_at n f u) 0 ≡ read_mark k n f u
+    pub read_puts : (n f u : ℕ) → n < 256 → f < 4 → u < 16 → get_or M.reads.puts (field_at n f u) 0 ≡ put_after (λ i. reads_at mosts P ts i n f) k n u
+    pub swaps : (n f u : ℕ) → n < 256 → f < 4 → u < 16 → get_or M.swaps.last (field_at n f u) 0 ≡ swap_mark k n f u
+    pub swap_puts : (n f u : ℕ) → n < 256 → f < 4 → u < 16 → get_or M.swaps.puts (field_at n f u) 0 ≡ put_after (λ i. swaps_at mosts P ts i n f) k n u
 
   -- all words 0
   pub start_marks : (M : Marks)
-      → ((i : ℕ) → get_or M.receives i 0 ≡ 0) → ((i : ℕ) → get_or M.reads i 0 ≡ 0) → ((i : ℕ) → get_or M.read_puts i 0 ≡ 0)
-      → ((i : ℕ) → get_or M.swaps i 0 ≡ 0) → ((i : ℕ) → get_or M.swap_puts i 0 ≡ 0) → HasMarks 0 M
+      → ((i : ℕ) → get_or M.receives i 0 ≡ 0) → ((i : ℕ) → get_or M.reads.last i 0 ≡ 0) → ((i : ℕ) → get_or M.reads.puts i 0 ≡ 0)
+      → ((i : ℕ) → get_or M.swaps.last i 0 ≡ 0) → ((i : ℕ) → get_or M.swaps.puts i 0 ≡ 0) → HasMarks 0 M
   unfolding receive_mark read_mark swap_mark put_after last_below
   start_marks M a b c d e = record {
     receives = λ n u _ _. a (receive_at n u);
@@ -193,59 +207,59 @@ module _ (P : Program) (ts : List ℕ) where
   unfolding read_mark swap_mark
   quiet_marks {k} {M} is has = record {
     receives = receives_kept has (receives_is k is) refl;
-    reads = last_kept (reads_at mosts P ts) M.reads has.reads (reads_is k is) refl;
-    read_puts = first_kept (reads_at mosts P ts) M.read_puts has.read_puts (reads_is k is) (puts_is k is) refl;
-    swaps = last_kept (swaps_at mosts P ts) M.swaps has.swaps (swaps_is k is) refl;
-    swap_puts = first_kept (swaps_at mosts P ts) M.swap_puts has.swap_puts (swaps_is k is) (puts_is k is) refl;
+    reads = last_kept (reads_at mosts P ts) M.reads.last has.reads (reads_is k is) refl;
+    read_puts = first_kept (reads_at mosts P ts) M.reads.puts has.read_puts (reads_is k is) (puts_is k is) refl;
+    swaps = last_kept (swaps_at mosts P ts) M.swaps.last has.swaps (swaps_is k is) refl;
+    swap_puts = first_kept (swaps_at mosts P ts) M.swaps.puts has.swap_puts (swaps_is k is) (puts_is k is) refl;
   }
 
-  pub noted_marks : (e : Event) {k : ℕ} {M : Marks} (M₁ : Marks) {objects : List ℕ} {t : ℕ} (F : Found)
+  pub noted_marks : (e : Event) {k : ℕ} {M : Marks} (M₁ : Marks) {objects : List ℕ} {t : ℕ} (F : Option Found)
       → HasMarks k M → Roomy M → TurnIs k e objects t → Notes e objects t (suc k) M M₁ F → HasMarks (suc k) M₁
   unfolding meets read_mark swap_mark
   noted_marks Quiet {k} {M} M₁ F has roomy turn notes = let is = turn.event in let same = notes.0 in record {
-    receives = receives_kept has (receives_is k is) same.receives;
-    reads = last_kept (reads_at mosts P ts) M.reads has.reads (reads_is k is) same.reads;
-    read_puts = first_kept (reads_at mosts P ts) M.read_puts has.read_puts (reads_is k is) (puts_is k is) same.read_puts;
-    swaps = last_kept (swaps_at mosts P ts) M.swaps has.swaps (swaps_is k is) same.swaps;
-    swap_puts = first_kept (swaps_at mosts P ts) M.swap_puts has.swap_puts (swaps_is k is) (puts_is k is) same.swap_puts;
+    receives = receives_kept has (receives_is k is) (same_receives same);
+    reads = last_kept (reads_at mosts P ts) M.reads.last has.reads (reads_is k is) (same_reads same);
+    read_puts = first_kept (reads_at mosts P ts) M.reads.puts has.read_puts (reads_is k is) (puts_is k is) (same_read_puts same);
+    swaps = last_kept (swaps_at mosts P ts) M.swaps.last has.swaps (swaps_is k is) (same_swaps same);
+    swap_puts = first_kept (swaps_at mosts P ts) M.swaps.puts has.swap_puts (swaps_is k is) (puts_is k is) (same_swap_puts same);
   }
   noted_marks (Reads x g) {k} {M} M₁ F has roomy turn notes = let is = turn.event in let same = notes.0 in record {
-    receives = receives_kept has (receives_is k is) same.receives;
-    reads = last_noted (reads_at mosts P ts) M.reads has.reads turn.thread (reads_is k is)
-        (one_written M.reads roomy.reads turn.object_low turn.field_low turn.thread_low same.reads);
-    read_puts = first_cleared (reads_at mosts P ts) M.read_puts has.read_puts turn.thread (reads_is k is) (puts_is k is)
-        (one_written M.read_puts roomy.read_puts turn.object_low turn.field_low turn.thread_low same.read_puts);
-    swaps = last_kept (swaps_at mosts P ts) M.swaps has.swaps (swaps_is k is) same.swaps;
-    swap_puts = first_kept (swaps_at mosts P ts) M.swap_puts has.swap_puts (swaps_is k is) (puts_is k is) same.swap_puts;
+    receives = receives_kept has (receives_is k is) (same_receives same);
+    reads = last_noted (reads_at mosts P ts) M.reads.last has.reads turn.thread (reads_is k is)
+        (one_written M.reads.last roomy.reads turn.object_low turn.field_low turn.thread_low (same_reads same));
+    read_puts = first_cleared (reads_at mosts P ts) M.reads.puts has.read_puts turn.thread (reads_is k is) (puts_is k is)
+        (one_written M.reads.puts roomy.read_puts turn.object_low turn.field_low turn.thread_low (same_read_puts same));
+    swaps = last_kept (swaps_at mosts P ts) M.swaps.last has.swaps (swaps_is k is) (same_swaps same);
+    swap_puts = first_kept (swaps_at mosts P ts) M.swaps.puts has.swap_puts (swaps_is k is) (puts_is k is) (same_swap_puts same);
   }
   noted_marks (Swaps x g) {k} {M} M₁ F has roomy turn notes = let is = turn.event in let same = notes.0 in record {
-    receives = receives_kept has (receives_is k is) same.receives;
-    reads = last_kept (reads_at mosts P ts) M.reads has.reads (reads_is k is) same.reads;
-    read_puts = first_kept (reads_at mosts P ts) M.read_puts has.read_puts (reads_is k is) (puts_is k is) same.read_puts;
-    swaps = last_noted (swaps_at mosts P ts) M.swaps has.swaps turn.thread (swaps_is k is)
-        (one_written M.swaps roomy.swaps turn.object_low turn.field_low turn.thread_low same.swaps);
-    swap_puts = first_cleared (swaps_at mosts P ts) M.swap_puts has.swap_puts turn.thread (swaps_is k is) (puts_is k is)
-        (one_written M.swap_puts roomy.swap_puts turn.object_low turn.field_low turn.thread_low same.swap_puts);
+    receives = receives_kept has (receives_is k is) (same_receives same);
+    reads = last_kept (reads_at mosts P ts) M.reads.last has.reads (reads_is k is) (same_reads same);
+    read_puts = first_kept (reads_at mosts P ts) M.reads.puts has.read_puts (reads_is k is) (puts_is k is) (same_read_puts same);
+    swaps = last_noted (swaps_at mosts P ts) M.swaps.last has.swaps turn.thread (swaps_is k is)
+        (one_written M.swaps.last roomy.swaps turn.object_low turn.field_low turn.thread_low (same_swaps same));
+    swap_puts = first_cleared (swaps_at mosts P ts) M.swaps.puts has.swap_puts turn.thread (swaps_is k is) (puts_is k is)
+        (one_written M.swaps.puts roomy.swap_puts turn.object_low turn.field_low turn.thread_low (same_swap_puts same));
   }
   noted_marks (Puts x) {k} {M} M₁ F has roomy turn notes = let is = turn.event in record {
     receives = receives_kept has (receives_is k is) notes.0;
-    reads = last_kept (reads_at mosts P ts) M.reads has.reads (reads_is k is) notes.1;
-    read_puts = first_noted (reads_at mosts P ts) M.read_puts has.read_puts turn.thread (reads_is k is) (λ n. puts_is k is n ∙ met_is turn n) notes.2;
-    swaps = last_kept (swaps_at mosts P ts) M.swaps has.swaps (swaps_is k is) notes.3;
-    swap_puts = first_noted (swaps_at mosts P ts) M.swap_puts has.swap_puts turn.thread (swaps_is k is) (λ n. puts_is k is n ∙ met_is turn n) notes.4;
+    reads = last_kept (reads_at mosts P ts) M.reads.last has.reads (reads_is k is) notes.1;
+    read_puts = first_noted (reads_at mosts P ts) M.reads.puts has.read_puts turn.thread (reads_is k is) (λ n. puts_is k is n ∙ met_is turn n) notes.2;
+    swaps = last_kept (swaps_at mosts P ts) M.swaps.last has.swaps (swaps_is k is) notes.3;
+    swap_puts = first_noted (swaps_at mosts P ts) M.swaps.puts has.swap_puts turn.thread (swaps_is k is) (λ n. puts_is k is n ∙ met_is turn n) notes.4;
   }
   noted_marks (Receives x) {k} {M} M₁ F has roomy turn notes = let is = turn.event in record {
     receives = receives_noted has turn.thread (λ n. receives_is k is n ∙ met_is turn n) notes.0;
-    reads = last_kept (reads_at mosts P ts) M.reads has.reads (reads_is k is) notes.1;
-    read_puts = first_kept (reads_at mosts P ts) M.read_puts has.read_puts (reads_is k is) (puts_is k is) notes.2;
-    swaps = last_kept (swaps_at mosts P ts) M.swaps has.swaps (swaps_is k is) notes.3;
-    swap_puts = first_kept (swaps_at mosts P ts) M.swap_puts has.swap_puts (swaps_is k is) (puts_is k is) notes.4;
+    reads = last_kept (reads_at mosts P ts) M.reads.last has.reads (reads_is k is) (ap (λ (r : Rows). r.last) notes.1);
+    read_puts = first_kept (reads_at mosts P ts) M.reads.puts has.read_puts (reads_is k is) (puts_is k is) (ap (λ (r : Rows). r.puts) notes.1);
+    swaps = last_kept (swaps_at mosts P ts) M.swaps.last has.swaps (swaps_is k is) (ap (λ (r : Rows). r.last) notes.2);
+    swap_puts = first_kept (swaps_at mosts P ts) M.swaps.puts has.swap_puts (swaps_is k is) (puts_is k is) (ap (λ (r : Rows). r.puts) notes.2);
   }
   noted_marks (Copies x) {k} {M} M₁ F has roomy turn notes = let is = turn.event in record {
     receives = receives_kept has (receives_is k is) notes.0;
-    reads = last_noted (reads_at mosts P ts) M.reads has.reads turn.thread (λ n f. reads_is k is n f ∙ met_is turn n) (all_written notes.1);
-    read_puts = first_cleared (reads_at mosts P ts) M.read_puts has.read_puts turn.thread (λ n f. reads_is k is n f ∙ met_is turn n) (puts_is k is)
+    reads = last_noted (reads_at mosts P ts) M.reads.last has.reads turn.thread (λ n f. reads_is k is n f ∙ met_is turn n) (all_written notes.1);
+    read_puts = first_cleared (reads_at mosts P ts) M.reads.puts has.read_puts turn.thread (λ n f. reads_is k is n f ∙ met_is turn n) (puts_is k is)
         (all_written notes.2);
-    swaps = last_kept (swaps_at mosts P ts) M.swaps has.swaps (swaps_is k is) notes.3;
-    swap_puts = first_kept (swaps_at mosts P ts) M.swap_puts has.swap_puts (swaps_is k is) (puts_is k is) notes.4;
+    swaps = last_kept (swaps_at mosts P ts) M.swaps.last has.swaps (swaps_is k is) (ap (λ (r : Rows). r.last) notes.3);
+    swap_puts = first_kept (swaps_at mosts P ts) M.swaps.puts has.swap_puts (swaps_is k is) (puts_is k is) (ap (λ (r : Rows). r.puts) notes.3);
   }

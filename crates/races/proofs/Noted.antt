@@ -15,12 +15,14 @@ use Rattle.rules.specs.Lists.{among, any_below, last_below, Every}
 use Rattle.rules.specs.State.{Object}
 use Rattle.rules.specs.Script.{Program}
 use Rattle.rules.specs.Races.{meets, reads_of, swaps_of, objects_at, thread_of, event_at, reads_at, swaps_at, apart, touches, clash, handed_over, races_on, races, race, object_of, field_on, named}
-use Rattle.rules.proofs.ListLaws.{impossible, by_bool, and_true}
+use Rattle.rules.proofs.ListLaws.{by_bool, and_true}
+use Rattle.std.specs.Prelude.{Option, None}
 use Rattle.races.specs.declared.marks.Found.{Found}
-use Rattle.races.specs.Marks.{Marks, field_at, most, latest_on, found, over_objects, nothing, Notes}
+use Rattle.races.specs.declared.marks.Marks.{Marks}
+use Rattle.races.specs.Marks.{field_at, most, latest_on, race_on, mark_of, over_objects, Notes}
 use Rattle.races.proofs.Lasts.{or_right, any_there, any_some, first_is, LastIs, last_same, last_agrees, last_most, last_below_lem}
 use Rattle.races.proofs.Marked.{read_mark, swap_mark, put_after, low_part, HasMarks, TurnIs, reads_is, swaps_is, met_is}
-use Rattle.races.proofs.Latest.{Against, latest_is, Finds, objects_cover, objects_find}
+use Rattle.races.proofs.Latest.{Against, latest_is, found_object, found_field, Finds, none_finds, race_finds, race_mark, objects_cover, objects_find}
 
 -- ---- One swap names one field of one object
 
@@ -94,19 +96,19 @@ module _ (P : Program) (ts : List ℕ) where
     field_low : f < 4
     both : races_on mosts P ts i k n f ≡ true
 
-  record Tells (k : ℕ) (F : Found) : Type 0 where
+  record Tells (k : ℕ) (F : Option Found) : Type 0 where
     finds : Finds (λ i n f. RacesAt i k n f) F
-    bound : (i n f : ℕ) → RacesAt i k n f → suc i ≤ F.turn
+    bound : (i n f : ℕ) → RacesAt i k n f → suc i ≤ mark_of F
 
   races_if : (i k n f : ℕ) → RacesAt i k n f → races mosts P ts i k ≡ true
   unfolding races
   races_if i k n f at =
       any_there 256 (λ x. any_below 4 (races_on mosts P ts i k x)) n at.object_low (any_there 4 (races_on mosts P ts i k n) f at.field_low at.both)
 
-  tells_last : {k : ℕ} {F : Found} → Tells k F → last_below k (λ i. races mosts P ts i k) ≡ F.turn
+  tells_last : {k : ℕ} {F : Option Found} → Tells k F → last_below k (λ i. races mosts P ts i k) ≡ mark_of F
   unfolding races
   tells_last {k} {F} tells = last_same (last_below_lem (λ i. races mosts P ts i k) k) (record {
-    some = λ i is. let at = tells.finds.has i is in (at.earlier, races_if i k F.object F.field at);
+    some = λ i is. let at = tells.finds.has i is in (at.earlier, races_if i k (found_object F) (found_field F) at);
     bound = λ i low h.
         let n = any_some 256 (λ x. any_below 4 (races_on mosts P ts i k x)) h in
         let f = any_some 4 (races_on mosts P ts i k n.place) n.holds in
@@ -121,15 +123,15 @@ module _ (P : Program) (ts : List ℕ) where
     first_is 4 (races_on mosts P ts i k n) f at.field_low at.both (λ g low h. (race_on_one i k n f n g at.both h).1),
   )
 
-  tells_named : {k : ℕ} {F : Found} → Tells k F → (i : ℕ) → F.turn ≡ suc i → named mosts P ts k F.turn ≡ race i k F.object F.field
+  tells_named : {k : ℕ} {F : Option Found} → Tells k F → (i : ℕ) → mark_of F ≡ suc i → named mosts P ts k (mark_of F) ≡ race i k (found_object F) (found_field F)
   tells_named {k} {F} tells i is =
-      let names = race_names i k F.object F.field (tells.finds.has i is) in
+      let names = race_names i k (found_object F) (found_field F) (tells.finds.has i is) in
       ap (named mosts P ts k) is ∙ rw (names.0, names.1)
 
   -- where turn k touches no field
-  touches_none : (k : ℕ) → ((n f : ℕ) → touches mosts P ts k n f ≡ false) → Tells k nothing
+  touches_none : (k : ℕ) → ((n f : ℕ) → touches mosts P ts k n f ≡ false) → Tells k None
   touches_none k none = record {
-    finds = record { has = λ i is. impossible cc };
+    finds = none_finds;
     bound = λ i n f at. absurd (false≢true (sym (none n f) ∙ (race_tells i k n f at.both).second));
   }
 
@@ -152,14 +154,14 @@ module _ (P : Program) (ts : List ℕ) where
           (λ i low h. h.1)
           (λ i low h. (few_threads does i low (quiet i) h.does, h)))
 
-      latest_swap : LastIs k (λ i. Against P ts i k n (swaps_at mosts P ts i n f)) (latest_on M.swaps M.swap_puts M.receives t n f)
+      latest_swap : LastIs k (λ i. Against P ts i k n (swaps_at mosts P ts i n f)) (latest_on M.swaps.last M.swaps.puts M.receives t n f)
       unfolding swap_mark
-      latest_swap = latest_of (λ i. swaps_at mosts P ts i n f) M.swaps M.swap_puts (λ u. has.swaps n f u n< f<) (λ u. has.swap_puts n f u n< f<)
+      latest_swap = latest_of (λ i. swaps_at mosts P ts i n f) M.swaps.last M.swaps.puts (λ u. has.swaps n f u n< f<) (λ u. has.swap_puts n f u n< f<)
           (λ i is. swaps_is P ts i is n f)
 
-      latest_read : LastIs k (λ i. Against P ts i k n (reads_at mosts P ts i n f)) (latest_on M.reads M.read_puts M.receives t n f)
+      latest_read : LastIs k (λ i. Against P ts i k n (reads_at mosts P ts i n f)) (latest_on M.reads.last M.reads.puts M.receives t n f)
       unfolding read_mark
-      latest_read = latest_of (λ i. reads_at mosts P ts i n f) M.reads M.read_puts (λ u. has.reads n f u n< f<) (λ u. has.read_puts n f u n< f<)
+      latest_read = latest_of (λ i. reads_at mosts P ts i n f) M.reads.last M.reads.puts (λ u. has.reads n f u n< f<) (λ u. has.read_puts n f u n< f<)
           (λ i is. reads_is P ts i is n f)
 
     -- ---- By what turn k does
@@ -169,32 +171,32 @@ module _ (P : Program) (ts : List ℕ) where
       there : touches mosts P ts k x g ≡ true
       there = does x g ∙ rw (eq-eqb x x refl, eq-eqb g g refl)
 
-      touches_one : (r : ℕ) → LastIs k (λ i. races_on mosts P ts i k x g ≡ true) r → Tells k (found r x g)
+      touches_one : (r : ℕ) → LastIs k (λ i. races_on mosts P ts i k x g ≡ true) r → Tells k (race_on r x g)
       touches_one r last = record {
-        finds = record { has = λ i is. let p = last.some i is in record { earlier = p.0; object_low = x<; field_low = g<; both = p.1 } };
+        finds = race_finds r x g (λ i is. let p = last.some i is in record { earlier = p.0; object_low = x<; field_low = g<; both = p.1 });
         bound = λ i n f at.
             let p = and_true (eqb x n) (eqb g f) (sym (does n f) ∙ (race_tells i k n f at.both).second) in
-            last.bound i at.earlier (rw (eqb-true x n p.0, eqb-true g f p.1) at.both);
+            rw (race_mark r x g) (last.bound i at.earlier (rw (eqb-true x n p.0, eqb-true g f p.1) at.both));
       }
 
-      reads_one : swaps_at mosts P ts k x g ≡ false → Tells k (found (latest_on M.swaps M.swap_puts M.receives t x g) x g)
-      reads_one never = touches_one (latest_on M.swaps M.swap_puts M.receives t x g) (last_agrees (latest_swap x g x< g<)
+      reads_one : swaps_at mosts P ts k x g ≡ false → Tells k (race_on (latest_on M.swaps.last M.swaps.puts M.receives t x g) x g)
+      reads_one never = touches_one (latest_on M.swaps.last M.swaps.puts M.receives t x g) (last_agrees (latest_swap x g x< g<)
           (λ i low a. swap_races i k x g a there)
           (λ i low h. ⊎_elim (λ a. a) (λ a. absurd (false≢true (sym never ∙ a.1))) (race_tells i k x g h).sort))
 
       swaps_one : swaps_at mosts P ts k x g ≡ true
-          → Tells k (found (most (latest_on M.swaps M.swap_puts M.receives t x g) (latest_on M.reads M.read_puts M.receives t x g)) x g)
+          → Tells k (race_on (most (latest_on M.swaps.last M.swaps.puts M.receives t x g) (latest_on M.reads.last M.reads.puts M.receives t x g)) x g)
       swaps_one swapped =
-          touches_one (most (latest_on M.swaps M.swap_puts M.receives t x g) (latest_on M.reads M.read_puts M.receives t x g))
+          touches_one (most (latest_on M.swaps.last M.swaps.puts M.receives t x g) (latest_on M.reads.last M.reads.puts M.receives t x g))
           (last_agrees (last_most (latest_swap x g x< g<) (latest_read x g x< g<))
           (λ i low. ⊎_elim (λ a. swap_races i k x g a there) (λ a. read_races i k x g a swapped))
           (λ i low h. ⊎_elim inl (λ a. inr a.0) (race_tells i k x g h).sort))
 
     -- it reads all fields of these objects
     reads_all : (objects : List ℕ) → Every (λ n. n < 256) objects → ((n f : ℕ) → touches mosts P ts k n f ≡ among n objects)
-        → ((n f : ℕ) → swaps_at mosts P ts k n f ≡ false) → Tells k (over_objects M.swaps M.swap_puts M.receives t nothing objects)
+        → ((n f : ℕ) → swaps_at mosts P ts k n f ≡ false) → Tells k (over_objects M.swaps.last M.swaps.puts M.receives t None objects)
     reads_all objects low does never = record {
-      finds = objects_find M.swaps M.swap_puts M.receives t (λ i n f. RacesAt i k n f) nothing objects (record { has = λ i is. impossible cc })
+      finds = objects_find M.swaps.last M.swaps.puts M.receives t (λ i n f. RacesAt i k n f) None objects none_finds
           (λ i n f met f< is.
           let n< = among_low n objects low met in
           let p = (latest_swap n f n< f<).some i is in
@@ -203,7 +205,7 @@ module _ (P : Program) (ts : List ℕ) where
           let m = race_tells i k n f at.both in
           ⊎_elim
           (λ a. le_trans ((latest_swap n f at.object_low at.field_low).bound i at.earlier a)
-          (objects_cover M.swaps M.swap_puts M.receives t nothing objects n f (sym (does n f) ∙ m.second) at.field_low))
+          (objects_cover M.swaps.last M.swaps.puts M.receives t None objects n f (sym (does n f) ∙ m.second) at.field_low))
           (λ a. absurd (false≢true (sym (never n f) ∙ a.1)))
           m.sort;
     }
@@ -212,7 +214,7 @@ module _ (P : Program) (ts : List ℕ) where
   unfolding touches
   touches_is k is n f = rw (reads_is P ts k is n f, swaps_is P ts k is n f)
 
-  noted_tells : (e : Event) {k : ℕ} {M : Marks} (M₁ : Marks) {objects : List ℕ} {t : ℕ} {F : Found}
+  noted_tells : (e : Event) {k : ℕ} {M : Marks} (M₁ : Marks) {objects : List ℕ} {t : ℕ} {F : Option Found}
       → HasMarks P ts k M → TurnIs P ts k e objects t
       → ((i : ℕ) → i < k → (event_at mosts P ts i ≡ Quiet) ⊎ (thread_of mosts P ts i < 16))
       → Notes e objects t (suc k) M M₁ F → Tells k F
@@ -225,8 +227,8 @@ module _ (P : Program) (ts : List ℕ) where
       (swaps_one k has turn.thread turn.thread_low few x g turn.object_low turn.field_low
       (touches_is k turn.event) (swaps_is P ts k turn.event x g ∙ rw (eq-eqb x x refl, eq-eqb g g refl)))
   noted_tells (Puts x) {k} M₁ has turn few notes = subst (Tells k) (sym notes.5) (touches_none k (touches_is k turn.event))
-  noted_tells (Receives x) {k} M₁ has turn few notes = subst (Tells k) (sym notes.5) (touches_none k (touches_is k turn.event))
-  noted_tells (Copies x) {k} M₁ {objects} has turn few notes = subst (Tells k) (sym notes.5)
+  noted_tells (Receives x) {k} M₁ has turn few notes = subst (Tells k) (sym notes.3) (touches_none k (touches_is k turn.event))
+  noted_tells (Copies x) {k} M₁ {objects} has turn few notes = subst (Tells k) (sym notes.4)
       (reads_all k has turn.thread turn.thread_low few objects turn.met_low
       (λ n f. touches_is k turn.event n f ∙ or-false _ ∙ met_is P ts turn n) (swaps_is P ts k turn.event))
 
@@ -235,10 +237,10 @@ module _ (P : Program) (ts : List ℕ) where
   pub quiet_no_race : (k : ℕ) → event_at mosts P ts k ≡ Quiet → last_below k (λ i. races mosts P ts i k) ≡ 0
   quiet_no_race k is = tells_last (touches_none k (touches_is k is))
 
-  module _ (e : Event) {k : ℕ} {M : Marks} (M₁ : Marks) {objects : List ℕ} {t : ℕ} (F : Found) (has : HasMarks P ts k M) (turn : TurnIs P ts k e objects t)
+  module _ (e : Event) {k : ℕ} {M : Marks} (M₁ : Marks) {objects : List ℕ} {t : ℕ} (F : Option Found) (has : HasMarks P ts k M) (turn : TurnIs P ts k e objects t)
       (few : (i : ℕ) → i < k → (event_at mosts P ts i ≡ Quiet) ⊎ (thread_of mosts P ts i < 16)) (notes : Notes e objects t (suc k) M M₁ F) where
-    pub noted_race : last_below k (λ i. races mosts P ts i k) ≡ F.turn
+    pub noted_race : last_below k (λ i. races mosts P ts i k) ≡ mark_of F
     noted_race = tells_last (noted_tells e M₁ has turn few notes)
 
-    pub noted_named : (i : ℕ) → F.turn ≡ suc i → named mosts P ts k F.turn ≡ race i k F.object F.field
+    pub noted_named : (i : ℕ) → mark_of F ≡ suc i → named mosts P ts k (mark_of F) ≡ race i k (found_object F) (found_field F)
     noted_named = tells_named (noted_tells e M₁ has turn few notes)

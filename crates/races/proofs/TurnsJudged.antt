@@ -1,10 +1,10 @@
 -- A turn played is a turn of the rules, noted; and after the turns so far the marks are theirs, and no turn has raced with one before it.
-use Prim.Native.Nat.{ℕ, zero, suc, ◌+◌, ◌-◌, ◌%◌, ◌≤◌, ◌<◌, zero-le}
+use Prim.Native.Nat.{ℕ, zero, suc, ◌+◌, ◌%◌, ◌≤◌, ◌<◌, zero-le}
 use native.Mathlib.Omega.{arith}
 use mathlib.Core.Path.{◌≡◌, refl, sym, ap, ◌∙◌, subst}
 use mathlib.Core.Bool.{Bool, true, false}
 use mathlib.Core.List.{List, [], ◌∷◌, map}
-use mathlib.Core.Logic.{◌⊎◌, inl, inr}
+use mathlib.Core.Logic.{◌⊎◌, inl, inr, ⊎_elim}
 use lib.Dec.{ltb, leb}
 use lib.ListN.{length, get_or, take}
 use lib.Seq.{length-take-le}
@@ -26,18 +26,19 @@ use Rattle.rules.proofs.Keeps.{keeps_run, moves_few}
 use Rattle.table.specs.StateTable.{Held}
 use Rattle.turn.specs.Performed.{Loaded}
 use Rattle.tally.specs.declared.Fate.{Fate}
-use Rattle.tally.specs.declared.Fate.TheVariants.{Moved, Waited, Idled, Halted}
+use Rattle.tally.specs.declared.Fate.TheVariants.{Moved, Waited, Idled, Halted, Unplayed}
 use Rattle.tally.specs.Fates.{fate_by}
 use Rattle.tally.specs.Counted.{TakesOne}
-use Rattle.races.specs.declared.Race.TheVariants as T
+use Rattle.std.specs.Prelude.{Option, None, Some}
+use Rattle.races.specs.declared.Race.{Race}
 use Rattle.races.specs.declared.marks.Found.{Found}
-use Rattle.races.specs.declared.judging.Played.{Played}
-use Rattle.races.specs.declared.judging.Played.TheVariants as J
+use Rattle.races.specs.declared.marks.Marks.{Marks}
 use Rattle.races.specs.Events.{ObjectBelow, TurnTells, met_by, Meets}
-use Rattle.races.specs.Marks.{Marks, objects_in, nothing, Same, Notes}
-use Rattle.races.specs.Judged.{race_of, Unmarked, moves, halts, Comes, to_stop, to_wait, to_move, Plays, JudgesTurns}
+use Rattle.races.specs.Marks.{Roomy, objects_in, mark_of, Notes}
+use Rattle.races.specs.Judged.{race_of, NothingMarked, Comes, to_stop, to_wait, to_move, Plays, JudgesTurns}
 use Rattle.races.proofs.EventLaws.{event_made, met_below_lem, moved_field_few, moved_thread}
-use Rattle.races.proofs.Marked.{FieldBelow, Roomy, HasMarks, start_marks, TurnIs, quiet_marks, noted_marks}
+use Rattle.races.proofs.Marked.{FieldBelow, HasMarks, start_marks, TurnIs, quiet_marks, noted_marks}
+use Rattle.races.proofs.Latest.{found_object, found_field}
 use Rattle.races.proofs.Noted.{quiet_no_race, noted_race, noted_named}
 use Rattle.races.proofs.Verdicts.{verdict_found, verdict_goes_on, verdict_halts}
 
@@ -56,21 +57,21 @@ unfolding after
 went n t S S₁ rest held = held
 
 module _ {p s s₁ : List ℕ} {t mark : ℕ} {r : Fate} (M M₁ : Marks) (takes : TakesOne p s t r s₁) where
-  pub halted_plays : halts r ≡ true → Plays p s t mark M J.Halted s₁ M₁
+  pub halted_plays : r ≡ Halted → Plays p s t mark M None s₁ M₁
   halted_plays is =
       record {
         plays = λ P n S rest loaded held valid fits few.
             go (turn mosts P S t) (is_finished (thread_at S t)) P S rest (takes.fate P n S rest loaded held valid fits few);
       }
     where
-      go : (x : Res State) (b : Bool) (P : Program) (S : State) (rest : List ℕ) → r ≡ fate_by x b → Comes P S t mark M M₁ s₁ rest x J.Halted
-      go (ok S₁) b P S rest e = impossible (let clash : halts Moved ≡ true = sym (ap halts e) ∙ is in cc)
-      go wait true P S rest e = impossible (let clash : halts Idled ≡ true = sym (ap halts e) ∙ is in cc)
-      go wait false P S rest e = impossible (let clash : halts Waited ≡ true = sym (ap halts e) ∙ is in cc)
+      go : (x : Res State) (b : Bool) (P : Program) (S : State) (rest : List ℕ) → r ≡ fate_by x b → Comes P S t mark M M₁ s₁ rest x None
+      go (ok S₁) b P S rest e = impossible cc
+      go wait true P S rest e = impossible cc
+      go wait false P S rest e = impossible cc
       go (stop k) b P S rest e = to_stop
 
-  pub waiting_plays : halts r ≡ false → moves r ≡ false → Same M M₁ → Plays p s t mark M (J.Goes nothing) s₁ M₁
-  waiting_plays goes stays same =
+  pub waiting_plays : (r ≡ Waited) ⊎ ((r ≡ Idled) ⊎ (r ≡ Unplayed)) → M₁ ≡ M → Plays p s t mark M (Some None) s₁ M₁
+  waiting_plays stays same =
       record {
         plays = λ P n S rest loaded held valid fits few.
             go (turn mosts P S t) (is_finished (thread_at S t)) P n S rest (takes.fate P n S rest loaded held valid fits few)
@@ -78,32 +79,32 @@ module _ {p s s₁ : List ℕ} {t mark : ℕ} {r : Fate} (M M₁ : Marks) (takes
       }
     where
       go : (x : Res State) (b : Bool) (P : Program) (n : ℕ) (S : State) (rest : List ℕ) → r ≡ fate_by x b → Held s₁ (after S n t x).state rest
-          → Comes P S t mark M M₁ s₁ rest x (J.Goes nothing)
-      go (ok S₁) b P n S rest e held = impossible (let clash : moves Moved ≡ false = sym (ap moves e) ∙ stays in cc)
+          → Comes P S t mark M M₁ s₁ rest x (Some None)
+      go (ok S₁) b P n S rest e held = ⊎_elim (λ a. impossible cc) (⊎_elim (λ a. impossible cc) (λ a. impossible cc)) stays
       go wait b P n S rest e held = to_wait (waited n t S rest held) same
-      go (stop k) b P n S rest e held = impossible (let clash : halts Halted ≡ false = sym (ap halts e) ∙ goes in cc)
+      go (stop k) b P n S rest e held = ⊎_elim (λ a. impossible cc) (⊎_elim (λ a. impossible cc) (λ a. impossible cc)) stays
 
-  pub moving_plays : {e : Event} {order : List ℕ} {count : ℕ} {F : Found} → TurnTells p s t e → Meets s e order count → moves r ≡ true
-      → Notes e (objects_in count order) (t % 16) mark M M₁ F → Plays p s t mark M (J.Goes F) s₁ M₁
-  moving_plays {e} {order} {count} {F} tells meets goes notes =
+  pub moving_plays : {e : Event} {order : List ℕ} {count : ℕ} {F : Option Found} → TurnTells p s t e → Meets s e order count → r ≡ Moved → Roomy M
+      → Notes e (objects_in (take count order)) (t % 16) mark M M₁ F → Plays p s t mark M (Some F) s₁ M₁
+  moving_plays {e} {order} {count} {F} tells meets goes room notes =
       record {
         plays = λ P n S rest loaded held valid fits few.
             let is = tells.tells P n S rest loaded held valid fits in
             let made : ObjectBelow (length S.objects) e = subst (ObjectBelow (length S.objects)) (sym is) (event_made fits t) in
             let low = every_map {A = ℕ} {Q = λ x. x < length S.objects} {R = λ x. x < 256} (λ x below. omega (arith, fits.few_objects)) (met_by S.objects e) (met_below_lem fits e made) in
-            let met : objects_in count order ≡ met_by S.objects e = ap (map (λ (x : ℕ). x % 256)) (meets.meets P n S rest held fits made) ∙ low_kept (met_by S.objects e) low in
+            let met : objects_in (take count order) ≡ met_by S.objects e = ap (map (λ (x : ℕ). x % 256)) (meets.meets P n S rest held fits made) ∙ low_kept (met_by S.objects e) low in
             go (turn mosts P S t) (is_finished (thread_at S t)) P n S rest (takes.fate P n S rest loaded held valid fits few)
-            (takes.leaves P n S rest loaded held valid fits few) (subst (λ g. objects_in count order ≡ met_by S.objects g) is met)
-            (subst (λ g. Notes g (objects_in count order) (t % 16) mark M M₁ F) is notes);
+            (takes.leaves P n S rest loaded held valid fits few) (subst (λ g. objects_in (take count order) ≡ met_by S.objects g) is met)
+            (subst (λ g. Notes g (objects_in (take count order)) (t % 16) mark M M₁ F) is notes);
       }
     where
       go : (x : Res State) (b : Bool) (P : Program) (n : ℕ) (S : State) (rest : List ℕ) → r ≡ fate_by x b → Held s₁ (after S n t x).state rest
-          → objects_in count order ≡ met_by S.objects (event P S t) → Notes (event P S t) (objects_in count order) (t % 16) mark M M₁ F
-          → Comes P S t mark M M₁ s₁ rest x (J.Goes F)
-      go (ok S₁) b P n S rest e held met noted = to_move (went n t S S₁ rest held) met noted
-      go wait true P n S rest e held met noted = impossible (let clash : moves Idled ≡ true = sym (ap moves e) ∙ goes in cc)
-      go wait false P n S rest e held met noted = impossible (let clash : moves Waited ≡ true = sym (ap moves e) ∙ goes in cc)
-      go (stop k) b P n S rest e held met noted = impossible (let clash : moves Halted ≡ true = sym (ap moves e) ∙ goes in cc)
+          → objects_in (take count order) ≡ met_by S.objects (event P S t) → Notes (event P S t) (objects_in (take count order)) (t % 16) mark M M₁ F
+          → Comes P S t mark M M₁ s₁ rest x (Some F)
+      go (ok S₁) b P n S rest e held met noted = to_move room (went n t S S₁ rest held) met noted
+      go wait true P n S rest e held met noted = impossible cc
+      go wait false P n S rest e held met noted = impossible cc
+      go (stop k) b P n S rest e held met noted = impossible cc
 
 -- ---- The run before a turn
 
@@ -184,7 +185,7 @@ module _ {P : Program} {ts s : List ℕ} {M : Marks} {k : ℕ} {rest : List ℕ}
       (λ same. let now : j ≡ k = omega (arith, leb-false (suc k) j same) in rw now (event_by P ts k so.going is)))
 
   -- one that waits
-  wait_so : {s₁ : List ℕ} {M₁ : Marks} → turn mosts P S t ≡ wait → Held s₁ S rest → Same M M₁ → So P ts s₁ M₁ (suc k) rest
+  wait_so : {s₁ : List ℕ} {M₁ : Marks} → turn mosts P S t ≡ wait → Held s₁ S rest → M₁ ≡ M → So P ts s₁ M₁ (suc k) rest
   unfolding after
   wait_so {s₁} {M₁} is held same =
       let next = before_next P ts k there so.going is in
@@ -193,19 +194,12 @@ module _ {P : Program} {ts s : List ℕ} {M : Marks} {k : ℕ} {rest : List ℕ}
       record {
         held = subst (λ (r : Run). Held s₁ r.state rest) (sym next) held;
         going = ap (λ (r : Run). r.stop) next;
-        marked =
-            record {
-              receives = λ n u a b. rw same.receives (has.receives n u a b);
-              reads = λ n f u a b c. rw same.reads (has.reads n f u a b c);
-              read_puts = λ n f u a b c. rw same.read_puts (has.read_puts n f u a b c);
-              swaps = λ n f u a b c. rw same.swaps (has.swaps n f u a b c);
-              swap_puts = λ n f u a b c. rw same.swap_puts (has.swap_puts n f u a b c);
-            };
+        marked = rw same has;
         clean = verdict_goes_on P ts k so.clean (quiet_no_race P ts k quiet);
       }
 
   -- one that moves
-  module _ {S₁ : State} (is : turn mosts P S t ≡ ok S₁) {objects : List ℕ} (M₁ : Marks) (F : Found) (met : objects ≡ met_by S.objects (event P S t)) where
+  module _ {S₁ : State} (is : turn mosts P S t ≡ ok S₁) {objects : List ℕ} (M₁ : Marks) (F : Option Found) (met : objects ≡ met_by S.objects (event P S t)) where
     field_low : (e : Event) → event P S t ≡ e → FieldBelow 4 e
     field_low Quiet e = tt
     field_low (Reads n f) e = moved_field_few (before_fits P ts valid k) t is n f (inl e)
@@ -247,7 +241,7 @@ module _ {P : Program} {ts s : List ℕ} {M : Marks} {k : ℕ} {rest : List ℕ}
       few i _ = threads_few P ts valid i
 
       -- it races with none
-      move_so : {s₁ : List ℕ} → Roomy M → F.turn ≡ 0 → Held s₁ S₁ rest → So P ts s₁ M₁ (suc k) rest
+      move_so : {s₁ : List ℕ} → Roomy M → mark_of F ≡ 0 → Held s₁ S₁ rest → So P ts s₁ M₁ (suc k) rest
       unfolding after
       move_so {s₁} roomy nothing-found held =
           let next = before_next P ts k there so.going is in
@@ -259,57 +253,38 @@ module _ {P : Program} {ts s : List ℕ} {M : Marks} {k : ℕ} {rest : List ℕ}
           }
 
       -- it is the first that races
-      move_races : (i : ℕ) → F.turn ≡ suc i → verdict mosts P ts ≡ race i k F.object F.field
+      move_races : (i : ℕ) → mark_of F ≡ suc i → verdict mosts P ts ≡ race i k (found_object F) (found_field F)
       move_races i is_last =
-          verdict_found P ts i k F.object F.field there so.clean
+          verdict_found P ts i k (found_object F) (found_field F) there so.clean
           (ap (named mosts P ts k) (noted_race P ts (event P S t) M₁ F so.marked turn_is few noted)
           ∙ noted_named P ts (event P S t) M₁ F so.marked turn_is few noted i is_last)
 
 -- ---- The loop
 
-one_less : (n : ℕ) → (n ≡ 0 → ⊥) → n ≡ suc (n - 1)
-one_less zero some = absurd (some refl)
-one_less (suc n) some = omega arith
-
--- a word for each thread in each row
-pub record Wide (M : Marks) : Type 0 where
-  pub receives : length M.receives ≡ 4096
-  pub reads : length M.reads ≡ 16384
-  pub read_puts : length M.read_puts ≡ 16384
-  pub swaps : length M.swaps ≡ 16384
-  pub swap_puts : length M.swap_puts ≡ 16384
-
-roomy : {M : Marks} → Wide M → Roomy M
-roomy wide =
-    record {
-      reads = omega (arith, wide.reads);
-      read_puts = omega (arith, wide.read_puts);
-      swaps = omega (arith, wide.swaps);
-      swap_puts = omega (arith, wide.swap_puts);
-    }
-
 -- before turn k, of any program that the table holds, from the start in s₀
 pub record Judging (p ts s₀ s : List ℕ) (M : Marks) (k : ℕ) : Type 0 where
   pub within : k ≤ length ts
   pub same_length : length s ≡ length s₀
-  pub wide : Wide M
   pub so : (P : Program) (rest : List ℕ) → Loaded p P → Valid mosts P → Held s₀ start rest → So P ts s M k rest
 
-pub judging_starts : (p ts s : List ℕ) (M : Marks) → Unmarked 4096 M.receives → Unmarked 16384 M.reads → Unmarked 16384 M.read_puts → Unmarked 16384 M.swaps
-    → Unmarked 16384 M.swap_puts → Judging p ts s s M 0
+pub judging_starts : (p ts s : List ℕ) (M : Marks) → NothingMarked M → Judging p ts s s M 0
 unfolding run_before run run_from verdict_of
-judging_starts p ts s M a b c d e =
+judging_starts p ts s M m =
     record {
       within = zero-le;
       same_length = refl;
-      wide = record { receives = a.wide; reads = b.wide; read_puts = c.wide; swaps = d.wide; swap_puts = e.wide };
       so = λ P rest loaded valid held.
-          record { held = held; going = refl; marked = start_marks P ts M a.none b.none c.none d.none e.none; clean = refl };
+          record {
+            held = held;
+            going = refl;
+            marked = start_marks P ts M m.receives.none m.reads.none m.read_puts.none m.swaps.none m.swap_puts.none;
+            clean = refl;
+          };
     }
 
 module _ {p ts s₀ s s₁ : List ℕ} {M M₁ : Marks} {k : ℕ} (before : Judging p ts s₀ s M k) (there : k < length ts) (few : length ts ≤ 1024) where
   -- what comes of turn k
-  comes : {r : Played} → Plays p s (get_or ts k 0) (k + 1) M r s₁ M₁ → (P : Program) (rest : List ℕ) → Loaded p P → Valid mosts P → Held s₀ start rest
+  comes : {r : Option (Option Found)} → Plays p s (get_or ts k 0) (k + 1) M r s₁ M₁ → (P : Program) (rest : List ℕ) → Loaded p P → Valid mosts P → Held s₀ start rest
       → Comes P (run_before mosts P ts k).state (get_or ts k 0) (suc k) M M₁ s₁ rest (turn mosts P (run_before mosts P ts k).state (get_or ts k 0)) r
   comes {r} plays P rest loaded valid held =
       let S = (run_before mosts P ts k).state in
@@ -318,7 +293,7 @@ module _ {p ts s₀ s s₁ : List ℕ} {M M₁ : Marks} {k : ℕ} (before : Judg
       (plays.plays P (run_before mosts P ts k).moves S rest loaded (before.so P rest loaded valid held).held valid (before_fits P ts valid k)
       (omega (arith, before_few P ts k before.within)))
 
-  pub judging_stops : Plays p s (get_or ts k 0) (k + 1) M J.Halted s₁ M₁ → JudgesTurns p ts s₀ T.Absent
+  pub judging_stops : Plays p s (get_or ts k 0) (k + 1) M None s₁ M₁ → JudgesTurns p ts s₀ None
   judging_stops plays =
       record {
         judges = λ P rest loaded valid held.
@@ -326,47 +301,45 @@ module _ {p ts s₀ s s₁ : List ℕ} {M M₁ : Marks} {k : ℕ} (before : Judg
       }
     where
       go : (P : Program) (rest : List ℕ) → Valid mosts P → So P ts s M k rest → (x : Res State) → turn mosts P (run_before mosts P ts k).state (get_or ts k 0) ≡ x
-          → Comes P (run_before mosts P ts k).state (get_or ts k 0) (suc k) M M₁ s₁ rest x J.Halted → T.Absent ≡ race_of (verdict mosts P ts)
+          → Comes P (run_before mosts P ts k).state (get_or ts k 0) (suc k) M M₁ s₁ rest x None → None ≡ race_of (verdict mosts P ts)
       go P rest valid so (ok S₁) is came = elim came [ ]
       go P rest valid so wait is came = elim came [ ]
       go P rest valid so (stop n) is to_stop = rw (stop_ends valid there so is) refl
 
-  pub judging_finds : {F : Found} → Plays p s (get_or ts k 0) (k + 1) M (J.Goes F) s₁ M₁ → (F.turn ≡ 0 → ⊥)
-      → JudgesTurns p ts s₀ (T.Found (F.turn - 1) k F.object F.field)
-  judging_finds {F} plays some =
+  pub judging_finds : {F : Found} → Plays p s (get_or ts k 0) (k + 1) M (Some (Some F)) s₁ M₁
+      → JudgesTurns p ts s₀ (Some (record { first = F.turn; second = k; object = F.object; field = F.field }))
+  judging_finds {F} plays =
       record {
         judges = λ P rest loaded valid held.
-            go F P rest valid (before.so P rest loaded valid held) (turn mosts P (run_before mosts P ts k).state (get_or ts k 0)) refl (comes plays P rest loaded valid held) some;
+            go P rest valid (before.so P rest loaded valid held) (turn mosts P (run_before mosts P ts k).state (get_or ts k 0)) refl (comes plays P rest loaded valid held);
       }
     where
-      go : (F : Found) (P : Program) (rest : List ℕ) → Valid mosts P → So P ts s M k rest → (x : Res State) → turn mosts P (run_before mosts P ts k).state (get_or ts k 0) ≡ x
-          → Comes P (run_before mosts P ts k).state (get_or ts k 0) (suc k) M M₁ s₁ rest x (J.Goes F) → (F.turn ≡ 0 → ⊥)
-          → T.Found (F.turn - 1) k F.object F.field ≡ race_of (verdict mosts P ts)
-      go F P rest valid so wait is (to_wait held same) some = absurd (some refl)
-      go F P rest valid so (ok S₁) is (to_move held met notes) some = rw (move_races valid there so is M₁ F met notes (F.turn - 1) (one_less F.turn some)) refl
-      go F P rest valid so (stop n) is came some = elim came [ ]
+      go : (P : Program) (rest : List ℕ) → Valid mosts P → So P ts s M k rest → (x : Res State) → turn mosts P (run_before mosts P ts k).state (get_or ts k 0) ≡ x
+          → Comes P (run_before mosts P ts k).state (get_or ts k 0) (suc k) M M₁ s₁ rest x (Some (Some F))
+          → ◌≡◌ {A = Option Race} (Some (record { first = F.turn; second = k; object = F.object; field = F.field })) (race_of (verdict mosts P ts))
+      go P rest valid so wait is came = elim came [ ]
+      go P rest valid so (ok S₁) is (to_move room held met notes) = rw (move_races valid there so is M₁ (Some F) met notes F.turn refl) refl
+      go P rest valid so (stop n) is came = elim came [ ]
 
-  pub judging_goes_on : {F : Found} → Plays p s (get_or ts k 0) (k + 1) M (J.Goes F) s₁ M₁ → F.turn ≡ 0 → length s₁ ≡ length s → Wide M₁ → Judging p ts s₀ s₁ M₁ (k + 1)
-  judging_goes_on {F} plays None-found same wide =
+  pub judging_goes_on : Plays p s (get_or ts k 0) (k + 1) M (Some None) s₁ M₁ → length s₁ ≡ length s → Judging p ts s₀ s₁ M₁ (k + 1)
+  judging_goes_on plays same =
       record {
         within = omega arith;
         same_length = same ∙ before.same_length;
-        wide = wide;
         so = λ P rest loaded valid held.
             let next : suc k ≡ k + 1 = omega arith in
             subst (λ (j : ℕ). So P ts s₁ M₁ j rest) next
-            (go F P rest valid (before.so P rest loaded valid held) (turn mosts P (run_before mosts P ts k).state (get_or ts k 0)) refl (comes plays P rest loaded valid held) None-found);
+            (go P rest valid (before.so P rest loaded valid held) (turn mosts P (run_before mosts P ts k).state (get_or ts k 0)) refl (comes plays P rest loaded valid held));
       }
     where
-      go : (F : Found) (P : Program) (rest : List ℕ) → Valid mosts P → So P ts s M k rest → (x : Res State) → turn mosts P (run_before mosts P ts k).state (get_or ts k 0) ≡ x
-          → Comes P (run_before mosts P ts k).state (get_or ts k 0) (suc k) M M₁ s₁ rest x (J.Goes F) → F.turn ≡ 0 → So P ts s₁ M₁ (suc k) rest
-      go F P rest valid so wait is (to_wait held same-marks) None-found = wait_so valid there so is held same-marks
-      go F P rest valid so (ok S₁) is (to_move held met notes) None-found =
-          move_so valid there so is M₁ F met notes (roomy before.wide) None-found held
-      go F P rest valid so (stop n) is came None-found = elim came [ ]
+      go : (P : Program) (rest : List ℕ) → Valid mosts P → So P ts s M k rest → (x : Res State) → turn mosts P (run_before mosts P ts k).state (get_or ts k 0) ≡ x
+          → Comes P (run_before mosts P ts k).state (get_or ts k 0) (suc k) M M₁ s₁ rest x (Some None) → So P ts s₁ M₁ (suc k) rest
+      go P rest valid so wait is (to_wait held same-marks) = wait_so valid there so is held same-marks
+      go P rest valid so (ok S₁) is (to_move room held met notes) = move_so valid there so is M₁ None met notes room refl held
+      go P rest valid so (stop n) is came = elim came [ ]
 
 -- all turns are played
-pub judging_ends : {p ts s₀ s : List ℕ} {M : Marks} {k : ℕ} → Judging p ts s₀ s M k → length ts ≤ k → JudgesTurns p ts s₀ T.Absent
+pub judging_ends : {p ts s₀ s : List ℕ} {M : Marks} {k : ℕ} → Judging p ts s₀ s M k → length ts ≤ k → JudgesTurns p ts s₀ None
 unfolding verdict
 judging_ends {ts = ts} {k = k} before all =
     let last : k ≡ length ts = omega (arith, before.within) in

@@ -1,6 +1,7 @@
 -- What a turn does, read off the tables, and the objects that it meets.
-use Rattle.std.specs.Prelude.{ℕ, ◌<◌, ◌≡◌, List, [], ◌∷◌, length, take}
-use Rattle.rules.specs.declared.Value.TheVariants.{Obj}
+use Rattle.std.specs.Prelude.{ℕ, ◌<◌, ◌≡◌, List, [], ◌∷◌, length, take, replicate}
+use Rattle.rules.specs.declared.Value.{Value}
+use Rattle.rules.specs.declared.Value.TheVariants.{Absent, Obj, Chan}
 use Rattle.rules.specs.declared.Event.{Event}
 use Rattle.rules.specs.declared.Event.TheVariants.{Quiet, Reads, Swaps, Puts, Receives, Copies}
 use Rattle.rules.specs.Mosts.{mosts}
@@ -10,8 +11,11 @@ use Rattle.rules.specs.Walk.{met_from}
 use Rattle.rules.specs.Valid.{Valid}
 use Rattle.rules.specs.Fits.{Fits}
 use Rattle.rules.specs.Races.{line_event, event}
-use Rattle.table.specs.declared.state.Here.{Here}
+use Rattle.table.specs.declared.standing.Here.{Here}
 use Rattle.table.specs.StateTable.{Held, OnLine}
+use Rattle.walk.specs.declared.Met.{Met}
+use Rattle.walk.specs.Walking.{tally}
+use Rattle.walk.specs.Walked.{tally_of}
 use Rattle.checks.specs.Checked.{here_at, Stand}
 use Rattle.turn.specs.Performed.{Loaded}
 
@@ -23,6 +27,12 @@ ObjectBelow n (Swaps x f) = x < n
 ObjectBelow n (Puts x) = x < n
 ObjectBelow n (Receives x) = x < n
 ObjectBelow n (Copies x) = x < n
+
+-- what is done to an object, where a value is one
+abbrev pub OnObject : (ℕ → Event → Type 0) → Value → Event → Type 0
+OnObject Does Absent e = e ≡ Quiet
+OnObject Does (Obj n) e = Does n e
+OnObject Does (Chan c) e = e ≡ Quiet
 
 -- the event of the line where a thread stands
 pub record LineTells (p s : List ℕ) (h : Here) (r : Event) : Type 0 where
@@ -42,12 +52,11 @@ met_by os (Puts x) = met_from os (Obj x ∷ [])
 met_by os (Receives x) = met_from os (Obj x ∷ [])
 met_by os (Copies x) = met_from os (Obj x ∷ [])
 
--- the first r words of a list are the objects met from object x, in any state of a run that has it
-pub record MeetsFrom (s : List ℕ) (x : ℕ) (order : List ℕ) (r : ℕ) : Type 0 where
-  pub meets : (P : Program) (n : ℕ) (S : State) (rest : List ℕ) → Held s S rest → Fits mosts P n S → x < length S.objects
-      → take r order ≡ met_from S.objects (Obj x ∷ [])
+-- no object is met yet
+abbrev pub NoneMet : Met → Type 0
+NoneMet m = tally_of m ≡ tally (replicate mosts.objects 0) m.order.now 0
 
--- those met by an event
+-- the first r words of a list are the objects met by an event, in any state of a run that has its object
 pub record Meets (s : List ℕ) (e : Event) (order : List ℕ) (r : ℕ) : Type 0 where
   pub meets : (P : Program) (n : ℕ) (S : State) (rest : List ℕ) → Held s S rest → Fits mosts P n S → ObjectBelow (length S.objects) e
       → take r order ≡ met_by S.objects e

@@ -1,12 +1,7 @@
--- `races::marks::mark_fields` meets its contract: after i steps the fields of the first i objects are marked.
-use Prim.Native.Nat.{◌-◌, ◌≤◌}
-use mathlib.Core.Path.{◌≡◌}
-use lib.ListN.{length}
+-- `races::marks::mark_fields` meets its contract: after each step the fields of the first objects are marked.
+use Rattle.std.proofs.Common.{take}
 use Rattle.races.specs.Marks.{objects_in, MarksFields}
 use Rattle.races.proofs.marks.mark_fields.Given as goal
 
-abbrev pub invariant-loop-i : goal.invariant-loop-i
-invariant-loop-i l = (l.i ≤ l.count) × (length l.reads ≡ length l.initial.reads) × MarksFields (objects_in l.i l.order) l.t l.mark l.initial.reads l.reads
-
-abbrev pub decreases-loop-i : goal.decreases-loop-i
-decreases-loop-i l = l.count - l.i
+abbrev pub invariant-loop-n : goal.invariant-loop-n
+invariant-loop-n l = MarksFields (objects_in (take l.n-index l.objects)) l.t l.mark l.initial.reads l.reads

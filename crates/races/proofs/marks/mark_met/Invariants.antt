@@ -1,12 +1,7 @@
--- `races::marks::mark_met` meets its contract: after i steps the first i objects are marked.
-use Prim.Native.Nat.{◌-◌, ◌≤◌}
-use mathlib.Core.Path.{◌≡◌}
-use lib.ListN.{length}
+-- `races::marks::mark_met` meets its contract: after each step the first objects are marked.
+use Rattle.std.proofs.Common.{take}
 use Rattle.races.specs.Marks.{objects_in, MarksMet}
 use Rattle.races.proofs.marks.mark_met.Given as goal
 
-abbrev pub invariant-loop-i : goal.invariant-loop-i
-invariant-loop-i l = (l.i ≤ l.count) × (length l.receives ≡ length l.initial.receives) × MarksMet (objects_in l.i l.order) l.t l.mark l.initial.receives l.receives
-
-abbrev pub decreases-loop-i : goal.decreases-loop-i
-decreases-loop-i l = l.count - l.i
+abbrev pub invariant-loop-n : goal.invariant-loop-n
+invariant-loop-n l = MarksMet (objects_in (take l.n-index l.objects)) l.t l.mark l.initial.receives l.receives

@@ -1,61 +1,29 @@
 -- `races::marks::note` meets its contract: each event is noted in its own rows, and what is found is found before.
-use mathlib.Core.Path.{refl, ap, ◌∙◌, subst}
-use native.Mathlib.Omega.{arith}
-use Prim.Native.Nat.{◌%◌}
-use Rattle.races.specs.Events.{ObjectBelow}
-use Rattle.races.specs.Marks.{found}
+use Rattle.std.proofs.Common.{refl, ap, ◌∙◌, ◌%◌}
+use Rattle.races.specs.Marks.{race_on}
+use Rattle.races.proofs.MarkSteps.{max_most}
 use Rattle.races.proofs.marks.note.Goals as goal
 
-pub latest_on-last-requires : goal.latest_on-last-requires
-latest_on-last-requires c =
-    let below = subst (ObjectBelow 256) c.in-Reads.is c.requires.object_below.0 in
-    (omega (arith, c.requires.in_bounds.1, c.requires.in_bounds.2, c.requires.in_bounds.3, c.requires.in_bounds.4), omega (arith, c.requires.in_bounds.1, c.requires.in_bounds.2, c.requires.in_bounds.3, c.requires.in_bounds.4), c.requires.in_bounds.0, c.requires.object_below.2, below, omega arith)
+pub returns-in-Quiet-clause-notes : goal.returns-in-Quiet-clause-notes
+returns-in-Quiet-clause-notes c = rw c.in-Quiet.is (refl, refl)
 
-pub bounds-reads-at : goal.bounds-reads-at
-bounds-reads-at c =
-    let below = subst (ObjectBelow 256) c.in-Reads.is c.requires.object_below.0 in omega (arith, below, c.requires.object_below.2, c.requires.in_bounds.1)
+pub returns-in-Reads-clause-notes : goal.returns-in-Reads-clause-notes
+returns-in-Reads-clause-notes c = rw c.in-Reads.is (refl, c.race_on.ensures ∙ ap (λ m. race_on m c.in-Reads.n (c.in-Reads.f % 4)) c.latest_on-last.ensures)
 
-pub bounds-read_puts-at : goal.bounds-read_puts-at
-bounds-read_puts-at c =
-    let below = subst (ObjectBelow 256) c.in-Reads.is c.requires.object_below.0 in omega (arith, below, c.requires.object_below.2, c.requires.in_bounds.2)
+pub returns-in-Swaps-clause-notes : goal.returns-in-Swaps-clause-notes
+returns-in-Swaps-clause-notes c =
+    rw c.in-Swaps.is (
+      refl,
+      c.race_on-in-Swaps.ensures
+          ∙ ap (λ m. race_on m c.in-Swaps.n (c.in-Swaps.f % 4))
+          (c.max.ensures ∙ max_most c.latest_on-swapped.result c.latest_on-read.result ∙ rw (c.latest_on-swapped.ensures, c.latest_on-read.ensures) refl),
+    )
 
-pub latest_on-x-requires : goal.latest_on-x-requires
-latest_on-x-requires c =
-    let below = subst (ObjectBelow 256) c.in-Swaps.is c.requires.object_below.0 in
-    (omega (arith, c.requires.in_bounds.1, c.requires.in_bounds.2, c.requires.in_bounds.3, c.requires.in_bounds.4), omega (arith, c.requires.in_bounds.1, c.requires.in_bounds.2, c.requires.in_bounds.3, c.requires.in_bounds.4), c.requires.in_bounds.0, c.requires.object_below.2, below, omega arith)
+pub returns-in-Puts-clause-notes : goal.returns-in-Puts-clause-notes
+returns-in-Puts-clause-notes c = rw c.in-Puts.is (refl, refl, c.mark_first.ensures, refl, c.mark_first-in-Puts.ensures, refl)
 
-pub latest_on-y-requires : goal.latest_on-y-requires
-latest_on-y-requires c =
-    let below = subst (ObjectBelow 256) c.in-Swaps.is c.requires.object_below.0 in
-    (omega (arith, c.requires.in_bounds.1, c.requires.in_bounds.2, c.requires.in_bounds.3, c.requires.in_bounds.4), omega (arith, c.requires.in_bounds.1, c.requires.in_bounds.2, c.requires.in_bounds.3, c.requires.in_bounds.4), c.requires.in_bounds.0, c.requires.object_below.2, below, omega arith)
+pub returns-in-Receives-clause-notes : goal.returns-in-Receives-clause-notes
+returns-in-Receives-clause-notes c = rw c.in-Receives.is (c.mark_met.ensures, refl, refl, refl)
 
-pub bounds-swaps-at : goal.bounds-swaps-at
-bounds-swaps-at c =
-    let below = subst (ObjectBelow 256) c.in-Swaps.is c.requires.object_below.0 in omega (arith, below, c.requires.object_below.2, c.requires.in_bounds.3)
-
-pub bounds-swap_puts-at : goal.bounds-swap_puts-at
-bounds-swap_puts-at c =
-    let below = subst (ObjectBelow 256) c.in-Swaps.is c.requires.object_below.0 in omega (arith, below, c.requires.object_below.2, c.requires.in_bounds.4)
-
-pub returns-in-Quiet : goal.returns-in-Quiet
-returns-in-Quiet c = rw c.in-Quiet.is (record { receives = refl; reads = refl; read_puts = refl; swaps = refl; swap_puts = refl }, refl)
-
-pub returns-in-Reads : goal.returns-in-Reads
-returns-in-Reads c =
-    let e = c.in-Reads in rw c.in-Reads.is (record { receives = refl; reads = refl; read_puts = refl; swaps = refl; swap_puts = refl }, ap (λ x. found x e.n (e.f % 4)) c.latest_on-last.ensures)
-
-pub returns-in-Swaps : goal.returns-in-Swaps
-returns-in-Swaps c =
-    let e = c.in-Swaps in rw c.in-Swaps.is (record { receives = refl; reads = refl; read_puts = refl; swaps = refl; swap_puts = refl }, ap (λ x. found x e.n (e.f % 4)) (c.most.ensures ∙ rw (c.latest_on-x.ensures, c.latest_on-y.ensures) refl))
-
-pub returns-in-Puts : goal.returns-in-Puts
-returns-in-Puts c =
-    rw c.in-Puts.is (refl, refl, c.mark_first.ensures, refl, c.mark_first-in-Puts.ensures, refl)
-
-pub returns-in-Receives : goal.returns-in-Receives
-returns-in-Receives c =
-    rw c.in-Receives.is (c.mark_met.ensures, refl, refl, refl, refl, refl)
-
-pub returns-in-Copies : goal.returns-in-Copies
-returns-in-Copies c =
-    rw c.in-Copies.is (refl, c.mark_fields.ensures, c.mark_fields-in-Copies.ensures, refl, refl, c.over_objects-found.ensures)
+pub returns-in-Copies-clause-notes : goal.returns-in-Copies-clause-notes
+returns-in-Copies-clause-notes c = rw c.in-Copies.is (refl, c.mark_fields.ensures, c.mark_fields-in-Copies.ensures, refl, c.over_objects-found.ensures)
