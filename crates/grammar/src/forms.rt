@@ -9,7 +9,7 @@ ghost use Rattle.grammar.specs.Words.{plain};
 ghost use Rattle.grammar.specs.Decoded.{FormAt, OpenerAt, OperandLineAt, PlaceLineAt, let_form, only_form, LineAt, told_end};
 
 use super::parts::{cap_at, number_at, numbers_at, operand_at, operands_at, over};
-use super::words::{byte, either, word_at, words_at};
+use super::words::{Text, byte, either, word_at, words_at};
 use rules::Form;
 
 // A decoded line: its form and the parts' words, as in the table (a to f, since the crates that read a script have no arrays); whether the line by
@@ -50,15 +50,15 @@ fn short_line(form: Form, a: u16, b: u16, c: u16, end: usize) -> Line
 }
 
 // (kind (fields F) (does B ..))
-fn kind_at(s: &[u8], at: usize) -> Option<Line>
-    requires { (8 ≤ length s.now) × (length s.now ≤ 65536) × (at ≤ length s.now) }
-    ensures { FormAt 0 s.now at result }
+fn kind_at(text: Text, at: usize) -> Option<Line>
+    requires { at ≤ length text.bytes.now }
+    ensures { FormAt 0 text.entry.bytes.now at result }
 {
-    let first = words_at(s, at, b"(kind (", b"fields ")?;
-    let fields = number_at(s, first)?;
-    let next = word_at(s, fields.end, b") (does")?;
-    let methods = numbers_at(s, next)?;
-    let end = word_at(s, methods.end, b"))\n")?;
+    let first = words_at(text, at, b"(kind (", b"fields ")?;
+    let fields = number_at(text.bytes, first)?;
+    let next = word_at(text, fields.end, b") (does")?;
+    let methods = numbers_at(text, next)?;
+    let end = word_at(text, methods.end, b"))\n")?;
     let mut l = short_line(Form::Kind, fields.word, methods.a, methods.b, end);
     l.d = methods.c;
     l.e = methods.d;
@@ -68,24 +68,24 @@ fn kind_at(s: &[u8], at: usize) -> Option<Line>
 
 // (thread) or (method), by the word. (Written out where it is called, as operand_line and place_line are: so the compiler knows the word.)
 #[inline(always)]
-fn opener_at(s: &[u8], at: usize, w: &[u8], form: Form) -> Option<Line>
-    requires { (8 ≤ length s.now) × (length s.now ≤ 65536) × (at ≤ length s.now) × (length w.now ≤ 7) × (plain w.now ≡ true) }
-    ensures { OpenerAt form w.now s.now at result }
+fn opener_at(text: Text, at: usize, w: &[u8], form: Form) -> Option<Line>
+    requires { (at ≤ length text.bytes.now) × (length w.now ≤ 7) × (plain w.now ≡ true) }
+    ensures { OpenerAt form w.now text.entry.bytes.now at result }
 {
-    let first = word_at(s, at, w)?;
-    let end = word_at(s, first, b")\n")?;
+    let first = word_at(text, at, w)?;
+    let end = word_at(text, first, b")\n")?;
     Some(short_line(form, 0, 0, 0, end))
 }
 
 // (give W) or (let W), by the word
 #[inline(always)]
-fn operand_line(s: &[u8], at: usize, w: &[u8], form: Form) -> Option<Line>
-    requires { (8 ≤ length s.now) × (length s.now ≤ 65536) × (at ≤ length s.now) × (length w.now ≤ 7) × (plain w.now ≡ true) }
-    ensures { OperandLineAt form w.now s.now at result }
+fn operand_line(text: Text, at: usize, w: &[u8], form: Form) -> Option<Line>
+    requires { (at ≤ length text.bytes.now) × (length w.now ≤ 7) × (plain w.now ≡ true) }
+    ensures { OperandLineAt form w.now text.entry.bytes.now at result }
 {
-    let first = word_at(s, at, w)?;
-    let given = operand_at(s, first)?;
-    let end = word_at(s, given.end, b")\n")?;
+    let first = word_at(text, at, w)?;
+    let given = operand_at(text, first)?;
+    let end = word_at(text, given.end, b")\n")?;
     let slot = given.word / 2;
     let mut l = short_line(form, given.word, 0, 0, end);
     l.over = over(slot);
@@ -95,15 +95,15 @@ fn operand_line(s: &[u8], at: usize, w: &[u8], form: Form) -> Option<Line>
 }
 
 // (let (field S F))
-fn field_at(s: &[u8], at: usize) -> Option<Line>
-    requires { (8 ≤ length s.now) × (length s.now ≤ 65536) × (at ≤ length s.now) }
-    ensures { FormAt 5 s.now at result }
+fn field_at(text: Text, at: usize) -> Option<Line>
+    requires { at ≤ length text.bytes.now }
+    ensures { FormAt 5 text.entry.bytes.now at result }
 {
-    let first = words_at(s, at, b"(let (", b"field ")?;
-    let target = number_at(s, first)?;
-    let next = word_at(s, target.end, b" ")?;
-    let field = number_at(s, next)?;
-    let end = word_at(s, field.end, b"))\n")?;
+    let first = words_at(text, at, b"(let (", b"field ")?;
+    let target = number_at(text.bytes, first)?;
+    let next = word_at(text, target.end, b" ")?;
+    let field = number_at(text.bytes, next)?;
+    let end = word_at(text, field.end, b"))\n")?;
     let mut l = short_line(Form::Field, target.word, field.word, 0, end);
     l.over = either(over(target.word), over(field.word));
     l.need = target.word + 1;
@@ -112,17 +112,17 @@ fn field_at(s: &[u8], at: usize) -> Option<Line>
 
 // (let (swap S F W)) or (let (call S M W)), by the word
 #[inline(always)]
-fn place_line(s: &[u8], at: usize, w: &[u8], form: Form) -> Option<Line>
-    requires { (8 ≤ length s.now) × (length s.now ≤ 65536) × (at ≤ length s.now) × (length w.now ≤ 7) × (plain w.now ≡ true) }
-    ensures { PlaceLineAt form (bytes "(let (" ++ w.now) s.now at result }
+fn place_line(text: Text, at: usize, w: &[u8], form: Form) -> Option<Line>
+    requires { (at ≤ length text.bytes.now) × (length w.now ≤ 7) × (plain w.now ≡ true) }
+    ensures { PlaceLineAt form (bytes "(let (" ++ w.now) text.entry.bytes.now at result }
 {
-    let first = words_at(s, at, b"(let (", w)?;
-    let target = number_at(s, first)?;
-    let next = word_at(s, target.end, b" ")?;
-    let number = number_at(s, next)?;
-    let last = word_at(s, number.end, b" ")?;
-    let given = operand_at(s, last)?;
-    let end = word_at(s, given.end, b"))\n")?;
+    let first = words_at(text, at, b"(let (", w)?;
+    let target = number_at(text.bytes, first)?;
+    let next = word_at(text, target.end, b" ")?;
+    let number = number_at(text.bytes, next)?;
+    let last = word_at(text, number.end, b" ")?;
+    let given = operand_at(text, last)?;
+    let end = word_at(text, given.end, b"))\n")?;
     let slot = given.word / 2;
     let mut l = short_line(form, target.word, number.word, given.word, end);
     l.over = either(either(over(target.word), over(slot)), over(number.word));
@@ -132,16 +132,16 @@ fn place_line(s: &[u8], at: usize, w: &[u8], form: Form) -> Option<Line>
 }
 
 // (let (new K N W ..))
-fn new_at(s: &[u8], at: usize) -> Option<Line>
-    requires { (8 ≤ length s.now) × (length s.now ≤ 65536) × (at ≤ length s.now) }
-    ensures { FormAt 8 s.now at result }
+fn new_at(text: Text, at: usize) -> Option<Line>
+    requires { at ≤ length text.bytes.now }
+    ensures { FormAt 8 text.entry.bytes.now at result }
 {
-    let first = words_at(s, at, b"(let (", b"new ")?;
-    let cap = cap_at(s, first)?;
-    let next = word_at(s, cap.end, b" ")?;
-    let kind = number_at(s, next)?;
-    let given = operands_at(s, kind.end)?;
-    let end = word_at(s, given.end, b"))\n")?;
+    let first = words_at(text, at, b"(let (", b"new ")?;
+    let cap = cap_at(text, first)?;
+    let next = word_at(text, cap.end, b" ")?;
+    let kind = number_at(text.bytes, next)?;
+    let given = operands_at(text, kind.end)?;
+    let end = word_at(text, given.end, b"))\n")?;
     let mut l = short_line(Form::New, cap.word, kind.word, given.a, end);
     l.d = given.b;
     l.e = given.c;
@@ -153,15 +153,15 @@ fn new_at(s: &[u8], at: usize) -> Option<Line>
 }
 
 // (let (cast K W))
-fn cast_at(s: &[u8], at: usize) -> Option<Line>
-    requires { (8 ≤ length s.now) × (length s.now ≤ 65536) × (at ≤ length s.now) }
-    ensures { FormAt 9 s.now at result }
+fn cast_at(text: Text, at: usize) -> Option<Line>
+    requires { at ≤ length text.bytes.now }
+    ensures { FormAt 9 text.entry.bytes.now at result }
 {
-    let first = words_at(s, at, b"(let (", b"cast ")?;
-    let cap = cap_at(s, first)?;
-    let next = word_at(s, cap.end, b" ")?;
-    let given = operand_at(s, next)?;
-    let end = word_at(s, given.end, b"))\n")?;
+    let first = words_at(text, at, b"(let (", b"cast ")?;
+    let cap = cap_at(text, first)?;
+    let next = word_at(text, cap.end, b" ")?;
+    let given = operand_at(text, next)?;
+    let end = word_at(text, given.end, b"))\n")?;
     let slot = given.word / 2;
     let mut l = short_line(Form::Cast, cap.word, given.word, 0, end);
     l.over = over(slot);
@@ -171,28 +171,28 @@ fn cast_at(s: &[u8], at: usize) -> Option<Line>
 }
 
 // (let (spawn B))
-fn spawn_at(s: &[u8], at: usize) -> Option<Line>
-    requires { (8 ≤ length s.now) × (length s.now ≤ 65536) × (at ≤ length s.now) }
-    ensures { FormAt 10 s.now at result }
+fn spawn_at(text: Text, at: usize) -> Option<Line>
+    requires { at ≤ length text.bytes.now }
+    ensures { FormAt 10 text.entry.bytes.now at result }
 {
-    let first = words_at(s, at, b"(let (", b"spawn ")?;
-    let block = number_at(s, first)?;
-    let end = word_at(s, block.end, b"))\n")?;
+    let first = words_at(text, at, b"(let (", b"spawn ")?;
+    let block = number_at(text.bytes, first)?;
+    let end = word_at(text, block.end, b"))\n")?;
     let mut l = short_line(Form::Spawn, block.word, 0, 0, end);
     l.over = over(block.word);
     Some(l)
 }
 
 // (let (send S W))
-fn send_at(s: &[u8], at: usize) -> Option<Line>
-    requires { (8 ≤ length s.now) × (length s.now ≤ 65536) × (at ≤ length s.now) }
-    ensures { FormAt 11 s.now at result }
+fn send_at(text: Text, at: usize) -> Option<Line>
+    requires { at ≤ length text.bytes.now }
+    ensures { FormAt 11 text.entry.bytes.now at result }
 {
-    let first = words_at(s, at, b"(let (", b"send ")?;
-    let target = number_at(s, first)?;
-    let next = word_at(s, target.end, b" ")?;
-    let given = operand_at(s, next)?;
-    let end = word_at(s, given.end, b"))\n")?;
+    let first = words_at(text, at, b"(let (", b"send ")?;
+    let target = number_at(text.bytes, first)?;
+    let next = word_at(text, target.end, b" ")?;
+    let given = operand_at(text, next)?;
+    let end = word_at(text, given.end, b"))\n")?;
     let slot = given.word / 2;
     let mut l = short_line(Form::Send, target.word, given.word, 0, end);
     l.over = either(over(target.word), over(slot));
@@ -202,13 +202,13 @@ fn send_at(s: &[u8], at: usize) -> Option<Line>
 }
 
 // (let (recv S))
-fn recv_at(s: &[u8], at: usize) -> Option<Line>
-    requires { (8 ≤ length s.now) × (length s.now ≤ 65536) × (at ≤ length s.now) }
-    ensures { FormAt 12 s.now at result }
+fn recv_at(text: Text, at: usize) -> Option<Line>
+    requires { at ≤ length text.bytes.now }
+    ensures { FormAt 12 text.entry.bytes.now at result }
 {
-    let first = words_at(s, at, b"(let (", b"recv ")?;
-    let target = number_at(s, first)?;
-    let end = word_at(s, target.end, b"))\n")?;
+    let first = words_at(text, at, b"(let (", b"recv ")?;
+    let target = number_at(text.bytes, first)?;
+    let end = word_at(text, target.end, b"))\n")?;
     let mut l = short_line(Form::Recv, target.word, 0, 0, end);
     l.over = over(target.word);
     l.need = target.word + 1;
@@ -216,15 +216,15 @@ fn recv_at(s: &[u8], at: usize) -> Option<Line>
 }
 
 // (let (copy K S))
-fn copy_at(s: &[u8], at: usize) -> Option<Line>
-    requires { (8 ≤ length s.now) × (length s.now ≤ 65536) × (at ≤ length s.now) }
-    ensures { FormAt 13 s.now at result }
+fn copy_at(text: Text, at: usize) -> Option<Line>
+    requires { at ≤ length text.bytes.now }
+    ensures { FormAt 13 text.entry.bytes.now at result }
 {
-    let first = words_at(s, at, b"(let (", b"copy ")?;
-    let cap = cap_at(s, first)?;
-    let next = word_at(s, cap.end, b" ")?;
-    let slot = number_at(s, next)?;
-    let end = word_at(s, slot.end, b"))\n")?;
+    let first = words_at(text, at, b"(let (", b"copy ")?;
+    let cap = cap_at(text, first)?;
+    let next = word_at(text, cap.end, b" ")?;
+    let slot = number_at(text.bytes, next)?;
+    let end = word_at(text, slot.end, b"))\n")?;
     let mut l = short_line(Form::Copy, cap.word, slot.word, 0, end);
     l.over = over(slot.word);
     l.need = slot.word + 1;
@@ -288,23 +288,23 @@ pub fn line_at(s: &[u8], at: usize) -> Option<Line>
     if s.len() < 9 {
         return None;
     }
-    let form = form_at(s, at);
-    match form {
+    let text = Text { bytes: s };
+    match form_at(s, at) {
         Form::NoForm => None, // no text tells this one
-        Form::Kind => kind_at(s, at),
-        Form::Thread => opener_at(s, at, b"(thread", Form::Thread),
-        Form::Method => opener_at(s, at, b"(method", Form::Method),
-        Form::Give => operand_line(s, at, b"(give ", Form::Give),
-        Form::Value => operand_line(s, at, b"(let ", Form::Value),
-        Form::Field => field_at(s, at),
-        Form::Swap => place_line(s, at, b"swap ", Form::Swap),
-        Form::Call => place_line(s, at, b"call ", Form::Call),
-        Form::New => new_at(s, at),
-        Form::Cast => cast_at(s, at),
-        Form::Spawn => spawn_at(s, at),
-        Form::Send => send_at(s, at),
-        Form::Recv => recv_at(s, at),
-        Form::Copy => copy_at(s, at),
+        Form::Kind => kind_at(text, at),
+        Form::Thread => opener_at(text, at, b"(thread", Form::Thread),
+        Form::Method => opener_at(text, at, b"(method", Form::Method),
+        Form::Give => operand_line(text, at, b"(give ", Form::Give),
+        Form::Value => operand_line(text, at, b"(let ", Form::Value),
+        Form::Field => field_at(text, at),
+        Form::Swap => place_line(text, at, b"swap ", Form::Swap),
+        Form::Call => place_line(text, at, b"call ", Form::Call),
+        Form::New => new_at(text, at),
+        Form::Cast => cast_at(text, at),
+        Form::Spawn => spawn_at(text, at),
+        Form::Send => send_at(text, at),
+        Form::Recv => recv_at(text, at),
+        Form::Copy => copy_at(text, at),
     }
 }
 
@@ -317,5 +317,5 @@ pub fn script_end(s: &[u8]) -> Option<usize>
     if s.len() < 11 {
         return None;
     }
-    words_at(s, 0, b"(script", b" 2)\n")
+    words_at(Text { bytes: s }, 0, b"(script", b" 2)\n")
 }

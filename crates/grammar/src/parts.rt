@@ -8,7 +8,7 @@ ghost use Rattle.rules.specs.Tables.{operand_of, cap_of};
 ghost use Rattle.grammar.specs.Parts.{Digit, told};
 ghost use Rattle.grammar.specs.Items.{Listed, Adds, ItemsBy, NumbersAt, OperandsAt};
 
-use super::words::{begins_at, both, byte, either};
+use super::words::{Text, begins_at, both, byte, either};
 
 // What a part reads at a place: its word, and the place after it.
 #[derive(Clone, Copy)]
@@ -77,15 +77,15 @@ pub fn number_at(s: &[u8], at: usize) -> Option<Part>
 
 // "Operand W: (read S) or (take S)": twice its slot, and one more where it takes. Of a slot with any number of digits.
 #[inline(never)]
-fn long_operand_at(s: &[u8], at: usize) -> Option<Part>
-    requires { (8 ≤ length s.now) × (at ≤ 131000) }
-    ensures s_value { operand (drop at s.now) ≡ told operand_of s.now result }
+fn long_operand_at(text: Text, at: usize) -> Option<Part>
+    requires { at ≤ 131000 }
+    ensures s_value { operand (drop at text.entry.bytes.now) ≡ told operand_of text.entry.bytes.now result }
     ensures word_bound { IfSome result (λ p. (p.word ≤ 1999) × (at ≤ p.end) × (p.end ≤ at + 10)) }
 {
-    let reads = begins_at(s, at, b"(read ");
-    let takes = begins_at(s, at, b"(take "); // and any slot
-    let slot = number_at(s, at + 6)?;
-    let closed = begins_at(s, slot.end, b")");
+    let reads = begins_at(text.bytes, at, b"(read ");
+    let takes = begins_at(text.bytes, at, b"(take "); // and any slot
+    let slot = number_at(text.bytes, at + 6)?;
+    let closed = begins_at(text.bytes, slot.end, b")");
     if !both(either(reads, takes), closed) {
         return None;
     }
@@ -97,20 +97,20 @@ fn long_operand_at(s: &[u8], at: usize) -> Option<Part>
 
 // The same, at once where the slot has one digit: a digit and a closing bracket stand at their places.
 #[inline(always)]
-pub fn operand_at(s: &[u8], at: usize) -> Option<Part>
-    requires { (8 ≤ length s.now) × (at ≤ 131000) }
-    ensures s_value { operand (drop at s.now) ≡ told operand_of s.now result }
+pub fn operand_at(text: Text, at: usize) -> Option<Part>
+    requires { at ≤ 131000 }
+    ensures s_value { operand (drop at text.entry.bytes.now) ≡ told operand_of text.entry.bytes.now result }
     ensures word_bound { IfSome result (λ p. (p.word ≤ 1999) × (at ≤ p.end) × (p.end ≤ at + 10)) }
 {
-    let Some(slot) = digit(byte(s, at + 6)) else {
-        return long_operand_at(s, at);
+    let Some(slot) = digit(byte(text.bytes, at + 6)) else {
+        return long_operand_at(text, at);
     };
-    let closed = byte(s, at + 7) == b')';
+    let closed = byte(text.bytes, at + 7) == b')';
     if !closed {
-        return long_operand_at(s, at);
+        return long_operand_at(text, at);
     }
-    let reads = begins_at(s, at, b"(read ");
-    let takes = begins_at(s, at, b"(take "); // and one digit
+    let reads = begins_at(text.bytes, at, b"(read ");
+    let takes = begins_at(text.bytes, at, b"(take "); // and one digit
     if !either(reads, takes) {
         return None;
     }
@@ -122,30 +122,30 @@ pub fn operand_at(s: &[u8], at: usize) -> Option<Part>
 
 // "K is one of the words imm, iso, local, unsafe."
 #[inline(always)]
-pub fn cap_at(s: &[u8], at: usize) -> Option<Part>
-    requires { (8 ≤ length s.now) × (at ≤ 131000) }
-    ensures s_value { capability (drop at s.now) ≡ told cap_of s.now result }
+pub fn cap_at(text: Text, at: usize) -> Option<Part>
+    requires { at ≤ 131000 }
+    ensures s_value { capability (drop at text.entry.bytes.now) ≡ told cap_of text.entry.bytes.now result }
     ensures word_bound { IfSome result (λ p. (p.word ≤ 3) × (at ≤ p.end) × (p.end ≤ at + 6)) }
 {
-    if begins_at(s, at, b"imm") {
+    if begins_at(text.bytes, at, b"imm") {
         return Some(Part {
             word: 0,
             end: at + 3,
         });
     }
-    if begins_at(s, at, b"iso") {
+    if begins_at(text.bytes, at, b"iso") {
         return Some(Part {
             word: 1,
             end: at + 3,
         });
     }
-    if begins_at(s, at, b"local") {
+    if begins_at(text.bytes, at, b"local") {
         return Some(Part {
             word: 2,
             end: at + 5,
         });
     }
-    if begins_at(s, at, b"unsafe") {
+    if begins_at(text.bytes, at, b"unsafe") {
         return Some(Part {
             word: 3,
             end: at + 6,
@@ -211,15 +211,15 @@ fn with_item(l: Items, item: u16, number: u16) -> Items
 
 // Items one after the other, each after a space: `part` reads one at a place, and its number is its word by `per`.
 #[inline(always)]
-fn items_at<F: Fn(usize) -> Option<Part>>(s: &[u8], at: usize, part: F, per: u16) -> Option<Items>
-    requires short { (length s.now ≤ 65536) × (at ≤ 65800) × (1 ≤ per) }
+fn items_at<F: Fn(usize) -> Option<Part>>(text: Text, at: usize, part: F, per: u16) -> Option<Items>
+    requires short { (at ≤ 65800) × (1 ≤ per) }
     requires callable { (p : _) → p ≤ 65536 → F.pre part p }
     requires bounded { (p : _) (r : _) → p ≤ 65536 → F.post part p r → IfSome r (λ x. (x.word ≤ 1999) × (p ≤ x.end) × (x.end ≤ p + 10)) }
-    ensures items { ItemsBy (F.post part) per s.now at result }
+    ensures items { ItemsBy (F.post part) per text.entry.bytes.now at result }
     ensures at_le_end { IfSome result (λ l. (at ≤ l.end) × (l.end ≤ 65800)) }
 {
     let mut l = no_items(at);
-    while byte(s, l.end) == b' ' {
+    while byte(text.bytes, l.end) == b' ' {
         let w = part(l.end + 1)?;
         let number = w.word / per;
         let mut next = with_item(l, w.word + 1, number);
@@ -232,19 +232,19 @@ fn items_at<F: Fn(usize) -> Option<Part>>(s: &[u8], at: usize, part: F, per: u16
 }
 
 // " B ..": the method blocks of a kind.
-pub fn numbers_at(s: &[u8], at: usize) -> Option<Items>
-    requires { (length s.now ≤ 65536) × (at ≤ 65800) }
-    ensures numbers_at { NumbersAt s.now at result }
+pub fn numbers_at(text: Text, at: usize) -> Option<Items>
+    requires { at ≤ 65800 }
+    ensures numbers_at { NumbersAt text.entry.bytes.now at result }
     ensures at_le_end { IfSome result (λ l. (at ≤ l.end) × (l.end ≤ 65800)) }
 {
-    items_at(s, at, |place| number_at(s, place), 1)
+    items_at(text, at, |place| number_at(text.bytes, place), 1)
 }
 
 // " W ..": the operands of a new.
-pub fn operands_at(s: &[u8], at: usize) -> Option<Items>
-    requires { (8 ≤ length s.now) × (length s.now ≤ 65536) × (at ≤ 65800) }
-    ensures operands_at { OperandsAt s.now at result }
+pub fn operands_at(text: Text, at: usize) -> Option<Items>
+    requires { at ≤ 65800 }
+    ensures operands_at { OperandsAt text.entry.bytes.now at result }
     ensures at_le_end { IfSome result (λ l. (at ≤ l.end) × (l.end ≤ 65800)) }
 {
-    items_at(s, at, |place| operand_at(s, place), 2)
+    items_at(text, at, |place| operand_at(text, place), 2)
 }

@@ -90,13 +90,20 @@ pub fn begins_at(s: &[u8], at: usize, w: &[u8]) -> bool
     eight(s, at) % span(w) == word(w)
 }
 
+// A text that has room for eight bytes, and whose places are small numbers: what a line is read from.
+#[derive(Clone, Copy)]
+pub struct Text<'a> {
+    pub bytes: &'a [u8],
+    ghost fits: { (8 ≤ length bytes.now) × (length bytes.now ≤ 65536) },
+}
+
 // The place after the fixed word w, where it stands at a place.
 #[inline(always)]
-pub fn word_at(s: &[u8], at: usize, w: &[u8]) -> Option<usize>
-    requires { (8 ≤ length s.now) × (at ≤ 131072) × (length w.now ≤ 7) × (plain w.now ≡ true) }
-    ensures { After w.now s.now at result }
+pub fn word_at(text: Text, at: usize, w: &[u8]) -> Option<usize>
+    requires { (at ≤ 131072) × (length w.now ≤ 7) × (plain w.now ≡ true) }
+    ensures { After w.now text.entry.bytes.now at result }
 {
-    if begins_at(s, at, w) {
+    if begins_at(text.bytes, at, w) {
         Some(at + w.len())
     } else {
         None
@@ -105,10 +112,10 @@ pub fn word_at(s: &[u8], at: usize, w: &[u8]) -> Option<usize>
 
 // The same of two fixed words, one after the other.
 #[inline(always)]
-pub fn words_at(s: &[u8], at: usize, v: &[u8], w: &[u8]) -> Option<usize>
-    requires { (8 ≤ length s.now) × (at ≤ 131000) × (length v.now ≤ 7) × (plain v.now ≡ true) × (length w.now ≤ 7) × (plain w.now ≡ true) }
-    ensures { After (v.now ++ w.now) s.now at result }
+pub fn words_at(text: Text, at: usize, v: &[u8], w: &[u8]) -> Option<usize>
+    requires { (at ≤ 131000) × (length v.now ≤ 7) × (plain v.now ≡ true) × (length w.now ≤ 7) × (plain w.now ≡ true) }
+    ensures { After (v.now ++ w.now) text.entry.bytes.now at result }
 {
-    let next = word_at(s, at, v)?;
-    word_at(s, next, w)
+    let next = word_at(text, at, v)?;
+    word_at(text, next, w)
 }

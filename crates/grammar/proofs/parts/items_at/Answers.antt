@@ -25,14 +25,14 @@ loop-part-init g c = record {
 
 pub loop-part-smaller : goal.loop-part-smaller
 loop-part-smaller g c =
-    let inside = at_space c.args.s.now c.loop-part.l.end (sym c.byte.ensures ∙ c.loop-part-test.true) in
+    let inside = at_space c.args.text.bytes.now c.loop-part.l.end (sym c.byte.ensures ∙ c.loop-part-test.true) in
     let bound = c.requires.bounded _ _ (omega arith) (rw c.in_ok-w.was at c.part.ensures) in
     omega arith
 
 pub loop-part-preserved : goal.loop-part-preserved
 loop-part-preserved g c =
     let here = sym c.byte.ensures ∙ c.loop-part-test.true in
-    let inside = at_space c.args.s.now c.loop-part.l.end here in
+    let inside = at_space c.args.text.bytes.now c.loop-part.l.end here in
     let read = rw c.in_ok-w.was at c.part.ensures in
     let bound = c.requires.bounded _ _ (omega arith) read in
     let before = c.loop-part.invariant in

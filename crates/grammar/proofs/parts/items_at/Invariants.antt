@@ -23,7 +23,7 @@ pub record ItemsTo (reads : ℕ → Option Part → Type 0) (per : ℕ) (s : Lis
   pub limit : l.end ≤ 65800
 
 abbrev pub invariant-loop-part : goal.invariant-loop-part
-invariant-loop-part g l = ItemsTo (goal.F-post g l.part) l.per l.s l.at l.l
+invariant-loop-part g l = ItemsTo (goal.F-post g l.part) l.per l.text.bytes.now l.at l.l
 
 abbrev pub decreases-loop-part : goal.decreases-loop-part
-decreases-loop-part g l = length l.s - l.l.end
+decreases-loop-part g l = length l.text.bytes.now - l.l.end

@@ -4,4 +4,4 @@ use Rattle.grammar.proofs.Runs.{numbers_run}
 use Rattle.grammar.proofs.parts.numbers_at.Goals as goal
 
 pub returns-clause-numbers_at : goal.returns-clause-numbers_at
-returns-clause-numbers_at c = numbers_run c.args.s.now c.args.at _ (λ e r k. search rules) c.items_at.result c.items_at.ensures.items
+returns-clause-numbers_at c = numbers_run c.args.text.bytes.now c.args.at _ (λ e r k. search rules) c.items_at.result c.items_at.ensures.items
