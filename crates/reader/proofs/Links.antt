@@ -28,7 +28,7 @@ use Rattle.table.specs.ProgramTable.{no_form, sort_number, LineWord, KindFields}
 use Rattle.table.proofs.ProgramTable.{line_word_is as word_at}
 use Rattle.table.proofs.ProgramLines.{blocks_of_lines, kind_stands, kind_there}
 use Rattle.grammar.specs.Decoded.{over_line}
-use Rattle.reader.specs.declared.scanning.Counts.{Counts}
+use Rattle.reader.specs.declared.counts.Counts.{Counts}
 use Rattle.reader.specs.Linking.{Table, form_at, MethodDangles, KindDangles, NewDangles, Opened, LineDangles, FirstDangling}
 
 -- ---- Tests

@@ -35,7 +35,7 @@ use Rattle.rules.proofs.Scanned.{Scanned, ended, passed, scan_passed, lines_scan
 use Rattle.grammar.specs.Decoded.{over_line, told_end}
 use Rattle.table.specs.ProgramTable.{fresh_table, line_table, Filled, Counted}
 use Rattle.table.proofs.ProgramTable.{fresh_length, program_words_by_lines}
-use Rattle.reader.specs.declared.scanning.Counts.{Counts}
+use Rattle.reader.specs.declared.counts.Counts.{Counts}
 use Rattle.reader.specs.ReadAnswers.{Answers, Made, Makes}
 use Rattle.reader.specs.Sofar.{edition_of}
 use Rattle.reader.specs.Scanning.{DoneWith, ScansTo, Scans}

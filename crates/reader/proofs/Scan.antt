@@ -30,7 +30,7 @@ use Rattle.grammar.specs.Decoded.{over_line, line_row, Tells, Leads, LineAt}
 use Rattle.table.specs.ProgramTable.{Filled, LineAdded, OpenerAdded}
 use Rattle.reader.specs.declared.faults.Place.TheVariants as P
 use Rattle.reader.specs.declared.faults.Sofar.{Sofar}
-use Rattle.reader.specs.declared.scanning.Counts.{Counts}
+use Rattle.reader.specs.declared.counts.Counts.{Counts}
 use Rattle.reader.specs.Sofar.{edition_of, so_far, full_before, Tidy, fault_of, Faults, GoesOn}
 use Rattle.reader.specs.Scanning.{Put, Finished, Finishes, ScansTo, Scans}
 use Rattle.grammar.proofs.Fronts.{front_fits, front_unfit}
@@ -279,6 +279,12 @@ module _ {m : Mosts} {d : Edition} {text t₀ t : List ℕ} {r : Sofar} {n at : 
       let c = s.tally in
       omega (arith, s.number, c.lines, c.few_kinds, c.few_blocks, c.few_lets, b.kinds, b.blocks, b.lets)
 
+  pub few_counts : (r.kinds ≤ 32) × (r.blocks ≤ 64) × (n ≤ 672)
+  few_counts =
+      let b = s.bounded in
+      let c = s.tally in
+      (omega (arith, c.few_kinds, b.kinds), omega (arith, c.few_blocks, b.blocks), few_lines)
+
   -- no line is left
   pub at_end : {x : Result Counts Refusal} → length text ≤ at → Finishes r n (n + lines_before d) x → Scans m d text t₀ x t
   at_end {x} h f = record { is = go x f.is }
@@ -294,9 +300,6 @@ module _ {m : Mosts} {d : Edition} {text t₀ t : List ℕ} {r : Sofar} {n at : 
         kinds_count = k ∙ s.tally.kinds;
         blocks_count = b ∙ s.tally.blocks;
         line_count_is = c ∙ s.number;
-        few_kinds = omega (arith, k, s.tally.few_kinds);
-        few_blocks = omega (arith, b, s.tally.few_blocks);
-        few_lines = omega (arith, c, few_lines);
         filled = s.filled;
       }
 

@@ -9,7 +9,7 @@ use Rattle.rules.specs.Forms.{form_number}
 use Rattle.rules.specs.Tables.{row}
 use Rattle.grammar.specs.Decoded.{over_line}
 use Rattle.table.specs.ProgramTable.{Filled, no_form, sort_number}
-use Rattle.reader.specs.declared.scanning.Counts.{Counts}
+use Rattle.reader.specs.declared.counts.Counts.{Counts}
 
 -- a table that holds a program whose lines exceed no most
 pub record Table (t : List ℕ) (P : Program) : Type 0 where

@@ -12,7 +12,7 @@ use Rattle.grammar.specs.declared.forms.Line.{Line}
 use Rattle.grammar.specs.Decoded.{Tells}
 use Rattle.table.specs.ProgramTable.{Filled}
 use Rattle.reader.specs.declared.faults.Sofar.{Sofar}
-use Rattle.reader.specs.declared.scanning.Counts.{Counts}
+use Rattle.reader.specs.declared.counts.Counts.{Counts}
 use Rattle.reader.specs.Sofar.{so_far}
 
 -- line n is written, after b blocks
@@ -35,9 +35,6 @@ pub record DoneWith (m : Mosts) (e : Edition) (text : List ℕ) (c : Counts) (t 
   pub kinds_count : c.kinds ≡ length (kinds_of forms)
   pub blocks_count : c.blocks ≡ length (blocks_of forms)
   pub line_count_is : c.lines ≡ length forms
-  pub few_kinds : c.kinds ≤ m.kinds
-  pub few_blocks : c.blocks ≤ m.blocks
-  pub few_lines : c.lines ≤ 672
   pub filled : (rest : List ℕ) → Filled t [] [] rest → Filled t' [] forms rest
 
 abbrev pub ScansTo : Mosts → Edition → List ℕ → Result Counts Refusal → (t t' : List ℕ) → Type 0

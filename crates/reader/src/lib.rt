@@ -1,6 +1,7 @@
 // Reading a script into a program table, and the line finder.
 #![tactic(auto)]
 
+mod counts;
 mod faults;
 mod finder;
 mod linking;

@@ -1,48 +1,49 @@
 // "then 8 in line order": what the lines name is there, and of its sort.
 ghost use Rattle.std.specs.Prelude.{ℕ, Some, ◌≡◌, cond, ◌≤◌, ◌<◌, eqb, length};
+ghost use Rattle.rules.specs.Forms.{form_number};
 ghost use Rattle.reader.specs.Linking.{IsSort, MethodDangles, KindDangles, NewDangles, LineDangles, FirstDangling};
 
-use super::scanning::Counts;
+use super::counts::Counts;
 use rules::Form;
 
-// Whether block b is there, and opened by the form with this number.
-fn is_sort(t: &[u16], blocks: usize, b: usize, form: u16) -> bool
-    requires { (8192 ≤ length t.now) × (blocks ≤ 64) }
-    ensures { IsSort t.now blocks b form result }
+// Whether block b is there, and opened by this form.
+fn is_sort(t: &[u16], counts: Counts, b: usize, form: Form) -> bool
+    requires { 8192 ≤ length t.now }
+    ensures { IsSort t.now counts.blocks b (form_number form) result }
 {
-    if blocks <= b {
+    if counts.blocks <= b {
         return false;
     }
-    table::block_form(t, b) == form
+    table::block_form(t, b) == form.number()
 }
 
 // Whether method i of the kind in line n is no method block.
-fn method_dangles(t: &[u16], blocks: usize, n: usize, i: usize) -> bool
-    requires { (8192 ≤ length t.now) × (blocks ≤ 64) × (n < 672) × (i < 4) }
-    ensures { MethodDangles t.now blocks n i result }
+fn method_dangles(t: &[u16], counts: Counts, n: usize, i: usize) -> bool
+    requires { (8192 ≤ length t.now) × (n < 672) × (i < 4) }
+    ensures { MethodDangles t.now counts.blocks n i result }
 {
     let item = table::kind_method(t, n, i);
     if item == 0 {
         return false;
     }
-    !is_sort(t, blocks, (item - 1) as usize, Form::Method.number())
+    !is_sort(t, counts, (item - 1) as usize, Form::Method)
 }
 
 // Whether a method of the kind in line n is no method block.
-fn kind_dangles(t: &[u16], blocks: usize, n: usize) -> bool
-    requires { (8192 ≤ length t.now) × (blocks ≤ 64) × (n < 672) }
-    ensures { KindDangles t.now blocks n result }
+fn kind_dangles(t: &[u16], counts: Counts, n: usize) -> bool
+    requires { (8192 ≤ length t.now) × (n < 672) }
+    ensures { KindDangles t.now counts.blocks n result }
 {
-    (0..4).any(|i| method_dangles(t, blocks, n, i))
+    (0..4).any(|i| method_dangles(t, counts, n, i))
 }
 
 // Whether the new in line n names no kind, or has operands unlike the kind's fields.
-fn new_dangles(t: &[u16], kinds: usize, n: usize) -> bool
-    requires { (8192 ≤ length t.now) × (kinds ≤ 32) × (n < 672) }
-    ensures { NewDangles t.now kinds n result }
+fn new_dangles(t: &[u16], counts: Counts, n: usize) -> bool
+    requires { (8192 ≤ length t.now) × (n < 672) }
+    ensures { NewDangles t.now counts.kinds n result }
 {
     let kind = table::line_word(t, n, 2) as usize;
-    if kinds <= kind {
+    if counts.kinds <= kind {
         return true;
     }
     let operands = (3..7).filter(|k| table::line_word(t, n, *k) != 0).count();
@@ -50,20 +51,15 @@ fn new_dangles(t: &[u16], kinds: usize, n: usize) -> bool
 }
 
 // Whether line n dangles. The lines before the first opener are the kinds.
-fn line_dangles(t: &[u16], kinds: usize, blocks: usize, n: usize) -> bool
-    requires { (8192 ≤ length t.now) × (kinds ≤ 32) × (blocks ≤ 64) × (n < 672) }
-    ensures { LineDangles t.now kinds blocks n result }
+fn line_dangles(t: &[u16], counts: Counts, n: usize) -> bool
+    requires { (8192 ≤ length t.now) × (n < 672) }
+    ensures { LineDangles t.now counts.kinds counts.blocks n result }
 {
     match Form::from(table::line_word(t, n, 0)) {
-        Form::Kind => kind_dangles(t, blocks, n),
-        Form::Method => n == kinds,
-        Form::New => new_dangles(t, kinds, n),
-        Form::Spawn => !is_sort(
-            t,
-            blocks,
-            table::line_word(t, n, 1) as usize,
-            Form::Thread.number(),
-        ),
+        Form::Kind => kind_dangles(t, counts, n),
+        Form::Method => n == counts.kinds,
+        Form::New => new_dangles(t, counts, n),
+        Form::Spawn => !is_sort(t, counts, table::line_word(t, n, 1) as usize, Form::Thread),
         Form::NoForm
         | Form::Thread
         | Form::Give
@@ -80,9 +76,9 @@ fn line_dangles(t: &[u16], kinds: usize, blocks: usize, n: usize) -> bool
 
 // The first line that dangles, if one does.
 pub fn first_dangling(t: &[u16], counts: Counts) -> Option<usize>
-    requires { (8192 ≤ length t.now) × (counts.kinds ≤ 32) × (counts.blocks ≤ 64) × (counts.lines ≤ 672) }
+    requires { 8192 ≤ length t.now }
     ensures first_dangling { FirstDangling t.now counts result }
     ensures upper_bound { (n : ℕ) → result ≡ Some n → n < counts.lines }
 {
-    (0..counts.lines).find(|n| line_dangles(t, counts.kinds, counts.blocks, *n))
+    (0..counts.lines).find(|n| line_dangles(t, counts, *n))
 }

@@ -7,17 +7,10 @@ ghost use Rattle.rules.specs.Text.{allowed, stray, lines};
 ghost use Rattle.reader.specs.Sofar.{edition_of};
 ghost use Rattle.reader.specs.Scanning.{Put, Finishes, Scans};
 
+use super::counts::Counts;
 use super::faults::{Place, Sofar, after_line, fault};
 use super::finder::find_lf;
 use rules::{Fault, Form, Refusal};
-
-// How many kinds, blocks and lines a text has.
-#[derive(Clone, Copy)]
-pub struct Counts {
-    pub kinds: usize,
-    pub blocks: usize,
-    pub lines: usize,
-}
 
 // How many lines stand before those that are read: the one that names the edition.
 pub fn lines_before(second: bool) -> usize
@@ -84,6 +77,7 @@ fn put_line(words: &mut [u16], n: usize, b: usize, l: grammar::Line)
 
 // After the last line, whose number is told: 7, "no block, or the last one open", or the counts.
 fn finish(r: Sofar, lines: usize, line: usize) -> Result<Counts, Refusal>
+    requires { (r.kinds ≤ 32) × (r.blocks ≤ 64) × (lines ≤ 672) }
     ensures { Finishes r lines line result }
 {
     let is_open = r.place != Place::Outside;

@@ -1,6 +1,6 @@
 -- Only kinds, methods, news and spawns can dangle; a kind in line n is kind n, and the line after the kinds opens the first block.
 use native.Mathlib.Omega.{arith}
-use mathlib.Core.Path.{sym, ap, ◌∙◌}
+use mathlib.Core.Path.{refl, sym, ap, ◌∙◌}
 use mathlib.Core.Bool.{not}
 use mathlib.Core.List.{[], ◌∷◌}
 use lib.Dec.{eqb}
@@ -42,7 +42,7 @@ returns-in-Spawn c =
     let is-spawn = number_told c.from.ensures c.in-Spawn.is (omega arith) in
     record {
       is = λ P b table k l h o.
-          ap not (c.is_sort.ensures.is P thread table l c.number.ensures ∙ ap (is_sort P thread) (line_word_is table c.line_word-in-Spawn.ensures.line_word h))
+          ap not (c.is_sort.ensures.is P thread table l refl ∙ ap (is_sort P thread) (line_word_is table c.line_word-in-Spawn.ensures.line_word h))
           ∙ spawn_line_lem P b (form_at P a.n) c.line_word.result (line_word_is table c.line_word.ensures.line_word h) is-spawn;
     }
 

@@ -1,5 +1,5 @@
--- `reader::linking::method_dangles` meets its contract: an item 0 stands past the last method; another is one more than its block.
-use mathlib.Core.Path.{ap, ◌∙◌}
+-- An item 0 stands past the last method; another is one more than its block.
+use mathlib.Core.Path.{refl, ap, ◌∙◌}
 use mathlib.Core.Bool.{not}
 use Rattle.rules.specs.Script.{method, kind_at}
 use Rattle.reader.proofs.Links.{no_method, no_such_method, method_named}
@@ -18,6 +18,6 @@ returns c =
     let a = c.args in
     record {
       is = λ P table e h.
-          ap not (c.is_sort.ensures.is P method table e c.number.ensures)
+          ap not (c.is_sort.ensures.is P method table e refl)
           ∙ method_named (no_method P) (kind_at P a.n).methods a.i c.kind_method-item.result (c.kind_method-item.ensures.kind_method.is P table.counts table.rest table.filled h) c.if-item-eq0.false;
     }

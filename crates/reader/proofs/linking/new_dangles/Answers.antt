@@ -10,8 +10,8 @@ use Rattle.std.proofs.lemmas.Iterator.Consumers.{YieldsList-from_filter, count_f
 use Rattle.reader.proofs.Links.{counted, kind_missing, operands_told}
 use Rattle.reader.proofs.linking.new_dangles.Goals as goal
 
-pub returns-then-kinds-kind : goal.returns-then-kinds-kind
-returns-then-kinds-kind c = kind_missing c.line_word-kind.ensures.line_word c.if-kinds-kind.true
+pub returns-then-counts-kind : goal.returns-then-counts-kind
+returns-then-counts-kind c = kind_missing c.line_word-kind.ensures.line_word c.if-counts-kind.true
 
 pub returns : goal.returns
 returns c =
@@ -20,4 +20,4 @@ returns c =
     count_from_yields_List c.filter.result c.count-operands.result c.count-operands.ensures.ran
     (YieldsList-from_filter _ (λ k. not (eqb (get_or a.t.now (72 + a.n * 8 + k) 0) 0)) (YieldsList-from_range 3 7 4 c.filter.ensures.source refl)
     c.filter.ensures.closure (λ k b q made. search (rules, tests))) in
-    rw operands (operands_told c.line_word-kind.ensures.line_word c.if-kinds-kind.false c.kind_fields.ensures.kind_fields)
+    rw operands (operands_told c.line_word-kind.ensures.line_word c.if-counts-kind.false c.kind_fields.ensures.kind_fields)

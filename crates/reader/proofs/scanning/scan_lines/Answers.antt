@@ -3,7 +3,7 @@ use native.Mathlib.Omega.{arith}
 use Prim.Native.Nat.{ℕ, ◌+◌}
 use mathlib.Core.Path.{ap, ◌∙◌}
 use Rattle.rules.specs.Numbers.{number}
-use Rattle.reader.proofs.Scan.{at_start, at_end, unfit_line, refused_line, passes, few_lines, small, room, further, next_line}
+use Rattle.reader.proofs.Scan.{at_start, at_end, unfit_line, refused_line, passes, few_lines, few_counts, small, room, further, next_line}
 use Rattle.reader.proofs.scanning.scan_lines.Goals as goal
 
 pub loop-at-init : goal.loop-at-init
@@ -42,6 +42,9 @@ loop-at-preserved c =
 
 pub overflow_add-n-2 : goal.overflow_add-n-2
 overflow_add-n-2 c = omega (arith, few_lines c.loop-at.invariant)
+
+pub finish-requires : goal.finish-requires
+finish-requires c = few_counts c.loop-at.invariant
 
 pub returns : goal.returns
 returns c = at_end c.loop-at.invariant c.loop-at-test.false (rw c.lines_before-before.ensures.value at c.finish.ensures)
