@@ -26,7 +26,9 @@ use Rattle.table.specs.ProgramTable.{Same, same_words}
 use Rattle.table.specs.StateTable.{Held, Becomes}
 use Rattle.table.proofs.ProgramTable.{same_words_same, same_is}
 use Rattle.table.proofs.StateTable.{recounted}
-use Rattle.run.specs.declared.Answer.{Answer}
+use Rattle.std.specs.Prelude.{Result}
+use Rattle.rules.specs.declared.faults.Refusal.{Refusal}
+use Rattle.run.specs.declared.Outcome.{Outcome}
 use Rattle.run.specs.Made.{Holds}
 use Rattle.run.specs.Reached.{going}
 use Rattle.tally.specs.Fates.{played_from, played}
@@ -97,7 +99,7 @@ unfolding guards_change_nothing
 condition_holds P turns = rw (same_tables_played P turns) (same_words_same (state_words (run mosts (strip P) (take (played mosts P turns) turns)).state))
 
 -- on the tables of both runs: erased and compared, they tell it
-pub condition_told : {P : Program} {turns p s p₁ s₁ erased : List ℕ} {a b : Answer} {r : Bool} → Holds P turns a p s
+pub condition_told : {P : Program} {turns p s p₁ s₁ erased : List ℕ} {a b : Result Outcome Refusal} {r : Bool} → Holds P turns a p s
     → Holds (strip P) (take (played mosts P turns) turns) b p₁ s₁
     → Becomes s (λ S. length S.objects ≤ mosts.objects) erase erased → Same erased s₁ r → r ≡ guards_change_nothing P turns
 unfolding guards_change_nothing

@@ -3,85 +3,70 @@ use Prim.Native.Nat.{ℕ, ◌≤◌, ◌<◌}
 use native.Mathlib.Omega.{arith}
 use mathlib.Core.Path.{◌≡◌, refl, sym, subst}
 use mathlib.Core.Bool.{false}
-use mathlib.Core.List.{List}
-use lib.ListN.{length, take, drop}
-use lib.Seq.{length-take-le}
-use borrow.Author.Tests.{lt-ltb}
+use mathlib.Core.List.{List, ◌++◌}
+use lib.ListN.{length, drop}
+use lib.Seq.{drop-append_seam}
+use Rattle.std.specs.Prelude.{Result, Ok, Err}
+use Rattle.std.specs.Borrow.{Bor, MutBor}
+use Rattle.rules.specs.declared.faults.Fault.TheVariants as F
+use Rattle.rules.specs.declared.faults.Refusal.{Refusal}
 use Rattle.rules.specs.Mosts as Most
 use Rattle.rules.specs.Mosts.{mosts}
-use Rattle.rules.specs.Numbers as No
-use Rattle.rules.specs.Reading.{turned_away, reading}
-use Rattle.rules.specs.Run.{refused}
-use Rattle.rules.specs.Calls.{long_text, long_turns, inputs}
-use Rattle.rules.specs.Listing.{answer_line}
-use Rattle.rules.proofs.ListLaws.{by_bool}
+use Rattle.rules.specs.Reading.{Reading, reading}
+use Rattle.rules.specs.Calls.{long_text, inputs}
 use Rattle.table.specs.ProgramTable.{fresh_table}
 use Rattle.table.specs.StrippedTables.{Strips}
-use Rattle.reader.specs.declared.Answer as Reader
-use Rattle.reader.specs.declared.Answer.TheVariants.{Read, Refused}
 use Rattle.reader.specs.ReadAnswers.{Makes}
 use Rattle.reader.proofs.Outcome.{refused_is}
 use Rattle.run.proofs.Answering.{as_read}
-use Rattle.listing.specs.declared.Printed.{Printed}
-use Rattle.listing.specs.declared.Printed.TheVariants as P
-use Rattle.listing.specs.Outputs.{printed_of, output_after}
-use Rattle.replay.specs.declared.Parts.{Parts}
-use Rattle.replay.specs.declared.Parts.TheVariants.{Away, Fault, Turns}
-use Rattle.replay.specs.Given.{Given, told_of, Splits}
-use Rattle.replay.proofs.GivenLaws.{given_told, parts_fit}
-use Rattle.stripping.specs.StrippedTexts.{SaysAgain, StrippedText, StrippedGiven, Prints, PrintsStripped}
-use Rattle.stripping.proofs.StrippedRead.{read_stripped}
-use Rattle.stripping.proofs.StrippedPrints.{prints_line}
-
--- what a call prints of a refusal
-abbrev pub Refuses : (number line : ℕ) → (output : List ℕ) → Printed → (output₁ : List ℕ) → Type 0
-Refuses k n output r output₁ = (r ≡ printed_of (answer_line (refused k n)) output) × (output₁ ≡ output_after (answer_line (refused k n)) output)
+use Rattle.replay.specs.Given.{Given, away, faulty, given, given_of}
+use Rattle.replay.specs.Printing.{Tells, PrintsParts}
+use Rattle.replay.proofs.JobLaws.{Such, such_printed}
+use Rattle.stripping.specs.StrippedTexts.{SaysAgain, StrippedText, StrippedGiven, Says, PrintsStripped}
+use Rattle.stripping.proofs.StrippedRead.{long_away, read_stripped}
+use Rattle.stripping.proofs.StrippedPrints.{says_refusal}
 
 -- ---- A script and a list of turns
 
-long_away : (text turns : List ℕ) → Most.turns < length turns → inputs mosts text turns false ≡ turned_away No.overlong 0
-unfolding inputs reading long_turns
-long_away text turns h = rw (lt-ltb _ _ h) (by_bool (long_text text) (λ t. rw t) (λ t. rw t))
+module _ (text turns last : List ℕ) {output output₁ : List ℕ} where
+  pub says_long : {e : Refusal} → Most.turns < length turns → e.fault ≡ F.Overlong → e.line ≡ 0 → output₁ ≡ output
+      → Says (StrippedText (inputs mosts text turns false) last) output (Err e) output₁
+  says_long h why line same = rw (long_away text turns h) (says_refusal (rw why refl) line same refl)
 
-module _ (text turns last : List ℕ) {output output₁ : List ℕ} {r : Printed} (room : Most.input ≤ length output) where
-  pub prints_long : Most.turns < length turns → Refuses No.overlong 0 output r output₁ → Prints (StrippedText (inputs mosts text turns false) last) output r output₁
-  prints_long h told = rw (long_away text turns h) (prints_line (answer_line (refused No.overlong 0)) refl room told)
+  module _ (few : length turns ≤ Most.turns) {p p₁ : List ℕ} {x : Result Unit Refusal} (fresh : p ≡ fresh_table) (read : Makes text false p x p₁) where
+    pub says_away : {e : Refusal} → x ≡ Err e → output₁ ≡ output → Says (StrippedText (inputs mosts text turns false) last) output (Err e) output₁
+    says_away is same =
+        rw (as_read text turns false few, refused_is (reading mosts (long_text text) false text) p₁ (read.makes fresh) is) (says_refusal refl refl same refl)
 
-  module _ (few : length turns ≤ Most.turns) {p p₁ : List ℕ} {x : Reader.Answer} (fresh : p ≡ fresh_table) (read : Makes text false p x p₁) where
-    pub prints_away : {k n : ℕ} → x ≡ Refused k n → Refuses k n output r output₁ → Prints (StrippedText (inputs mosts text turns false) last) output r output₁
-    prints_away {k} {n} is told =
-        rw (as_read text turns false few, refused_is (reading mosts (long_text text) false text) p₁ (read.makes fresh) is)
-        (prints_line (answer_line (refused k n)) refl room told)
-
-    pub prints_script : {p₂ : List ℕ} → x ≡ Read → Strips p₁ p₂ → Prints (SaysAgain p₂ last) output r output₁
-        → Prints (StrippedText (inputs mosts text turns false) last) output r output₁
-    prints_script is strips prints =
+    pub says_script : {u : Unit {0}} {p₂ : List ℕ} {r : Result ℕ Refusal} → x ≡ Ok u → Strips p₁ p₂ → Says (SaysAgain p₂ last) output r output₁
+        → Says (StrippedText (inputs mosts text turns false) last) output r output₁
+    says_script {r = r} is strips says =
         let of = read_stripped text turns few read fresh is strips in
-        rw of.is (subst (λ (t : List ℕ). Prints (SaysAgain t last) output r output₁) of.words prints)
+        rw of.is (subst (λ (t : List ℕ). Says (SaysAgain t last) output r output₁) of.words says)
 
 -- ---- An input
 
-pub prints_short : (input output : List ℕ) → length output < Most.input → PrintsStripped input output (P.Refused No.short_table 0) output
-prints_short input output short = record { short = λ _. (refl, refl); prints = λ long. absurd (omega (arith, short, long)) }
+rest_of : (text last input : List ℕ) → text ++ last ≡ input → last ≡ drop (length text) input
+rest_of text last input whole = rw (← whole) (sym (drop-append_seam text last))
 
-module _ {input list list₁ output output₁ : List ℕ} {parts : Parts} {r : Printed} (splits : Splits input list parts list₁) (long : Most.turns ≤ length list)
-    (room : Most.input ≤ length output) where
-  by_parts : (x : Parts) → parts ≡ x → Prints (StrippedGiven input (told_of x input list₁)) output r output₁ → PrintsStripped input output r output₁
-  by_parts x is prints =
-      record {
-        short = λ few. absurd (omega (arith, room, few));
-        prints = λ _. subst (λ (g : Given). Prints (StrippedGiven input g) output r output₁) (sym (given_told splits long x is)) prints;
-      }
+says_rest : (C : Reading) (text last input : List ℕ) {output output₁ : List ℕ} {q : Result ℕ Refusal} → text ++ last ≡ input → Says (StrippedText C last) output q output₁
+    → (t : List ℕ) × StrippedText C (drop (length text) input) t × Tells t output q output₁
+says_rest C text last input whole says = (says.text, subst (λ (x : List ℕ). StrippedText C x says.text) (rest_of text last input whole) says.such, says.tells)
 
-  pub away_printed : {k : ℕ} → parts ≡ Away k → Refuses k 0 output r output₁ → PrintsStripped input output r output₁
-  away_printed {k} is told = by_parts (Away k) is (prints_line (answer_line (refused k 0)) refl room told)
+such_given : (input text : List ℕ) (x : Given) → Such (λ t ts. StrippedText (inputs mosts t ts false) (drop (length t) input)) x text → StrippedGiven input x text
+such_given input text (away k) such = such
+such_given input text (faulty t k n) such = such
+such_given input text (given t ts) such = such
 
-  pub fault_printed : {at k n : ℕ} → parts ≡ Fault at k n → Refuses k n output r output₁ → PrintsStripped input output r output₁
-  fault_printed {at} {k} {n} is told = by_parts (Fault at k n) is (prints_line (answer_line (refused k n)) refl room told)
-
-  pub script_printed : {at n : ℕ} → parts ≡ Turns at n → Prints (StrippedText (inputs mosts (take at input) (take n list₁) false) (drop at input)) output r output₁
-      → PrintsStripped input output r output₁
-  script_printed {at} {n} is prints =
-      let cut = length-take-le at input (parts_fit splits is).0 in
-      by_parts (Turns at n) is
-      (subst (λ (i : ℕ). Prints (StrippedText (inputs mosts (take at input) (take n list₁) false) (drop i input)) output r output₁) (sym cut) prints)
+module _ {post : Bor (List ℕ) → Bor (List ℕ) → Bor (List ℕ) → MutBor (List ℕ) → Result ℕ Refusal → MutBor (List ℕ) → Type 0} {input output output₁ : List ℕ}
+    {r : Result ℕ Refusal} where
+  pub prints_stripped : PrintsParts post input Most.input output r output₁
+      → ((text turns last : Bor (List ℕ)) (lent : MutBor (List ℕ)) (q : Result ℕ Refusal) (left : MutBor (List ℕ)) → post text turns last lent q left
+      → Says (StrippedText (inputs mosts text.now turns.now false) last.now) lent.now q left.now) → PrintsStripped input output r output₁
+  prints_stripped prints job = record {
+    short = λ short. prints.short short;
+    prints = λ wide.
+        let printed = such_printed prints (omega arith) (λ t ts. StrippedText (inputs mosts t ts false) (drop (length t) input))
+            (λ text turns last lent q left p g l f w. says_rest (inputs mosts text.now turns.now false) text.now last.now input l (job text turns last lent q left p)) wide in
+        record { text = printed.text; such = such_given input printed.text (given_of input) printed.such; answers = printed.answers; leaves = printed.leaves };
+  }

@@ -1,5 +1,5 @@
 -- The stripped script as a text: what is printed of an input of boxrun is again one, or the line of a refusal.
-use Rattle.std.specs.Prelude.{ℕ, ◌+◌, ◌≤◌, ◌<◌, ◌≡◌, false, List, ◌++◌, length, drop}
+use Rattle.std.specs.Prelude.{ℕ, ◌+◌, ◌≤◌, ◌<◌, ◌≡◌, false, List, ◌++◌, length, drop, Result, Ok, Err}
 use Rattle.rules.specs.Mosts as Most
 use Rattle.rules.specs.Mosts.{mosts}
 use Rattle.rules.specs.Numbers as No
@@ -10,9 +10,10 @@ use Rattle.rules.specs.Tables.{program_words}
 use Rattle.rules.specs.Calls.{inputs}
 use Rattle.rules.specs.Writer.{ReadsTo, NoneReadsTo}
 use Rattle.rules.specs.Listing.{answer_line}
-use Rattle.listing.specs.declared.Printed.{Printed}
-use Rattle.listing.specs.declared.Printed.TheVariants.{Refused, Written}
+use Rattle.rules.specs.declared.faults.Refusal.{Refusal}
+use Rattle.listing.specs.Outputs.{short_refusal}
 use Rattle.replay.specs.Given.{Given, away, faulty, given, given_of}
+use Rattle.replay.specs.Printing.{Tells}
 
 -- ---- The text
 
@@ -41,14 +42,20 @@ StrippedInput input text = StrippedGiven input (given_of input) text
 
 -- ---- In a lent output
 
--- it holds a text of which Q holds, and past it what it held
-pub record Prints (Q : List ℕ → Type 0) (output : List ℕ) (r : Printed) (output₁ : List ℕ) : Type 0 where
+-- a text of which Q holds is written and counted, or is the line of the refusal that is answered
+pub record Says (Q : List ℕ → Type 0) (output : List ℕ) (r : Result ℕ Refusal) (output₁ : List ℕ) : Type 0 where
   pub text : List ℕ
   pub such : Q text
-  pub answers : r ≡ Written (length text)
+  pub tells : Tells text output r output₁
+
+-- it holds a text of which Q holds, and past it what it held
+pub record Prints (Q : List ℕ → Type 0) (output : List ℕ) (r : Result ℕ Refusal) (output₁ : List ℕ) : Type 0 where
+  pub text : List ℕ
+  pub such : Q text
+  pub answers : r ≡ Ok (length text)
   pub leaves : output₁ ≡ text ++ drop (length text) output
 
-pub record PrintsStripped (input output : List ℕ) (r : Printed) (output₁ : List ℕ) : Type 0 where
+pub record PrintsStripped (input output : List ℕ) (r : Result ℕ Refusal) (output₁ : List ℕ) : Type 0 where
   -- "9 short table: a lent table or list under its length": under as many bytes as an input may have
-  pub short : length output < Most.input → (r ≡ Refused No.short_table 0) × (output₁ ≡ output)
+  pub short : length output < Most.input → (r ≡ Err short_refusal) × (output₁ ≡ output)
   pub prints : Most.input ≤ length output → Prints (StrippedInput input) output r output₁
