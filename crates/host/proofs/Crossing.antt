@@ -1,7 +1,7 @@
 -- What the lower crates answer and leave, as the numbers and bytes that cross.
 use Prim.Native.Nat.{ℕ, ◌*◌, ◌≤◌, ◌<◌}
 use mathlib.Core.Path.{◌≡◌, refl, sym, ap, ◌∙◌, subst}
-use mathlib.Core.Bool.{Bool, true, false, ◌||◌}
+use mathlib.Core.Bool.{Bool, false, ◌||◌}
 use mathlib.Core.List.{List, [], ◌∷◌, ◌++◌, append-nil}
 use native.Mathlib.Omega.{arith}
 use lib.Dec.{ltb}
@@ -10,13 +10,16 @@ use lib.Seq.{take_at, take_all}
 use borrow.Author.Tests.{lt-ltb, ltb-false}
 use Rattle.rules.specs.Mosts as Most
 use Rattle.rules.specs.Mosts.{mosts}
+use Rattle.std.specs.Prelude.{Result, Ok, Err}
+use Rattle.rules.specs.declared.faults.Fault.{Fault}
+use Rattle.rules.specs.declared.faults.Refusal.{Refusal}
 use Rattle.rules.specs.Numbers as No
+use Rattle.rules.specs.Numbers.{number}
 use Rattle.rules.specs.Lists.{pad}
 use Rattle.rules.specs.Script.{Program, lines_of}
 use Rattle.rules.specs.Valid.{Valid}
 use Rattle.rules.specs.Reading.{Reading, turned_away, accepted}
-use Rattle.rules.specs.Run as R
-use Rattle.rules.specs.Run.{run, answer}
+use Rattle.rules.specs.Run.{run}
 use Rattle.rules.specs.Tables.{edition_word, program_words, state_words}
 use Rattle.rules.specs.Calls.{short_table, inputs, run_answer, Report, unreported, reached, report_on, reach_report, list_words, list_after}
 use Rattle.rules.specs.Writer.{refused, WriteCall}
@@ -28,22 +31,17 @@ use Rattle.rules.proofs.Writer.{write_call_by_front}
 use Rattle.table.specs.ProgramTable.{fresh_table, Filled, UsedWords}
 use Rattle.table.proofs.ProgramTable.{program_words_by_lines}
 use Rattle.table.proofs.ProgramLines.{blocks_of_lines}
-use Rattle.reader.specs.declared.Answer as Reader
-use Rattle.reader.specs.declared.Answer.TheVariants.{Read, Refused}
 use Rattle.reader.specs.ReadAnswers as ReadAnswers
 use Rattle.reader.proofs.Outcome as Reads
-use Rattle.writer.specs.declared.Answer as Written
 use Rattle.writer.specs.WriteAnswers as Writer
-use Rattle.run.specs.declared.Answer.{Answer}
-use Rattle.run.specs.declared.Answer.TheVariants as A
-use Rattle.run.specs.RunAnswers.{answer_of, is_refusal, Tells}
+use Rattle.run.specs.declared.Outcome.{Outcome}
+use Rattle.run.specs.RunAnswers.{Tells}
 use Rattle.run.specs.Made.{Made, Makes}
-use Rattle.run.proofs.AnswerTells.{IsMade, made_is, refused_is, refusal_is, answers_are}
-use Rattle.reach.specs.declared.Report as Reached
-use Rattle.reach.specs.declared.Report.TheVariants as T
-use Rattle.reach.specs.Reported.{report_of, ReportsState}
+use Rattle.run.proofs.AnswerTells.{IsMade, made_is, refused_is, answers_are}
+use Rattle.reach.specs.Reported as Reach
+use Rattle.reach.specs.Reported.{ReportsState}
 use Rattle.host.specs.Bytes.{bytes_of, bytes_after, words_of}
-use Rattle.host.specs.ByteCalls.{short_bytes, table_after, read_bytes, HasRead, lent_bytes, ran_words, Stores, TellsAnswer, Demand3, run_bytes, HasRun, report_line, Reports, reach_bytes, HasReported, write_number, write_length, WritesBytes}
+use Rattle.host.specs.ByteCalls.{short_bytes, table_after, read_bytes, HasRead, lent_bytes, ran_words, Stores, TellsAnswer, CountInNumbers, Demand3, run_bytes, HasRun, report_number, report_count, report_line, list_bytes, reach_bytes, HasListed, HasReported, write_number, write_length, WritesBytes}
 use Rattle.host.proofs.Stored.{bytes_length, stored}
 use Rattle.host.proofs.Loaded.{short_words, long_words}
 
@@ -62,15 +60,15 @@ program_stored P valid {w} n program written used kept =
 
 -- ---- Reading
 
-module _ (text program : List ℕ) {r : Reader.Answer} {w : List ℕ} (made : ReadAnswers.Makes text (ltb (length program) (2 * Most.words)) (replicate 8192 0) r w) where
+module _ (text program : List ℕ) {r : Result Unit Refusal} {w : List ℕ} (made : ReadAnswers.Makes text (ltb (length program) (2 * Most.words)) (replicate 8192 0) r w) where
   by_bytes : ReadAnswers.Made (read_bytes text program) r w
   unfolding read_bytes short_bytes fresh_table
   by_bytes = made.makes refl
 
-  pub read_refused : {k n : ℕ} → r ≡ Refused k n → HasRead (read_bytes text program) program k n program
+  pub read_refused : {e : Refusal} → r ≡ Err e → HasRead (read_bytes text program) program (number e.fault) e.line program
   read_refused is = rw (Reads.refused_is (read_bytes text program) w by_bytes is) (record { number_is = refl; line_is = refl; program_is = refl })
 
-  module _ (is : r ≡ Read) where
+  module _ {u : Unit {0}} (is : r ≡ Ok u) where
     read_one : Reads.IsRead (read_bytes text program) w
     read_one = Reads.read_is (read_bytes text program) by_bytes is
 
@@ -88,18 +86,21 @@ module _ (text program : List ℕ) {r : Reader.Answer} {w : List ℕ} (made : Re
 
 -- ---- Running
 
-module _ (text turns program state : List ℕ) (short : Bool) {r : Answer} {p₀ s₀ p s : List ℕ} (p-fresh : p₀ ≡ fresh_table) (s-fresh : s₀ ≡ fresh_table)
+module _ (text turns program state : List ℕ) (short : Bool) {r : Result Outcome Refusal} {p₀ s₀ p s : List ℕ} (p-fresh : p₀ ≡ fresh_table) (s-fresh : s₀ ≡ fresh_table)
     (made : Makes text turns (ltb (length program) (2 * Most.words) || (ltb (length state) (2 * Most.words) || short)) p₀ s₀ r p s) where
   by_lent : Made (lent_bytes text turns program state short) turns r p s
   unfolding lent_bytes short_bytes
   by_lent = made.makes p-fresh s-fresh
 
-  pub stores_none : is_refusal r ≡ true → Stores (lent_bytes text turns program state short) turns program state r p s program state
-  stores_none e =
-      let away = refused_is turns p s (lent_bytes text turns program state short) by_lent e in
-      rw away.is (record { made = away.answer; program_is = refl; state_is = refl })
+  made_as : {y : Result Outcome Refusal} → r ≡ y → Made (lent_bytes text turns program state short) turns y p s
+  made_as is = subst (λ (y : Result Outcome Refusal). Made (lent_bytes text turns program state short) turns y p s) is by_lent
 
-  module _ (e : is_refusal r ≡ false) where
+  pub stores_none : {e : Refusal} → r ≡ Err e → Stores (lent_bytes text turns program state short) turns program state (Err e) p s program state
+  stores_none is =
+      let away = refused_is turns p s (lent_bytes text turns program state short) by_lent is in
+      record { made = made_as is; program_is = rw away refl; state_is = rw away refl }
+
+  module _ {x : Outcome} (e : r ≡ Ok x) where
     one : IsMade (lent_bytes text turns program state short) turns r p s
     one = made_is turns p s (lent_bytes text turns program state short) by_lent e
 
@@ -118,15 +119,15 @@ module _ (text turns program state : List ℕ) (short : Bool) {r : Answer} {p₀
         )
 
     pub stores_both : {program₁ state₁ : List ℕ} (n : ℕ) → UsedWords p n → program₁ ≡ bytes_after Most.words (pad Most.words 0 (take n p)) program → state₁ ≡ bytes_after (length s) s state
-        → Stores (lent_bytes text turns program state short) turns program state r p s program₁ state₁
+        → Stores (lent_bytes text turns program state short) turns program state (Ok x) p s program₁ state₁
     unfolding ran_words
     stores_both n used program-kept state-kept =
         let P = one.program in
-        rw one.is (record {
-          made = one.holds;
-          program_is = program_stored P one.holds.valid n program one.holds.program_words_are used program-kept;
-          state_is = stored Most.words state (state_words_length (run mosts P turns).state) one.holds.state_words_are state-kept;
-        })
+        record {
+          made = made_as e;
+          program_is = rw one.is (program_stored P one.holds.valid n program one.holds.program_words_are used program-kept);
+          state_is = rw one.is (stored Most.words state (state_words_length (run mosts P turns).state) one.holds.state_words_are state-kept);
+        }
 
 -- demand 3 of what was answered and left
 guarded : (C : Reading) (turns : List ℕ) {end number thread block line moves : ℕ} (state : List ℕ) {s : List ℕ}
@@ -144,13 +145,13 @@ guarded (accepted P) turns state tells state_is =
       matches = stripped_matches mosts P turns;
     }
 
-pub has_run : (text turns program state : List ℕ) {r : Answer} {p s program₁ state₁ : List ℕ} {end number thread block line moves : ℕ}
+pub has_run : (text turns program state : List ℕ) {r : Result Outcome Refusal} {p s program₁ state₁ : List ℕ} {end number thread block line moves : ℕ}
     → Stores (lent_bytes text turns program state false) turns program state r p s program₁ state₁ → TellsAnswer r end number thread block line moves
     → HasRun (run_bytes text turns program state) turns program state end number thread block line moves program₁ state₁
 unfolding run_bytes
-has_run text turns program state {p = p} {s = s} stores told =
+has_run text turns program state {r = r} {p = p} {s = s} stores told =
     let C = lent_bytes text turns program state false in
-    let tells = told.tells (run_answer mosts turns C) (answers_are turns p s C stores.made) in
+    let tells = rw (answers_are turns p s r C stores.made) at told in
     record {
       answers = tells;
       program_is = stores.program_is;
@@ -158,64 +159,47 @@ has_run text turns program state {p = p} {s = s} stores told =
       demand_3 = guarded C turns state tells stores.state_is;
     }
 
--- ---- The answer by its numbers
-
-abbrev TellsBy : R.Answer → Answer → Type 0
-TellsBy a (A.Finished m) = Tells a 0 0 0 0 0 m
-TellsBy a (A.Stuck m) = Tells a 1 0 0 0 0 m
-TellsBy a (A.Open m) = Tells a 2 0 0 0 0 m
-TellsBy a (A.Stopped k t b l m) = Tells a 3 k t b l m
-TellsBy a (A.Refused k n) = Tells a 4 k 0 0 n 0
-
-tells : (a : R.Answer) → TellsBy a (answer_of a)
-tells (R.refused k n) = record { end_is = refl; number_is = refl; thread_is = refl; block_is = refl; line_is = refl; moves_is = refl }
-tells (R.ended R.finished m) = record { end_is = refl; number_is = refl; thread_is = refl; block_is = refl; line_is = refl; moves_is = refl }
-tells (R.ended R.stuck m) = record { end_is = refl; number_is = refl; thread_is = refl; block_is = refl; line_is = refl; moves_is = refl }
-tells (R.ended R.open_end m) = record { end_is = refl; number_is = refl; thread_is = refl; block_is = refl; line_is = refl; moves_is = refl }
-tells (R.halted k t b l m) = record { end_is = refl; number_is = refl; thread_is = refl; block_is = refl; line_is = refl; moves_is = refl }
-
-pub tells_answer : (a : R.Answer) {r x : Answer} → r ≡ x → r ≡ answer_of a → TellsBy a x
-tells_answer a is e = subst (TellsBy a) (sym e ∙ is) (tells a)
-
 -- ---- Reporting
 
--- what is reported on the box's own tables and list: nothing is listed, or what is listed is stored
-told_refused : (R : Report) {x : Reached.Report} {k n : ℕ} (list : List ℕ) → x ≡ report_of R → x ≡ T.Refused k n → Reports R list k 0 n list
-told_refused (unreported i j) list e is = let both = sym e ∙ is in record { number_is = cc; count_is = refl; line_is = cc; list_is = refl }
-told_refused (reached objects) list e is = let both = sym e ∙ is in impossible cc
+-- the report, told in numbers
+reported : (R : Report) (y : Result ℕ Refusal) {k n l : ℕ} → Reach.Answers R y → CountInNumbers y k n l
+    → (k ≡ report_number R) × (n ≡ report_count R) × (l ≡ report_line R)
+reported (unreported i j) y {k = k} {n = n} {l = l} away told =
+    let so = subst (λ (y : Result ℕ Refusal). CountInNumbers y k n l) away.is told in
+    (so.0 ∙ away.number_is, so.1, so.2 ∙ away.line_is)
+reported (reached objects) y {k = k} {n = n} {l = l} is told = subst (λ (y : Result ℕ Refusal). CountInNumbers y k n l) is told
 
-told_reached : (R : Report) {x : Reached.Report} {c : ℕ} (l list : List ℕ) {list₁ : List ℕ} → x ≡ report_of R → l ≡ list_after R (replicate 256 0) → x ≡ T.Reached c
-    → list₁ ≡ bytes_after (length l) l list → Reports R list 0 c 0 list₁
-told_reached (unreported i j) l list e written is kept = let both = sym e ∙ is in impossible cc
-told_reached (reached objects) l list e written is kept =
-    let both = sym e ∙ is in
+-- what is reported on the box's own tables and list: nothing is listed, or what is listed is stored
+list_kept : (R : Report) (y : Result ℕ Refusal) {e : Refusal} (list : List ℕ) → Reach.Answers R y → y ≡ Err e → list ≡ list_bytes R list
+list_kept (unreported i j) y list away is = refl
+list_kept (reached objects) y list told is = let both = sym told ∙ is in impossible cc
+
+list_stored : (R : Report) (y : Result ℕ Refusal) {c : ℕ} (l list : List ℕ) {list₁ : List ℕ} → Reach.Answers R y → l ≡ list_after R (replicate 256 0) → y ≡ Ok c
+    → list₁ ≡ bytes_after (length l) l list → list₁ ≡ list_bytes R list
+list_stored (unreported i j) y l list away written is kept = let both = sym away.is ∙ is in impossible cc
+list_stored (reached objects) y l list told written is kept =
     let zero_word : ℕ = 0 in
     let none : drop 256 (replicate 256 zero_word) ≡ [] = drop_of_length-le (replicate 256 zero_word) {i = 256} (rw (length-replicate 256 zero_word) (omega arith)) in
     let words : l ≡ list_words objects = written ∙ ap (list_words objects ++◌) none ∙ append-nil (list_words objects) in
-    record {
-      number_is = refl;
-      count_is = cc;
-      line_is = refl;
-      list_is = stored Most.reach_list list (length_pad Most.reach_list 0 objects) words kept;
-    }
+    stored Most.reach_list list (length_pad Most.reach_list 0 objects) words kept
 
-module _ (text turns program state list : List ℕ) (t : ℕ) {r : Answer} {p s program₁ state₁ : List ℕ}
+module _ (text turns program state list : List ℕ) (t : ℕ) {r : Result Outcome Refusal} {p s program₁ state₁ : List ℕ}
     (stores : Stores (lent_bytes text turns program state (ltb (length list) (2 * Most.reach_list))) turns program state r p s program₁ state₁) where
   by_reach : Stores (reach_bytes text turns program state list) turns program state r p s program₁ state₁
   unfolding reach_bytes short_bytes
   by_reach = stores
 
-  pub reach_refused : {k n : ℕ} → r ≡ A.Refused k n → HasReported (reach_bytes text turns program state list) turns t program state list k 0 n program₁ state₁ list
-  reach_refused {k} {n} is =
-      let C = reach_bytes text turns program state list in
-      let away : C ≡ turned_away k n = refusal_is turns C (sym is ∙ answers_are turns p s C by_reach.made) in
+  pub reach_refused : {e : Refusal} → r ≡ Err e → HasListed (reach_bytes text turns program state list) turns t program state list (Err e) program₁ state₁ list
+  reach_refused {e} is =
+      let away = refused_is turns p s (reach_bytes text turns program state list) by_reach.made is in
       record {
-        report = subst (λ (x : Reading). Reports (reach_report mosts turns t x) list k 0 n list) (sym away) (record { number_is = refl; count_is = refl; line_is = refl; list_is = refl });
+        answers = rw away (record { refusal = e; is = refl; number_is = refl; line_is = refl });
+        list_is = rw away refl;
         program_is = by_reach.program_is;
         state_is = by_reach.state_is;
       }
 
-  module _ (e : is_refusal r ≡ false) where
+  module _ {x : Outcome} (e : r ≡ Ok x) where
     reach_one : IsMade (reach_bytes text turns program state list) turns r p s
     reach_one = made_is turns p s (reach_bytes text turns program state list) by_reach.made e
 
@@ -226,48 +210,52 @@ module _ (text turns program state list : List ℕ) (t : ℕ) {r : Answer} {p s 
         let others = (or_false (ltb (length program) (2 * Most.words)) _ none_short).1 in
         ltb-false _ _ (or_false (ltb (length state) (2 * Most.words)) _ others).1
 
-    module _ {x : Reached.Report} {l : List ℕ} (reports : ReportsState p s t (replicate 256 0) x l) where
-      on_run : (let S = (run mosts reach_one.program turns).state in
-          (x ≡ report_of (report_on reach_one.program S t (ltb t (length S.threads)))) × (l ≡ list_after (report_on reach_one.program S t (ltb t (length S.threads))) (replicate 256 0)))
+    module _ {y : Result ℕ Refusal} {l : List ℕ} (reports : ReportsState p s t (replicate 256 0) y l) where
+      on_run : (let S = (run mosts reach_one.program turns).state in Reach.Reports (report_on reach_one.program S t (ltb t (length S.threads))) (replicate 256 0) y l)
       on_run =
           let P = reach_one.program in
           let S = (run mosts P turns).state in
           let holds = reach_one.holds in
           let zero_word : ℕ = 0 in
-          let told = reports.reports
+          reports.reports
           (omega (arith, ap length holds.program_words_are, program_words_length P))
           (omega (arith, ap length holds.state_words_are, state_words_length S))
           (rw (length-replicate 256 zero_word) (omega arith))
-          P Most.turns S [] holds.loaded holds.held holds.valid holds.fits in
-          (told.answers, told.leaves)
+          P Most.turns S [] holds.loaded holds.held holds.valid holds.fits
 
-      has_reported : {number count line : ℕ} {list₁ : List ℕ}
-          → (let S = (run mosts reach_one.program turns).state in Reports (report_on reach_one.program S t (ltb t (length S.threads))) list number count line list₁)
-          → HasReported (reach_bytes text turns program state list) turns t program state list number count line program₁ state₁ list₁
-      has_reported {number} {count} {line} {list₁} told = record {
-        report = subst (λ (C : Reading). Reports (reach_report mosts turns t C) list number count line list₁) (sym reach_one.is) told;
+      has_listed : {z : Result ℕ Refusal} {list₁ : List ℕ} → y ≡ z
+          → (let S = (run mosts reach_one.program turns).state in list₁ ≡ list_bytes (report_on reach_one.program S t (ltb t (length S.threads))) list)
+          → HasListed (reach_bytes text turns program state list) turns t program state list z program₁ state₁ list₁
+      has_listed {z} {list₁} is kept = record {
+        answers = subst (λ (C : Reading). Reach.Answers (reach_report mosts turns t C) z) (sym reach_one.is) (rw is at on_run.answers);
+        list_is = subst (λ (C : Reading). list₁ ≡ list_bytes (reach_report mosts turns t C) list) (sym reach_one.is) kept;
         program_is = by_reach.program_is;
         state_is = by_reach.state_is;
       }
 
-      -- 17, which has no line
-      pub reach_no_thread : {k n : ℕ} → x ≡ T.Refused k n → HasReported (reach_bytes text turns program state list) turns t program state list k 0 0 program₁ state₁ list
-      reach_no_thread {k} {n} is =
+      -- 17
+      pub reach_no_thread : {f : Refusal} → y ≡ Err f
+          → HasListed (reach_bytes text turns program state list) turns t program state list (Err f) program₁ state₁ list
+      reach_no_thread is =
           let S = (run mosts reach_one.program turns).state in
-          let R = report_on reach_one.program S t (ltb t (length S.threads)) in
-          let told = told_refused R list on_run.0 is in
-          let none : n ≡ 0 = told.line_is ∙ no_line (ltb t (length S.threads)) in
-          has_reported (subst (λ (m : ℕ). Reports R list k 0 m list) none told)
-        where
-          no_line : (started : Bool) → report_line (report_on reach_one.program (run mosts reach_one.program turns).state t started) ≡ 0
-          no_line true = refl
-          no_line false = refl
+          has_listed is (list_kept (report_on reach_one.program S t (ltb t (length S.threads))) y list on_run.answers is)
 
-      pub reach_done : {c : ℕ} {list₁ : List ℕ} → x ≡ T.Reached c → list₁ ≡ bytes_after (length l) l list
-          → HasReported (reach_bytes text turns program state list) turns t program state list 0 c 0 program₁ state₁ list₁
+      pub reach_done : {c : ℕ} {list₁ : List ℕ} → y ≡ Ok c → list₁ ≡ bytes_after (length l) l list
+          → HasListed (reach_bytes text turns program state list) turns t program state list (Ok c) program₁ state₁ list₁
       reach_done is kept =
           let S = (run mosts reach_one.program turns).state in
-          has_reported (told_reached (report_on reach_one.program S t (ltb t (length S.threads))) l list on_run.0 on_run.1 is kept)
+          has_listed is (list_stored (report_on reach_one.program S t (ltb t (length S.threads))) y l list on_run.answers on_run.leaves is kept)
+
+pub has_reported : {C : Reading} {turns : List ℕ} {t : ℕ} {program state list : List ℕ} {y : Result ℕ Refusal} {program₁ state₁ list₁ : List ℕ} {k n l : ℕ}
+    → HasListed C turns t program state list y program₁ state₁ list₁ → CountInNumbers y k n l
+    → HasReported C turns t program state list k n l program₁ state₁ list₁
+has_reported {C} {turns} {t} {y = y} listed told =
+    let so = reported (reach_report mosts turns t C) y listed.answers told in
+    record {
+      report = record { number_is = so.0; count_is = so.1; line_is = so.2; list_is = listed.list_is };
+      program_is = listed.program_is;
+      state_is = listed.state_is;
+    }
 
 -- ---- Writing
 
@@ -282,14 +270,14 @@ write_early program script short =
     }
 
 -- the words that were loaded are the program table's first
-pub write_done : (program script words after : List ℕ) {r : Written.Answer} (r' : Written.Answer) → 2 * Most.words ≤ length program → words ≡ take Most.words (words_of program)
+pub write_done : (program script words after : List ℕ) {r : Result ℕ Fault} (r' : Result ℕ Fault) → 2 * Most.words ≤ length program → words ≡ take Most.words (words_of program)
     → r ≡ r' → WriteCall mosts words script (Writer.answer_of r) after
     → WritesBytes program script (write_number (Writer.answer_of r')) (write_length (Writer.answer_of r')) after
 write_done program script words after r' room loaded told call =
     record {
       answer = Writer.answer_of r';
       writes = write_call_by_front mosts (words_of program) (long_words Most.words program room) script (Writer.answer_of r') after
-          (subst (λ (l : List ℕ). WriteCall mosts l script (Writer.answer_of r') after) loaded (subst (λ (r : Written.Answer). WriteCall mosts words script (Writer.answer_of r) after) told call));
+          (subst (λ (l : List ℕ). WriteCall mosts l script (Writer.answer_of r') after) loaded (subst (λ (r : Result ℕ Fault). WriteCall mosts words script (Writer.answer_of r) after) told call));
       number_is = refl;
       length_is = refl;
     }

@@ -6,6 +6,7 @@ use native.Mathlib.Omega.{arith}
 use native.Mathlib.Numerals.{add-one}
 use lib.ListN.{length, take, drop, set, get_or}
 use lib.Seq.{append_snoc, drop-cons, drop-length, length-take-le, set_at, take-suc}
+use Rattle.std.specs.Int.{w16, from_le_bytes}
 use Rattle.host.specs.Bytes.{words_of}
 
 -- an odd last byte is no word
@@ -34,6 +35,10 @@ short_words n bytes short = omega (arith, (words_length bytes).0)
 -- enough bytes for n words are at least n words
 pub long_words : (n : ℕ) (bytes : List ℕ) → 2 * n ≤ length bytes → n ≤ length (words_of bytes)
 long_words n bytes long = omega (arith, (words_length bytes).1)
+
+-- the word of two bytes
+pub load_word : (low high : ℕ) {w : ℕ} → w ≡ from_le_bytes w16 (low ∷ high ∷ []) → w ≡ low + 256 * high
+load_word low high is = is ∙ omega arith
 
 -- one word more is loaded
 pub load_next : (w₀ bytes w : List ℕ) (i : ℕ) → i < length w₀ → 2 * length w₀ ≤ length bytes → w ≡ take i (words_of bytes) ++ drop i w₀

@@ -1,7 +1,7 @@
 -- What the search for races answers and leaves, as the numbers and bytes that cross.
 use Prim.Native.Nat.{ℕ, ◌≤◌, ◌<◌}
 use native.Mathlib.Omega.{arith}
-use mathlib.Core.Path.{◌≡◌, refl, sym, ap, ◌∙◌, subst}
+use mathlib.Core.Path.{◌≡◌, refl, sym, ap, subst}
 use mathlib.Core.Bool.{Bool, true, false, ◌||◌}
 use mathlib.Core.List.{List}
 use lib.Dec.{ltb}
@@ -10,18 +10,19 @@ use borrow.Author.Tests.{lt-ltb, le-ltb}
 use Rattle.rules.specs.Mosts as Most
 use Rattle.rules.specs.Mosts.{mosts}
 use Rattle.rules.specs.Numbers as No
-use Rattle.rules.specs.Reading.{Reading, turned_away, reading}
+use Rattle.rules.specs.Reading.{Reading, reading}
 use Rattle.rules.specs.Calls.{long_text, long_turns, inputs}
-use Rattle.rules.specs.Races.{norace, race, Judged, unjudged, judged, judged_of}
+use Rattle.rules.specs.Races.{judged_of}
 use Rattle.rules.proofs.TableWords.{program_words_length}
-use Rattle.run.specs.declared.Answer.{Answer}
-use Rattle.run.specs.declared.Answer.TheVariants as A
-use Rattle.run.specs.RunAnswers.{is_refusal}
-use Rattle.run.proofs.AnswerTells.{made_is, refusal_is, answers_are}
+use Rattle.std.specs.Prelude.{Option, Result, Ok, Err}
+use Rattle.rules.specs.declared.faults.Refusal.{Refusal}
+use Rattle.rules.specs.Numbers.{number}
+use Rattle.rules.specs.Refusals.{Refuses}
+use Rattle.run.specs.declared.Outcome.{Outcome}
+use Rattle.run.proofs.AnswerTells.{made_is, refused_is}
 use Rattle.races.specs.declared.Race.{Race}
-use Rattle.races.specs.declared.Race.TheVariants as T
-use Rattle.races.specs.Judged.{answer_of, Judges}
-use Rattle.host.specs.ByteCalls.{short_bytes, lent_bytes, Stores, race_bytes, HasFound, TellsRace, TellsFound, HasRaced}
+use Rattle.races.specs.Judged.{Answers, Judges}
+use Rattle.host.specs.ByteCalls.{short_bytes, lent_bytes, Stores, race_bytes, HasFound, TellsFound, HasRaced}
 
 or_true : (b : Bool) → (b || true) ≡ true
 or_true true = refl
@@ -35,13 +36,14 @@ or_none false = refl
 
 module _ (text turns program state : List ℕ) where
   -- more turns are refused before all else
-  pub race_overlong : Most.race_turns < length turns → HasFound (race_bytes text turns program state) turns program state (T.Refused No.overlong 0) program state
+  pub race_overlong : {x : Result (Option Race) Refusal} → Most.race_turns < length turns → Refuses x No.overlong 0
+      → HasFound (race_bytes text turns program state) turns program state x program state
   unfolding race_bytes reading
-  race_overlong long =
+  race_overlong long is =
       let long-is : (long_text text || ltb Most.race_turns (length turns)) ≡ true = rw (lt-ltb Most.race_turns (length turns) long) (or_true (long_text text)) in
-      record { answers = rw long-is refl; program_is = rw long-is refl; state_is = rw long-is refl }
+      record { answers = rw long-is is; program_is = rw long-is refl; state_is = rw long-is refl }
 
-  module _ (few : length turns ≤ Most.race_turns) {r : Answer} {p s program₁ state₁ : List ℕ}
+  module _ (few : length turns ≤ Most.race_turns) {r : Result Outcome Refusal} {p s program₁ state₁ : List ℕ}
       (stores : Stores (lent_bytes text turns program state false) turns program state r p s program₁ state₁) where
     -- others are a run's
     same_inputs : lent_bytes text turns program state false ≡ race_bytes text turns program state
@@ -51,44 +53,33 @@ module _ (text turns program state : List ℕ) where
     by_race : Stores (race_bytes text turns program state) turns program state r p s program₁ state₁
     by_race = subst (λ (C : Reading). Stores C turns program state r p s program₁ state₁) same_inputs stores
 
-    found_by : {x : Race} (C : Reading) → race_bytes text turns program state ≡ C → x ≡ answer_of (judged_of mosts turns C)
-        → HasFound (race_bytes text turns program state) turns program state x program₁ state₁
-    found_by {x} C is told = record {
-      answers = subst (λ (D : Reading). x ≡ answer_of (judged_of mosts turns D)) (sym is) told;
-      program_is = by_race.program_is;
-      state_is = by_race.state_is;
-    }
-
     -- the run was turned away
-    pub race_away : {k n : ℕ} → r ≡ A.Refused k n → HasFound (race_bytes text turns program state) turns program state (T.Refused k n) program₁ state₁
-    race_away {k} {n} is =
-        let C = race_bytes text turns program state in
-        found_by (turned_away k n) (refusal_is turns C (sym is ∙ answers_are turns p s C by_race.made)) refl
+    pub race_away : {e : Refusal} → r ≡ Err e → HasFound (race_bytes text turns program state) turns program state (Err e) program₁ state₁
+    race_away {e} is =
+        let away = refused_is turns p s (race_bytes text turns program state) by_race.made is in
+        record {
+          answers = rw away (record { refusal = e; is = refl; number_is = refl; line_is = refl });
+          program_is = by_race.program_is;
+          state_is = by_race.state_is;
+        }
 
     -- the run was made
-    pub race_judged : {x : Race} → is_refusal r ≡ false → Judges p turns x → HasFound (race_bytes text turns program state) turns program state x program₁ state₁
-    race_judged e judges =
+    pub race_judged : {x : Outcome} {y : Result (Option Race) Refusal} → r ≡ Ok x → Judges p turns y
+        → HasFound (race_bytes text turns program state) turns program state y program₁ state₁
+    race_judged {y = y} e judges =
         let one = made_is turns p s (race_bytes text turns program state) by_race.made e in
         let P = one.program in
         let holds = one.holds in
-        found_by _ one.is (judges.judges few (omega (arith, ap length holds.program_words_are, program_words_length P)) P holds.loaded holds.valid)
+        record {
+          answers = subst (λ (C : Reading). Answers (judged_of mosts turns C) y) (sym one.is)
+              (judges.judges few (omega (arith, ap length holds.program_words_are, program_words_length P)) P holds.loaded holds.valid);
+          program_is = by_race.program_is;
+          state_is = by_race.state_is;
+        }
 
--- ---- The answer by its numbers
+-- ---- What is found, told in numbers
 
-abbrev TellsBy : Judged → Race → Type 0
-TellsBy J (T.Refused k n) = TellsRace J k 0 0 0 0 0 n
-TellsBy J T.Absent = TellsRace J 0 0 0 0 0 0 0
-TellsBy J (T.Found i j n f) = TellsRace J 0 1 i j n f 0
-
-tells : (J : Judged) → TellsBy J (answer_of J)
-tells (unjudged k n) = record { number_is = refl; found_is = refl; first_is = refl; second_is = refl; object_is = refl; field_is = refl; line_is = refl }
-tells (judged norace) = record { number_is = refl; found_is = refl; first_is = refl; second_is = refl; object_is = refl; field_is = refl; line_is = refl }
-tells (judged (race i j n f)) = record { number_is = refl; found_is = refl; first_is = refl; second_is = refl; object_is = refl; field_is = refl; line_is = refl }
-
-pub tells_found : (J : Judged) {r x : Race} → r ≡ x → r ≡ answer_of J → TellsBy J x
-tells_found J is e = subst (TellsBy J) (sym e ∙ is) (tells J)
-
-pub has_raced : (text turns program state : List ℕ) {r : Race} {program₁ state₁ : List ℕ} {number found first second object field line : ℕ}
+pub has_raced : (text turns program state : List ℕ) {r : Result (Option Race) Refusal} {program₁ state₁ : List ℕ} {number found first second object field line : ℕ}
     → HasFound (race_bytes text turns program state) turns program state r program₁ state₁ → TellsFound r number found first second object field line
     → HasRaced (race_bytes text turns program state) turns program state number found first second object field line program₁ state₁
 has_raced text turns program state has told = record {

@@ -1,13 +1,19 @@
 -- Words stored as bytes: two bytes a word, each word after the one before it.
-use Prim.Native.Nat.{ℕ, ◌+◌, ◌*◌, ◌/◌, ◌%◌, ◌≤◌, ◌<◌}
+use Prim.Native.Nat.{ℕ, zero, suc, ◌+◌, ◌-◌, ◌*◌, ◌/◌, ◌%◌, ◌≤◌, ◌<◌}
 use mathlib.Core.Path.{◌≡◌, refl, sym, ap, ◌∙◌}
 use mathlib.Core.List.{List, [], ◌∷◌, ◌++◌, append_assoc}
 use native.Mathlib.Omega.{arith}
 use native.Mathlib.Numerals.{add-one}
-use lib.ListN.{length, take, drop, set, get_or, length-append, length-drop, get_or-eq_default}
-use lib.Seq.{set_at, take_at, take_all, take-suc, drop-drop, length-take-le}
+use lib.ListN.{length, take, drop, set, get_or, replicate, length-append, length-drop, length-replicate}
+use lib.Seq.{set_at, take_at, drop_at, take-suc, drop-drop, length-take-le}
+use borrow.Rule.Slice.PartMut.{put_mid}
+use Rattle.std.proofs.lemmas.Slice.{put_mid-paste}
+use Rattle.std.proofs.lemmas.List.{take-replicate}
+use Rattle.std.proofs.lemmas.List.Edits.{paste_all}
+use Rattle.std.specs.Int.{w16, to_le_bytes}
+use Rattle.std.specs.Prelude.{slice_index_or}
 use Rattle.rules.specs.Lists.{pad}
-use Rattle.rules.proofs.ListLaws.{length_pad, pad_front, get_pad}
+use Rattle.rules.proofs.ListLaws.{pad_front}
 use Rattle.host.specs.Bytes.{bytes_of, bytes_after}
 
 bytes_append : (a b : List ℕ) → bytes_of (a ++ b) ≡ bytes_of a ++ bytes_of b
@@ -43,6 +49,14 @@ store_next w t₀ t i h k e =
     twice : 2 * i + 2 ≡ 2 * (i + 1)
     twice = omega arith
 
+-- the two bytes of a word
+module _ (n : ℕ) {bytes : List ℕ} where
+  pub low_byte : bytes ≡ to_le_bytes w16 n → slice_index_or bytes 0 0 ≡ n % 256
+  low_byte is = rw is refl
+
+  pub high_byte : n < 65536 → bytes ≡ to_le_bytes w16 n → slice_index_or bytes 1 0 ≡ n / 256
+  high_byte fits is = rw is (omega arith)
+
 -- n words, stored
 pub stored : (n : ℕ) (t : List ℕ) {words w t₁ : List ℕ} → length words ≡ n → w ≡ words → t₁ ≡ bytes_after (length w) w t → t₁ ≡ bytes_after n words t
 stored n t {words} long written kept =
@@ -50,30 +64,35 @@ stored n t {words} long written kept =
 
 -- ---- Words, and zeros behind them
 
+zero_bytes : (k : ℕ) → bytes_of (replicate k 0) ≡ replicate (2 * k) 0
+unfolding bytes_of
+zero_bytes zero = refl
+zero_bytes (suc k) = let two : 2 * suc k ≡ suc (suc (2 * k)) = omega arith in rw (two, zero_bytes k) refl
+
 module _ (words t₀ : List ℕ) (n : ℕ) (few : n ≤ length words) (room : n ≤ 8192) where
   front_long : length (take n words) ≡ n
   front_long = length-take-le n words few
 
-  used_long : length (pad 8192 0 (take n words)) ≡ 8192
-  used_long = length_pad 8192 0 (take n words)
-
-  -- the words themselves are stored
-  pub used_begun : {t : List ℕ} → t ≡ bytes_after (length (take n words)) (take n words) t₀ → t ≡ bytes_after n (take n (pad 8192 0 (take n words))) t₀
-  used_begun kept =
-      let front : take n (pad 8192 0 (take n words)) ≡ take n words =
-      ap (take n) (pad_front 8192 0 (take n words) (omega (arith, front_long))) ∙ take_at (take n words) _ n front_long in
-      kept ∙ ap (λ (k : ℕ). bytes_after k (take n words) t₀) front_long ∙ ap (λ (l : List ℕ). bytes_after n l t₀) (sym front)
-
-  -- one zero more
-  pub used_next : {t : List ℕ} (i : ℕ) → n ≤ i → i < 8192 → 16384 ≤ length t₀ → t ≡ bytes_after i (take i (pad 8192 0 (take n words))) t₀
-      → set (set t (2 * i) 0) (2 * i + 1) 0 ≡ bytes_after (i + 1) (take (i + 1) (pad 8192 0 (take n words))) t₀
-  used_next {t} i past h long e =
-      let w = pad 8192 0 (take n words) in
-      let zero_word : get_or w i 0 ≡ 0 = get_pad 8192 0 (take n words) i h ∙ get_or-eq_default (take n words) 0 (omega (arith, front_long, past)) in
-      let next = store_next w t₀ t i (omega (arith, used_long, h)) (omega (arith, used_long, long)) e in
-      rw zero_word at next
-
-  pub used_end : {t : List ℕ} (i : ℕ) → i ≡ 8192 → t ≡ bytes_after i (take i (pad 8192 0 (take n words))) t₀ → t ≡ bytes_after 8192 (pad 8192 0 (take n words)) t₀
-  used_end i all e =
-      let w = pad 8192 0 (take n words) in
-      e ∙ ap (λ (k : ℕ). bytes_after k (take k w) t₀) all ∙ ap (λ (l : List ℕ). bytes_after 8192 l t₀) (take_all 8192 w (omega (arith, used_long)))
+  -- the words are stored, and what is behind them in the table is filled with 0
+  pub used_stored : {t m : List ℕ} → 16384 ≤ length t₀ → t ≡ bytes_after (length (take n words)) (take n words) t₀
+      → m ≡ replicate (length (take (16384 - 2 * n) (drop (2 * n) t))) 0 → put_mid (2 * n) (16384 - 2 * n) t m ≡ bytes_after 8192 (pad 8192 0 (take n words)) t₀
+  used_stored {t} {m} long kept filled =
+      let ws = take n words in
+      let rest = 16384 - 2 * n in
+      let begun : t ≡ bytes_of ws ++ drop (2 * n) t₀ = kept ∙ ap (λ (k : ℕ). bytes_of ws ++ drop (2 * k) t₀) front_long in
+      let wide : length (bytes_of ws) ≡ 2 * n = bytes_length ws ∙ ap (λ (k : ℕ). 2 * k) front_long in
+      let front : take (2 * n) t ≡ bytes_of ws = ap (take (2 * n)) begun ∙ take_at (bytes_of ws) (drop (2 * n) t₀) (2 * n) wide in
+      let behind : drop (2 * n) t ≡ drop (2 * n) t₀ = ap (drop (2 * n)) begun ∙ drop_at (bytes_of ws) (drop (2 * n) t₀) (2 * n) wide in
+      let many : length (take rest (drop (2 * n) t)) ≡ rest = length-take-le rest (drop (2 * n) t) (omega (arith, ap length behind, length-drop (2 * n) t₀)) in
+      let made : rest ≡ 2 * (8192 - n) = omega arith in
+      let zeros : m ≡ bytes_of (replicate (8192 - n) 0) = filled ∙ ap (λ (k : ℕ). replicate k 0) (many ∙ made) ∙ sym (zero_bytes (8192 - n)) in
+      let all : length m ≡ rest = ap length filled ∙ length-replicate (length (take rest (drop (2 * n) t))) 0 ∙ many in
+      let place : 2 * n + rest ≡ 2 * 8192 = omega arith in
+      let left : drop (2 * n + rest) t ≡ drop (2 * 8192) t₀ =
+      sym (drop-drop rest (2 * n) t) ∙ ap (drop rest) behind ∙ drop-drop rest (2 * n) t₀ ∙ ap (λ (k : ℕ). drop k t₀) place in
+      let padded : pad 8192 0 ws ≡ ws ++ replicate (8192 - n) 0 =
+      pad_front 8192 0 ws (omega (arith, front_long)) ∙ ap (λ (k : ℕ). ws ++ take (8192 - k) (replicate 8192 0)) front_long
+      ∙ ap (ws ++◌) (take-replicate (8192 - n) 8192 0 (omega arith)) in
+      put_mid-paste (2 * n) rest t m m rest refl refl (sym all) ∙ paste_all t (2 * n) m rest (sym all)
+      ∙ rw (front, left, zeros) (sym (append_assoc (bytes_of ws) (bytes_of (replicate (8192 - n) 0)) (drop (2 * 8192) t₀))
+      ∙ ap (λ (l : List ℕ). l ++ drop (2 * 8192) t₀) (sym (bytes_append ws (replicate (8192 - n) 0)) ∙ ap bytes_of (sym padded)))

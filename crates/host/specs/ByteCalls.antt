@@ -1,10 +1,11 @@
 -- The calls of documents 01 and 02 for a host that lends bytes: the answer as numbers, and every lent byte afterwards.
-use Rattle.std.specs.Prelude.{ℕ, ◌*◌, ◌≡◌, Bool, false, ◌||◌, List, ltb, length, take}
+use Rattle.std.specs.Prelude.{ℕ, ◌*◌, ◌≡◌, Bool, false, ◌||◌, List, ltb, length, take, Option, Result, Ok, Err}
+use Rattle.rules.specs.declared.faults.Refusal.{Refusal}
 use Rattle.rules.specs.Mosts as Most
+use Rattle.rules.specs.Numbers as No
 use Rattle.rules.specs.Mosts.{mosts}
 use Rattle.rules.specs.Script.{Program}
 use Rattle.rules.specs.Reading.{Reading, turned_away, accepted, reading}
-use Rattle.rules.specs.Run as R
 use Rattle.rules.specs.Run.{run, answer}
 use Rattle.rules.specs.Stripped.{Matches}
 use Rattle.rules.specs.Tables.{program_words, state_words}
@@ -14,11 +15,14 @@ use Rattle.rules.specs.Races.{Verdict, norace, race, Judged, unjudged, judged, j
 use Rattle.rules.specs.Writer as Writer
 use Rattle.rules.specs.Writer.{refused, wrote, WriteCall}
 use Rattle.reader.specs.ReadAnswers.{number_of, line_of}
-use Rattle.run.specs.declared.Answer.{Answer}
-use Rattle.run.specs.RunAnswers.{answer_of, Tells}
+use Rattle.run.specs.declared.Outcome.{Outcome}
+use Rattle.run.specs.RunAnswers.{told, Tells}
 use Rattle.run.specs.Made.{Made}
+use Rattle.reach.specs.Reported as Reach
 use Rattle.races.specs.declared.Race.{Race}
 use Rattle.races.specs.Judged as Races
+use Rattle.holders.specs.StoredCounts as Holders
+use Rattle.drawing.specs.Drawings.{Drew}
 use Rattle.host.specs.Bytes.{bytes_of, bytes_after, words_of}
 
 -- "9 short table: a lent table or list under its length", which is n words
@@ -58,17 +62,22 @@ unfoldable pub ran_words : List ℕ → Program → List ℕ
 ran_words turns P = state_words (run mosts P turns).state
 
 -- the run was made in two fresh tables, p and s, and both are stored; or nothing is
-pub record Stores (C : Reading) (turns program state : List ℕ) (r : Answer) (p s program₁ state₁ : List ℕ) : Type 0 where
+pub record Stores (C : Reading) (turns program state : List ℕ) (r : Result Outcome Refusal) (p s program₁ state₁ : List ℕ) : Type 0 where
   pub made : Made C turns r p s
   pub program_is : program₁ ≡ table_after program_words C program
   pub state_is : state₁ ≡ table_after (ran_words turns) C state
 
-abbrev pub MakesBytes : (text turns program state : List ℕ) → (short : Bool) → Answer → (p s program₁ state₁ : List ℕ) → Type 0
+abbrev pub MakesBytes : (text turns program state : List ℕ) → (short : Bool) → Result Outcome Refusal → (p s program₁ state₁ : List ℕ) → Type 0
 MakesBytes text turns program state short r p s program₁ state₁ = Stores (lent_bytes text turns program state short) turns program state r p s program₁ state₁
 
 -- the code's answer by its numbers
-pub record TellsAnswer (r : Answer) (end number thread block line moves : ℕ) : Type 0 where
-  pub tells : (a : R.Answer) → r ≡ answer_of a → Tells a end number thread block line moves
+abbrev pub TellsAnswer : Result Outcome Refusal → (end number thread block line moves : ℕ) → Type 0
+TellsAnswer r end number thread block line moves = Tells (told r) end number thread block line moves
+
+-- a refusal or a count by its numbers: that of the refusal, 0 for none; the count, 0 where there is none; the refusal's line
+abbrev pub CountInNumbers : Result ℕ Refusal → (number count line : ℕ) → Type 0
+CountInNumbers (Ok n) k count line = (k ≡ 0) × (count ≡ n) × (line ≡ 0)
+CountInNumbers (Err e) k count line = (k ≡ No.number e.fault) × (count ≡ 0) × (line ≡ e.line)
 
 -- demand 3: the numbers and the bytes are the guarded run's, and the stripped run matches it
 pub record Guarded (P : Program) (turns : List ℕ) (end number thread block line moves : ℕ) (state : List ℕ) : Type 0 where
@@ -119,6 +128,17 @@ pub record Reports (R : Report) (list : List ℕ) (number count line : ℕ) (lis
   pub line_is : line ≡ report_line R
   pub list_is : list₁ ≡ list_bytes R list
 
+-- the code's own answer, and what it leaves
+pub record HasListed (C : Reading) (turns : List ℕ) (thread : ℕ) (program state list : List ℕ) (r : Result ℕ Refusal) (program₁ state₁ list₁ : List ℕ) : Type 0 where
+  pub answers : Reach.Answers (reach_report mosts turns thread C) r
+  pub list_is : list₁ ≡ list_bytes (reach_report mosts turns thread C) list
+  pub program_is : program₁ ≡ table_after program_words C program
+  pub state_is : state₁ ≡ table_after (ran_words turns) C state
+
+abbrev pub ListsBytes : (text turns program state : List ℕ) → (thread : ℕ) → (list : List ℕ) → Result ℕ Refusal → (program₁ state₁ list₁ : List ℕ) → Type 0
+ListsBytes text turns program state thread list r program₁ state₁ list₁ =
+    HasListed (reach_bytes text turns program state list) turns thread program state list r program₁ state₁ list₁
+
 pub record HasReported (C : Reading) (turns : List ℕ) (thread : ℕ) (program state list : List ℕ) (number count line : ℕ) (program₁ state₁ list₁ : List ℕ) : Type 0 where
   pub report : Reports (reach_report mosts turns thread C) list number count line list₁
   pub program_is : program₁ ≡ table_after program_words C program
@@ -147,6 +167,15 @@ pub record TellsCount (N : Count) (number count line : ℕ) : Type 0 where
   pub number_is : number ≡ count_number N
   pub count_is : count ≡ count_places N
   pub line_is : line ≡ count_line N
+
+-- the code's own answer, and what it leaves
+pub record HasAsked (C : Reading) (turns : List ℕ) (object : ℕ) (program state : List ℕ) (r : Result ℕ Refusal) (program₁ state₁ : List ℕ) : Type 0 where
+  pub answers : Holders.Answers (holder_count mosts turns object C) r
+  pub program_is : program₁ ≡ table_after program_words C program
+  pub state_is : state₁ ≡ table_after (ran_words turns) C state
+
+abbrev pub AsksBytes : (text turns program state : List ℕ) → (object : ℕ) → Result ℕ Refusal → (program₁ state₁ : List ℕ) → Type 0
+AsksBytes text turns program state object r program₁ state₁ = HasAsked (run_bytes text turns program state) turns object program state r program₁ state₁
 
 pub record HasCounted (C : Reading) (turns : List ℕ) (object : ℕ) (program state : List ℕ) (number count line : ℕ) (program₁ state₁ : List ℕ) : Type 0 where
   pub told : TellsCount (holder_count mosts turns object C) number count line
@@ -181,6 +210,16 @@ pub record Draws (D : Drawn) (buffer : List ℕ) (number written line : ℕ) (bu
   pub line_is : line ≡ drawn_line D
   pub buffer_is : buffer₁ ≡ buffer_after D buffer
 
+-- the code's own answer, and what it leaves
+pub record HasPictured (C : Reading) (turns program state buffer : List ℕ) (r : Result ℕ Refusal) (program₁ state₁ buffer₁ : List ℕ) : Type 0 where
+  pub drew : Drew (drawn_of mosts turns C) buffer r buffer₁
+  pub program_is : program₁ ≡ table_after program_words C program
+  pub state_is : state₁ ≡ table_after (ran_words turns) C state
+
+abbrev pub PicturesBytes : (text turns program state buffer : List ℕ) → Result ℕ Refusal → (program₁ state₁ buffer₁ : List ℕ) → Type 0
+PicturesBytes text turns program state buffer r program₁ state₁ buffer₁ =
+    HasPictured (draw_bytes text turns program state buffer) turns program state buffer r program₁ state₁ buffer₁
+
 pub record HasDrawn (C : Reading) (turns program state buffer : List ℕ) (number written line : ℕ) (program₁ state₁ buffer₁ : List ℕ) : Type 0 where
   pub drew : Draws (drawn_of mosts turns C) buffer number written line buffer₁
   pub program_is : program₁ ≡ table_after program_words C program
@@ -197,12 +236,12 @@ race_bytes text turns program state =
     reading mosts (long_text text || ltb Most.race_turns (length turns)) (short_bytes Most.words program || short_bytes Most.words state) text
 
 -- "Its tables then hold the run.": the code's own answer, and what it leaves
-pub record HasFound (C : Reading) (turns program state : List ℕ) (r : Race) (program₁ state₁ : List ℕ) : Type 0 where
-  pub answers : r ≡ Races.answer_of (judged_of mosts turns C)
+pub record HasFound (C : Reading) (turns program state : List ℕ) (r : Result (Option Race) Refusal) (program₁ state₁ : List ℕ) : Type 0 where
+  pub answers : Races.Answers (judged_of mosts turns C) r
   pub program_is : program₁ ≡ table_after program_words C program
   pub state_is : state₁ ≡ table_after (ran_words turns) C state
 
-abbrev pub FindsBytes : (text turns program state : List ℕ) → Race → (program₁ state₁ : List ℕ) → Type 0
+abbrev pub FindsBytes : (text turns program state : List ℕ) → Result (Option Race) Refusal → (program₁ state₁ : List ℕ) → Type 0
 FindsBytes text turns program state r program₁ state₁ = HasFound (race_bytes text turns program state) turns program state r program₁ state₁
 
 -- the answer as numbers: that of the refusal, 0 for none; its line
@@ -250,8 +289,8 @@ pub record TellsRace (J : Judged) (number found first second object field line :
   pub line_is : line ≡ judged_line J
 
 -- the code's answer by its numbers
-pub record TellsFound (r : Race) (number found first second object field line : ℕ) : Type 0 where
-  pub tells : (J : Judged) → r ≡ Races.answer_of J → TellsRace J number found first second object field line
+pub record TellsFound (r : Result (Option Race) Refusal) (number found first second object field line : ℕ) : Type 0 where
+  pub tells : (J : Judged) → Races.Answers J r → TellsRace J number found first second object field line
 
 pub record HasRaced (C : Reading) (turns program state : List ℕ) (number found first second object field line : ℕ) (program₁ state₁ : List ℕ) : Type 0 where
   pub told : TellsRace (judged_of mosts turns C) number found first second object field line

@@ -7,11 +7,12 @@ ghost use Rattle.rules.specs.Lists.{pad};
 ghost use Rattle.rules.specs.Text.{lines, find_line, start_of};
 ghost use Rattle.table.specs.ProgramTable.{fresh_table};
 ghost use Rattle.host.specs.Bytes.{bytes_after, words_of};
-ghost use Rattle.host.specs.ByteCalls.{ReadsBytes, MakesBytes, TellsAnswer, RunsBytes, ReachesBytes, CountsBytes, DrawsBytes, FindsBytes, TellsFound, RacesBytes, WritesBytes};
+ghost use Rattle.host.specs.ByteCalls.{ReadsBytes, MakesBytes, TellsAnswer, CountInNumbers, RunsBytes, ListsBytes, ReachesBytes, AsksBytes, CountsBytes, PicturesBytes, DrawsBytes, FindsBytes, TellsFound, RacesBytes, WritesBytes};
 ghost use Rattle.host.specs.Version.{version};
 
 use races::Race;
-use run::Answer;
+use rules::{Fault, Refusal};
+use run::Outcome;
 
 const TABLE: usize = 16384; // bytes of a table
 
@@ -32,12 +33,10 @@ fn store(t: &mut [u8], words: &[u16])
     requires { 2 * length words.now ≤ length t.old }
     ensures { t.new ≡ bytes_after (length words.now) words.now t.old }
 {
-    let mut i = 0;
-    while i < words.len() {
-        let x = words[i];
-        t[2 * i] = (x % 256) as u8;
-        t[2 * i + 1] = (x / 256) as u8;
-        i += 1;
+    for (i, word) in words.iter().enumerate() {
+        let [low, high] = word.to_le_bytes();
+        t[2 * i] = low;
+        t[2 * i + 1] = high;
     }
 }
 
@@ -47,12 +46,7 @@ fn store_used(t: &mut [u8], words: &[u16], n: usize)
     ensures { t.new ≡ bytes_after Most.words (pad Most.words 0 (take n words.now)) t.old }
 {
     store(t, &words[..n]);
-    let mut i = n;
-    while i < 8192 {
-        t[2 * i] = 0;
-        t[2 * i + 1] = 0;
-        i += 1;
-    }
+    t[2 * n..TABLE].fill(0);
 }
 
 // The first bytes as words.
@@ -60,12 +54,8 @@ fn load(words: &mut [u16], bytes: &[u8])
     requires { 2 * length words.old ≤ length bytes.now }
     ensures { words.new ≡ take (length words.old) (words_of bytes.now) }
 {
-    let mut i = 0;
-    while i < words.len() {
-        let low = bytes[2 * i];
-        let high = bytes[2 * i + 1];
-        words[i] = low as u16 + 256 * high as u16;
-        i += 1;
+    for (i, word) in words.iter_mut().enumerate() {
+        *word = u16::from_le_bytes([bytes[2 * i], bytes[2 * i + 1]]);
     }
 }
 
@@ -78,22 +68,20 @@ fn make(
     state: &mut [u8],
     p: &mut [u16],
     s: &mut [u16],
-) -> Answer
+) -> Result<Outcome, Refusal>
     requires { (p.old ≡ fresh_table) × (s.old ≡ fresh_table) }
     ensures { MakesBytes text.now turns.now program.old state.old short result p.new s.new program.new state.new }
 {
     let any = (program.len() < TABLE) | ((state.len() < TABLE) | short);
-    let answer = run::make(text, turns, any, p, s);
-    if !run::is_refusal(answer) {
-        store_used(program, p, table::used_words(p));
-        store(state, s);
-    }
-    answer
+    let outcome = run::make(text, turns, any, p, s)?;
+    store_used(program, p, table::used_words(p));
+    store(state, s);
+    Ok(outcome)
 }
 
 // An answer in numbers: which end it is (0 finished, 1 stuck, 2 open, 3 stopped, 4 refused), and its numbers, 0 where there is none.
 fn tell(
-    answer: Answer,
+    answer: Result<Outcome, Refusal>,
     number: &mut usize,
     thread: &mut usize,
     block: &mut usize,
@@ -108,30 +96,48 @@ fn tell(
     *line = 0;
     *moves = 0;
     match answer {
-        Answer::Finished(m) => {
+        Ok(Outcome::Finished(m)) => {
             *moves = m as usize;
             0
         }
-        Answer::Stuck(m) => {
+        Ok(Outcome::Stuck(m)) => {
             *moves = m as usize;
             1
         }
-        Answer::Open(m) => {
+        Ok(Outcome::Open(m)) => {
             *moves = m as usize;
             2
         }
-        Answer::Stopped(k, t, b, l, m) => {
-            *number = k as usize;
-            *thread = t as usize;
-            *block = b as usize;
-            *line = l as usize;
-            *moves = m as usize;
+        Ok(Outcome::Stopped(stop)) => {
+            *number = stop.fault.number() as usize;
+            *thread = stop.thread as usize;
+            *block = stop.block as usize;
+            *line = stop.line as usize;
+            *moves = stop.moves as usize;
             3
         }
-        Answer::Refused(k, l) => {
-            *number = k as usize;
-            *line = l;
+        Err(refusal) => {
+            *number = refusal.fault.number() as usize;
+            *line = refusal.line; // of a run
             4
+        }
+    }
+}
+
+// A count in numbers: 0 and the count, or the refusal's number and its line.
+fn tell_count(told: Result<usize, Refusal>, count: &mut usize, line: &mut usize) -> u16
+    ensures { CountInNumbers told result count.new line.new }
+{
+    match told {
+        Ok(n) => {
+            *count = n;
+            *line = 0;
+            0
+        }
+        Err(refusal) => {
+            *count = 0;
+            *line = refusal.line;
+            refusal.fault.number()
         }
     }
 }
@@ -143,15 +149,14 @@ pub extern "C" fn box_read(text: &[u8], program: &mut [u8], line: &mut usize) ->
 {
     *line = 0;
     let mut words = [0u16; 8192];
-    let answer = reader::make(text, program.len() < TABLE, &mut words);
-    match answer {
-        reader::Answer::Refused(number, place) => {
-            *line = place;
-            number // of the refusal
-        }
-        reader::Answer::Read => {
+    match reader::make(text, program.len() < TABLE, &mut words) {
+        Ok(()) => {
             store_used(program, &words, table::used_words(&words));
             0
+        }
+        Err(refusal) => {
+            *line = refusal.line; // of a script
+            refusal.fault.number() // of the refusal
         }
     }
 }
@@ -178,6 +183,34 @@ pub extern "C" fn box_run(
     tell(answer, number, thread, block, line, moves)
 }
 
+// Makes and stores a run, and lists the objects that a thread reaches: how many there are.
+fn list_reached(
+    text: &[u8],
+    turns: &[u8],
+    program: &mut [u8],
+    state: &mut [u8],
+    thread: usize,
+    list: &mut [u8],
+) -> Result<usize, Refusal>
+    ensures { ListsBytes text.now turns.now program.old state.old thread list.old result program.new state.new list.new }
+{
+    let mut p = [0u16; 8192];
+    let mut s = [0u16; 8192];
+    make(
+        text,
+        turns,
+        list.len() < LIST,
+        program,
+        state,
+        &mut p,
+        &mut s,
+    )?;
+    let mut objects = [0u16; 256];
+    let reached = reach::report_on(&p, &s, thread, &mut objects)?;
+    store(list, &objects);
+    Ok(reached)
+}
+
 // Runs, then lists the objects that a thread reaches, in rising order: 0 and their count, or the refusal's number and its line. A refusal by 1
 // to 9 changes no byte of the tables and the list; 17 leaves the run in the tables and the list as it was.
 #[unsafe(no_mangle)]
@@ -193,37 +226,25 @@ pub extern "C" fn box_reach(
 ) -> u16
     ensures { ReachesBytes text.now turns.now program.old state.old thread list.old result count.new line.new program.new state.new list.new }
 {
-    *count = 0; // objects
-    *line = 0;
+    let reached = list_reached(text, turns, program, state, thread, list);
+    tell_count(reached, count, line)
+}
+
+// Makes and stores a run, and tells how many places hold an object.
+fn count_places(
+    text: &[u8],
+    turns: &[u8],
+    program: &mut [u8],
+    state: &mut [u8],
+    object: usize,
+) -> Result<usize, Refusal>
+    ensures { AsksBytes text.now turns.now program.old state.old object result program.new state.new }
+{
     let mut p = [0u16; 8192];
     let mut s = [0u16; 8192];
-    let answer = make(
-        text,
-        turns,
-        list.len() < LIST,
-        program,
-        state,
-        &mut p,
-        &mut s,
-    );
-    match answer {
-        Answer::Refused(number, at) => {
-            *line = at;
-            number
-        }
-        _ => {
-            let mut objects = [0u16; 256];
-            let report = reach::report_on(&p, &s, thread, &mut objects);
-            match report {
-                reach::Report::Refused(number, _) => number,
-                reach::Report::Reached(reached) => {
-                    *count = reached;
-                    store(list, &objects);
-                    0
-                }
-            }
-        }
-    }
+    make(text, turns, false, program, state, &mut p, &mut s)?;
+    let places = holders::count_on(&s, object)?;
+    Ok(places as usize)
 }
 
 // Runs, then tells how many places hold an object, as its record has it: 0 and the count, or the refusal's number and its line. A refusal by 1
@@ -240,27 +261,32 @@ pub extern "C" fn box_holders(
 ) -> u16
     ensures { CountsBytes text.now turns.now program.old state.old object result count.new line.new program.new state.new }
 {
-    *count = 0; // places
-    *line = 0;
+    let places = count_places(text, turns, program, state, object);
+    tell_count(places, count, line)
+}
+
+// Makes and stores a run, and draws its objects: how many bytes are written.
+fn draw(
+    text: &[u8],
+    turns: &[u8],
+    program: &mut [u8],
+    state: &mut [u8],
+    graph: &mut [u8],
+) -> Result<usize, Refusal>
+    ensures { PicturesBytes text.now turns.now program.old state.old graph.old result program.new state.new graph.new }
+{
     let mut p = [0u16; 8192];
     let mut s = [0u16; 8192];
-    let answer = make(text, turns, false, program, state, &mut p, &mut s);
-    match answer {
-        Answer::Refused(number, at) => {
-            *line = at;
-            number
-        }
-        _ => {
-            let told = holders::count_on(&s, object);
-            match told {
-                holders::Count::Refused(number, _) => number,
-                holders::Count::Counted(places) => {
-                    *count = places as usize;
-                    0
-                }
-            }
-        }
-    }
+    make(
+        text,
+        turns,
+        graph.len() < DRAWING,
+        program,
+        state,
+        &mut p,
+        &mut s,
+    )?;
+    drawing::draw_on(&s, graph)
 }
 
 // Runs, then draws the objects as a directed graph in the DOT language: 0 and how many bytes are written, or the refusal's number and its line. A
@@ -277,56 +303,31 @@ pub extern "C" fn box_draw(
 ) -> u16
     ensures { DrawsBytes text.now turns.now program.old state.old graph.old result written.new line.new program.new state.new graph.new }
 {
-    *written = 0; // bytes
-    *line = 0;
-    let mut p = [0u16; 8192];
-    let mut s = [0u16; 8192];
-    let answer = make(
-        text,
-        turns,
-        graph.len() < DRAWING,
-        program,
-        state,
-        &mut p,
-        &mut s,
-    );
-    match answer {
-        Answer::Refused(number, at) => {
-            *line = at;
-            number
-        }
-        _ => {
-            let drawn = drawing::draw_on(&s, graph);
-            match drawn {
-                drawing::Drawn::Refused(number, _) => number,
-                drawing::Drawn::Written(n) => {
-                    *written = n;
-                    0
-                }
-            }
-        }
-    }
+    let drawn = draw(text, turns, program, state, graph);
+    tell_count(drawn, written, line)
 }
 
 // Makes and stores a run of at most 1,024 turns, and looks for two that race. A refusal stores nothing.
-fn find_race(text: &[u8], turns: &[u8], program: &mut [u8], state: &mut [u8]) -> Race
+fn find_race(
+    text: &[u8],
+    turns: &[u8],
+    program: &mut [u8],
+    state: &mut [u8],
+) -> Result<Option<Race>, Refusal>
     ensures { FindsBytes text.now turns.now program.old state.old result program.new state.new }
 {
     if RACE_TURNS < turns.len() {
-        return Race::Refused(rules::numbers::OVERLONG, 0); // before any 9
+        return Err(Fault::Overlong.at(0)); // before any 9
     }
     let mut p = [0u16; 8192];
     let mut s = [0u16; 8192];
-    let answer = make(text, turns, false, program, state, &mut p, &mut s);
-    match answer {
-        Answer::Refused(number, line) => Race::Refused(number, line),
-        _ => races::judge(&p, turns),
-    }
+    make(text, turns, false, program, state, &mut p, &mut s)?;
+    races::judge(&p, turns)
 }
 
 // What was found, in numbers: that of the refusal, or 0; 1 where there is a race, and which, else 0.
 fn tell_race(
-    found: Race,
+    found: Result<Option<Race>, Refusal>,
     race: &mut usize,
     first: &mut usize,
     second: &mut usize,
@@ -343,17 +344,17 @@ fn tell_race(
     *field = 0;
     *line = 0;
     match found {
-        Race::Refused(k, at) => {
-            *line = at;
-            k
+        Err(refusal) => {
+            *line = refusal.line; // of turns
+            refusal.fault.number()
         }
-        Race::Absent => 0,
-        Race::Found(i, j, n, f) => {
+        Ok(None) => 0,
+        Ok(Some(there)) => {
             *race = 1;
-            *first = i;
-            *second = j;
-            *object = n as usize;
-            *field = f as usize;
+            *first = there.first;
+            *second = there.second;
+            *object = there.object as usize;
+            *field = there.field as usize;
             0
         }
     }
@@ -398,17 +399,16 @@ pub extern "C" fn box_write(program: &[u8], script: &mut [u8], length: &mut usiz
 {
     *length = 0;
     if program.len() < TABLE {
-        return rules::numbers::SHORT_TABLE; // before any 18
+        return Fault::ShortTable.number(); // before any 18
     }
     let mut words = [0u16; 8192];
     load(&mut words, program);
-    let answer = writer::write(&words, script);
-    match answer {
-        writer::Answer::Refused(number) => number,
-        writer::Answer::Written(n) => {
+    match writer::write(&words, script) {
+        Ok(n) => {
             *length = n;
             0
         }
+        Err(fault) => fault.number(),
     }
 }
 
