@@ -79,7 +79,8 @@ fn make(
     Ok(outcome)
 }
 
-// An answer in numbers: which end it is (0 finished, 1 stuck, 2 open, 3 stopped, 4 refused), and its numbers, 0 where there is none.
+// An answer in numbers, which are lent one by one as the C interface has them: which end it is (0 finished, 1 stuck, 2 open, 3 stopped, 4 refused),
+// and its numbers, 0 where there is none.
 fn tell(
     answer: Result<Outcome, Refusal>,
     number: &mut usize,
