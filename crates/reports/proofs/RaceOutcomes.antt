@@ -11,16 +11,19 @@ use Rattle.rules.specs.Text.{bytes, space}
 use Rattle.rules.specs.Templates.{decimal, print_many}
 use Rattle.rules.specs.Run.{refused}
 use Rattle.rules.specs.Calls.{short_table}
-use Rattle.rules.specs.Races.{norace, race, race_call, Judged, unjudged, judged, judged_of}
+use Rattle.rules.specs.Races.{Verdict, norace, race, race_call, Judged, unjudged, judged, judged_of}
 use Rattle.rules.specs.Listing.{bracket, a_line, answer_line}
 use Rattle.buffer.specs.Writing.{number_part}
+use Rattle.std.specs.Prelude.{Option, None, Some, Result, Ok, Err}
+use Rattle.rules.specs.Numbers.{number}
+use Rattle.rules.specs.declared.faults.Refusal.{Refusal}
+use Rattle.buffer.specs.Writing.{Wrote}
+use Rattle.buffer.proofs.Appends.{front_is}
+use Rattle.rules.proofs.ListLaws.{impossible}
 use Rattle.races.specs.declared.Race.{Race}
-use Rattle.races.specs.declared.Race.TheVariants as T
-use Rattle.races.specs.Judged.{answer_of, HasJudged}
-use Rattle.replay.specs.declared.Parts.{Parts}
-use Rattle.replay.specs.Given.{told_of, Splits}
-use Rattle.replay.proofs.GivenLaws.{given_told}
-use Rattle.reports.specs.RaceTexts.{race_line, norace_line, judged_as, race_inputs, verdict_text, race_given, race_text}
+use Rattle.races.specs.Judged.{race_of, Answers, HasJudged}
+use Rattle.replay.specs.Printing.{Tells}
+use Rattle.reports.specs.RaceTexts.{race_line, norace_line, found_line, verdict_line, judged_as, race_inputs, verdict_text}
 
 -- ---- The lines
 
@@ -42,17 +45,25 @@ pub norace_line_lem : bytes "(norace)\n" ≡ norace_line
 unfolding norace_line a_line bracket print_many
 norace_line_lem = refl
 
--- ---- What is printed of an answer
+-- ---- What is told of an answer
 
-abbrev prints_by : Race → List ℕ
-prints_by (T.Refused k n) = answer_line (refused k n)
-prints_by T.Absent = norace_line
-prints_by (T.Found i j n f) = race_line i j n f
+refused_judged : (J : Judged) {r : Result (Option Race) Refusal} {e : Refusal} → Answers J r → r ≡ Err e → judged_as J ≡ answer_line (refused (number e.fault) e.line)
+refused_judged (unjudged k n) {e = e} told is =
+    let both = sym told.is ∙ is in
+    let same : told.refusal ≡ e = cc in
+    rw (← told.number_is, ← told.line_is, same)
+refused_judged (judged v) told is = let both = sym told ∙ is in impossible cc
 
-prints_judged : (J : Judged) → judged_as J ≡ prints_by (answer_of J)
-prints_judged (unjudged k n) = refl
-prints_judged (judged norace) = refl
-prints_judged (judged (race i j n f)) = refl
+line_of_verdict : (v : Verdict) → found_line (race_of v) ≡ verdict_line v
+line_of_verdict norace = refl
+line_of_verdict (race i j n f) = refl
+
+found_judged : (J : Judged) {r : Result (Option Race) Refusal} {x : Option Race} → Answers J r → r ≡ Ok x → judged_as J ≡ found_line x
+found_judged (unjudged k n) told is = let both = sym told.is ∙ is in impossible cc
+found_judged (judged v) {x = x} told is =
+    let both = sym told ∙ is in
+    let same : race_of v ≡ x = cc in
+    sym (line_of_verdict v) ∙ ap found_line same
 
 -- the tables are long enough
 race_inputs_lem : (text turns program state : List ℕ) → length program ≡ Most.words → length state ≡ Most.words → race_call mosts text turns program state ≡ race_inputs text turns
@@ -60,17 +71,16 @@ unfolding race_call race_inputs short_table
 race_inputs_lem text turns program state program-long state-long =
     rw (le-ltb (length program) Most.words (omega arith), le-ltb (length state) Most.words (omega arith)) refl
 
-pub verdict_printed : (text turns : List ℕ) {program state program₁ state₁ : List ℕ} {r x : Race}
-    → HasJudged (race_call mosts text turns program state) turns program state r program₁ state₁
-    → length program ≡ Most.words → length state ≡ Most.words → r ≡ x → verdict_text text turns ≡ prints_by x
-unfolding verdict_text
-verdict_printed text turns {program} {state} told program-long state-long is =
-    let J = judged_of mosts turns (race_inputs text turns) in
-    prints_judged J ∙ ap prints_by (sym (told.answers ∙ ap (λ C. answer_of (judged_of mosts turns C)) (race_inputs_lem text turns program state program-long state-long)) ∙ is)
+module _ (text turns : List ℕ) {program state program₁ state₁ : List ℕ} {r : Result (Option Race) Refusal}
+    (told : HasJudged (race_call mosts text turns program state) turns program state r program₁ state₁)
+    (program-long : length program ≡ Most.words) (state-long : length state ≡ Most.words) where
+  answers_here : Answers (judged_of mosts turns (race_inputs text turns)) r
+  answers_here = rw (race_inputs_lem text turns program state program-long state-long) at told.answers
 
--- ---- An input, as the code takes it apart
+  pub refusal_told : {e : Refusal} {output : List ℕ} → r ≡ Err e → Tells (verdict_text text turns) output (Err e) output
+  unfolding verdict_text
+  refusal_told is = (refused_judged (judged_of mosts turns (race_inputs text turns)) answers_here is, refl)
 
-pub race_told : {input list list₁ : List ℕ} {parts : Parts} → Splits input list parts list₁ → Most.turns ≤ length list → (x : Parts) → parts ≡ x
-    → race_text input ≡ race_given (told_of x input list₁)
-unfolding race_text
-race_told splits long x is = ap race_given (given_told splits long x is)
+  pub verdict_told : {x : Option Race} {k m : ℕ} {output left : List ℕ} → r ≡ Ok x → Wrote k output left 0 m (found_line x) → Tells (verdict_text text turns) output (Ok m) left
+  unfolding verdict_text
+  verdict_told is w = rw (found_judged (judged_of mosts turns (race_inputs text turns)) answers_here is) (let front = front_is w in (front.1, front.0))

@@ -21,13 +21,14 @@ use Rattle.rules.proofs.ListLaws.{impossible, or_false, pad_front}
 use Rattle.rules.proofs.Accepted.{accepted_valid, reading_accepted}
 use Rattle.rules.proofs.Keeps.{fits_run}
 use Rattle.rules.proofs.Reports.{reach_few}
-use Rattle.reach.specs.declared.Report as R
-use Rattle.reach.specs.declared.Report.TheVariants as T
-use Rattle.reach.specs.Reported.{report_of, Reports, Reached}
-use Rattle.replay.specs.declared.Parts.{Parts}
-use Rattle.replay.specs.Given.{told_of, Splits}
-use Rattle.replay.proofs.GivenLaws.{given_told}
-use Rattle.reports.specs.ReachedLines.{reached_line, reported, report_text, reached_given, reached_text}
+use Rattle.std.specs.Prelude.{Result, Ok, Err}
+use Rattle.rules.specs.Numbers.{number}
+use Rattle.rules.specs.declared.faults.Refusal.{Refusal}
+use Rattle.buffer.specs.Writing.{Wrote}
+use Rattle.buffer.proofs.Appends.{front_is}
+use Rattle.reach.specs.Reported.{Answers, Reports, Reached}
+use Rattle.replay.specs.Printing.{Tells}
+use Rattle.reports.specs.ReachedLines.{reached_line, reported, report_text}
 
 -- ---- The inputs
 
@@ -38,30 +39,30 @@ unfolding lent_inputs short_table
 none_short text turns program state other most program-long state-long other-long =
     rw (le-ltb (length program) Most.words (omega arith), le-ltb (length state) Most.words (omega arith), le-ltb (length other) most other-long) refl
 
-pub the_report : (text turns : List ℕ) {program state list program₁ state₁ list₁ : List ℕ} {t : ℕ} {r : R.Report}
+pub the_report : (text turns : List ℕ) {program state list program₁ state₁ list₁ : List ℕ} {t : ℕ} {r : Result ℕ Refusal}
     → Reached (reach_call mosts text turns program state list) turns t program state list r program₁ state₁ list₁
     → length program ≡ Most.words → length state ≡ Most.words → length list ≡ Most.reach_list → Reports (reach_report mosts turns t (inputs mosts text turns false)) list r list₁
 unfolding reach_call
 the_report text turns {program} {state} {list} told program-long state-long list-long =
     rw (none_short text turns program state list Most.reach_list program-long state-long (omega arith)) at told.report
 
--- ---- What is printed of it
-
-refused_report : (x : Report) {k n : ℕ} → T.Refused k n ≡ report_of x → answer_line (refused k n) ≡ reported x
-refused_report (unreported i j) {k} {n} e =
-    let number : k ≡ i = cc in
-    let line : n ≡ j = cc in
-    rw (number, line) refl
-refused_report (reached objects) e = impossible cc
+-- ---- What is told of it
 
 record IsReached (x : Report) (n : ℕ) : Type 0 where
   objects : List ℕ
   is : x ≡ reached objects
   many : n ≡ length objects
 
-reached_report : (x : Report) {n : ℕ} → T.Reached n ≡ report_of x → IsReached x n
-reached_report (unreported i j) e = impossible cc
-reached_report (reached objects) e = record { objects = objects; is = refl; many = cc }
+reached_report : (x : Report) {r : Result ℕ Refusal} {n : ℕ} → Answers x r → r ≡ Ok n → IsReached x n
+reached_report (unreported i j) told e = let both = sym told.is ∙ e in impossible cc
+reached_report (reached objects) told e = record { objects = objects; is = refl; many = let both = sym e ∙ told in cc }
+
+refused_report : (x : Report) {r : Result ℕ Refusal} {e : Refusal} → Answers x r → r ≡ Err e → reported x ≡ answer_line (refused (number e.fault) e.line)
+refused_report (unreported i j) {e = e} told is =
+    let both = sym told.is ∙ is in
+    let same : told.refusal ≡ e = cc in
+    rw (← told.number_is, ← told.line_is, same)
+refused_report (reached objects) told is = let both = sym told ∙ is in impossible cc
 
 -- a report has no more objects than a run makes
 few_on : (P : Program) (S : State) (t : ℕ) (b : Bool) → length S.objects ≤ mosts.objects → (objects : List ℕ) → report_on P S t b ≡ reached objects → length objects ≤ Most.reach_list
@@ -80,35 +81,31 @@ few_of text turns t (accepted P) is objects e =
     let fits = fits_run P turns valid (ltb-false Most.turns (length turns) (or_false (long_text text) _ so.0).1) in
     few_on P (run mosts P turns).state t (ltb t (length (run mosts P turns).state.threads)) fits.few_objects objects e
 
-module _ (text turns : List ℕ) (t : ℕ) {list list₁ : List ℕ} {r : R.Report} (told : Reports (reach_report mosts turns t (inputs mosts text turns false)) list r list₁) where
-  pub refusal_printed : {k n : ℕ} → r ≡ T.Refused k n → report_text text turns t ≡ answer_line (refused k n)
+module _ (text turns : List ℕ) (t : ℕ) {list list₁ : List ℕ} {r : Result ℕ Refusal} (told : Reports (reach_report mosts turns t (inputs mosts text turns false)) list r list₁) where
+  pub refusal_told : {e : Refusal} {output : List ℕ} → r ≡ Err e → Tells (report_text text turns t) output (Err e) output
   unfolding report_text
-  refusal_printed is = sym (refused_report (reach_report mosts turns t (inputs mosts text turns false)) (sym is ∙ told.answers))
+  refusal_told is = (refused_report (reach_report mosts turns t (inputs mosts text turns false)) told.answers is, refl)
 
-  reached_is : {n : ℕ} → r ≡ T.Reached n → IsReached (reach_report mosts turns t (inputs mosts text turns false)) n
-  reached_is is = reached_report (reach_report mosts turns t (inputs mosts text turns false)) (sym is ∙ told.answers)
+  reached_is : {n : ℕ} → r ≡ Ok n → IsReached (reach_report mosts turns t (inputs mosts text turns false)) n
+  reached_is is = reached_report (reach_report mosts turns t (inputs mosts text turns false)) told.answers is
 
-  pub few_reached : {n : ℕ} → r ≡ T.Reached n → n ≤ Most.reach_list
+  pub few_reached : {n : ℕ} → r ≡ Ok n → n ≤ Most.reach_list
   few_reached is =
       let of = reached_is is in
       omega (arith, of.many, few_of text turns t (inputs mosts text turns false) refl of.objects of.is)
 
   -- the first of the list are the objects
-  pub objects_printed : {n : ℕ} → r ≡ T.Reached n → (k : ℕ) → k ≡ n → reached_line (take k list₁) ≡ report_text text turns t
+  objects_printed : {n : ℕ} → r ≡ Ok n → reached_line (take n list₁) ≡ report_text text turns t
   unfolding report_text
-  objects_printed is k all =
+  objects_printed {n} is =
       let of = reached_is is in
       let objects : List ℕ = of.objects in
       let few : length objects ≤ Most.reach_list = omega (arith, of.many, few_reached is) in
       let rest : List ℕ = drop Most.reach_list list in
       let after : list₁ ≡ list_words objects ++ rest = told.leaves ∙ ap (λ (x : Report). list_after x list) of.is in
-      let front : take k list₁ ≡ objects =
-      ap (take k) (after ∙ ap (λ (l : List ℕ). l ++ rest) (pad_front Most.reach_list 0 objects few) ∙ append_assoc objects _ rest) ∙ take_at objects _ k (sym (all ∙ of.many)) in
+      let front : take n list₁ ≡ objects =
+          ap (take n) (after ∙ ap (λ (l : List ℕ). l ++ rest) (pad_front Most.reach_list 0 objects few) ∙ append_assoc objects _ rest) ∙ take_at objects _ n (sym of.many) in
       ap reached_line front ∙ sym (ap reported of.is)
 
--- ---- An input, as the code takes it apart
-
-pub text_told : {input list list₁ : List ℕ} {parts : Parts} → Splits input list parts list₁ → Most.turns ≤ length list → (t : ℕ) (x : Parts) → parts ≡ x
-    → reached_text input t ≡ reached_given t (told_of x input list₁)
-unfolding reached_text
-text_told splits long t x is = ap (reached_given t) (given_told splits long x is)
+  pub objects_told : {n k m : ℕ} {output left : List ℕ} → r ≡ Ok n → Wrote k output left 0 m (reached_line (take n list₁)) → Tells (report_text text turns t) output (Ok m) left
+  objects_told is w = rw (← objects_printed is) (let front = front_is w in (front.1, front.0))

@@ -1,5 +1,5 @@
 -- What is printed of a search for races: one line, with the race that is named, if there is one; or the line of its refusal.
-use Rattle.std.specs.Prelude.{ℕ, false, ◌||◌, List, [], ◌∷◌, ltb, length}
+use Rattle.std.specs.Prelude.{ℕ, false, ◌||◌, List, [], ◌∷◌, ltb, length, Option, None, Some}
 use Rattle.rules.specs.Mosts as Most
 use Rattle.rules.specs.Mosts.{mosts}
 use Rattle.rules.specs.Templates.{decimal}
@@ -8,6 +8,7 @@ use Rattle.rules.specs.Run.{refused}
 use Rattle.rules.specs.Calls.{long_text}
 use Rattle.rules.specs.Races.{Verdict, norace, race, Judged, unjudged, judged, judged_of}
 use Rattle.rules.specs.Listing.{a_line, answer_line}
+use Rattle.races.specs.declared.Race.{Race}
 use Rattle.replay.specs.Given.{Given, away, faulty, given, given_of}
 
 -- the places of the two turns in the list, the object and the field
@@ -16,6 +17,11 @@ race_line i j n f = a_line "race" (decimal i ∷ decimal j ∷ decimal n ∷ dec
 
 unfoldable pub norace_line : List ℕ
 norace_line = a_line "norace" []
+
+-- the race that is found, if there is one
+abbrev pub found_line : Option Race → List ℕ
+found_line None = norace_line
+found_line (Some r) = race_line r.first r.second r.object r.field
 
 abbrev pub verdict_line : Verdict → List ℕ
 verdict_line norace = norace_line

@@ -1,27 +1,21 @@
--- `reports::put_numbers` meets its contract: before turn i the first i numbers are written.
+-- Before turn i the first i numbers are written.
 use native.Mathlib.Omega.{arith}
-use mathlib.Core.Path.{◌≡◌, refl}
-use Rattle.buffer.proofs.Appends.{same_text}
+use lib.Seq.{take_all}
+use mathlib.Core.Path.{ap}
+use Rattle.buffer.proofs.Outputs.{same_text}
+use Rattle.reports.specs.ReachedLines.{numbers_text}
 use Rattle.reports.proofs.ReachedTexts.{no_number_yet, number_next}
-use Rattle.std.proofs.Common.{rules}
 use Rattle.reports.proofs.put_numbers.Goals as goal
 
-pub loop-i-init : goal.loop-i-init
-loop-i-init c = (search rules, refl, no_number_yet c.args.list.now (omega arith))
+pub loop-number-init : goal.loop-number-init
+loop-number-init c = no_number_yet c.args.numbers.now (omega arith)
 
-pub overflow_cast-list : goal.overflow_cast-list
-overflow_cast-list c =
-    omega (arith, c.shared_slice_known-in-loop-i-1.given c.loop-i.i)
+pub put_number-requires : goal.put_number-requires
+put_number-requires c = omega (arith, c.loop-number.invariant.most, c.loop-number.invariant.length_same, c.loop-number-test.true)
 
-pub put_number-m-requires : goal.put_number-m-requires
-put_number-m-requires c =
-    omega (arith, c.loop-i.invariant.2.most, c.loop-i-test.true)
-
-pub loop-i-preserved : goal.loop-i-preserved
-loop-i-preserved c =
-    (omega arith, search rules, number_next c.args.list.now c.loop-i.i (search rules) c.loop-i.invariant.2 c.put_number-m.ensures)
+pub loop-number-preserved : goal.loop-number-preserved
+loop-number-preserved c = number_next c.args.numbers.now c.loop-number.number-index c.loop-number-test.true c.loop-number.invariant c.put_number.ensures
 
 pub returns : goal.returns
 returns c =
-    let all : c.loop-i.i ≡ c.args.n = omega (arith, c.loop-i.invariant.0, c.loop-i-test.false) in
-    same_text 1536 (rw all refl) (omega (arith, c.loop-i.invariant.0)) c.loop-i.invariant.2
+    same_text 1536 (ap numbers_text (take_all c.loop-number.number-index c.args.numbers.now (omega (arith, c.loop-number-test.false)))) (omega (arith, c.loop-number.auto)) c.loop-number.invariant
