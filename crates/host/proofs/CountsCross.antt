@@ -1,16 +1,10 @@
 -- What the holder count answers, as the numbers that cross.
-use Prim.Native.Nat.{ℕ}
-use native.Mathlib.Omega.{arith}
-use mathlib.Core.Path.{◌≡◌, refl, sym, ap, ◌∙◌, subst}
-use mathlib.Core.Bool.{false}
-use mathlib.Core.List.{List, []}
-use lib.ListN.{length}
+use Rattle.std.proofs.Common.{ℕ, arith, ◌≡◌, refl, sym, ap, ◌∙◌, subst, false, List, [], length, Result, Ok, Err}
 use Rattle.rules.specs.Mosts.{mosts}
 use Rattle.rules.specs.Reading.{Reading}
 use Rattle.rules.specs.Run.{run}
 use Rattle.rules.specs.Calls.{Count, uncounted, counted, holder_count}
 use Rattle.rules.proofs.TableWords.{state_words_length}
-use Rattle.std.specs.Prelude.{Result, Ok, Err}
 use Rattle.rules.specs.declared.faults.Refusal.{Refusal}
 use Rattle.run.specs.declared.Outcome.{Outcome}
 use Rattle.run.proofs.AnswerTells.{made_is, refused_is}

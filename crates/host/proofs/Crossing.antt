@@ -1,16 +1,8 @@
 -- What the lower crates answer and leave, as the numbers and bytes that cross.
-use Prim.Native.Nat.{ℕ, ◌*◌, ◌≤◌, ◌<◌}
-use mathlib.Core.Path.{◌≡◌, refl, sym, ap, ◌∙◌, subst}
-use mathlib.Core.Bool.{Bool, false, ◌||◌}
-use mathlib.Core.List.{List, [], ◌∷◌, ◌++◌, append-nil}
-use native.Mathlib.Omega.{arith}
-use lib.Dec.{ltb}
-use lib.ListN.{length, take, drop, replicate, length-replicate, drop_of_length-le}
-use lib.Seq.{take_at, take_all}
-use borrow.Author.Tests.{lt-ltb, ltb-false}
+use Rattle.std.proofs.Common.{ℕ, ◌*◌, ◌≤◌, ◌<◌, ◌≡◌, refl, sym, ap, ◌∙◌, subst, Bool, false, ◌||◌, List, [], ◌∷◌, ◌++◌, append-nil, arith, ltb, length, take, drop, replicate, drop_of_length-le, take_at, take_all, lt-ltb, ltb-false, Result, Ok, Err}
+use lib.ListN.{length-replicate}
 use Rattle.rules.specs.Mosts as Most
 use Rattle.rules.specs.Mosts.{mosts}
-use Rattle.std.specs.Prelude.{Result, Ok, Err}
 use Rattle.rules.specs.declared.faults.Fault.{Fault}
 use Rattle.rules.specs.declared.faults.Refusal.{Refusal}
 use Rattle.rules.specs.Numbers as No

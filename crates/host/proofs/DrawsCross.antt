@@ -1,11 +1,5 @@
 -- What the drawing answers and leaves, as the numbers and bytes that cross.
-use Prim.Native.Nat.{ℕ, ◌≤◌}
-use native.Mathlib.Omega.{arith}
-use mathlib.Core.Path.{◌≡◌, refl, sym, ap, ◌∙◌, subst}
-use mathlib.Core.List.{List, []}
-use lib.Dec.{ltb}
-use lib.ListN.{length}
-use borrow.Author.Tests.{ltb-false}
+use Rattle.std.proofs.Common.{ℕ, ◌≤◌, arith, ◌≡◌, refl, sym, ap, ◌∙◌, subst, List, [], ltb, length, ltb-false, Result, Ok, Err}
 use Rattle.rules.specs.Mosts as Most
 use Rattle.rules.specs.Mosts.{mosts}
 use Rattle.rules.specs.Reading.{Reading}
@@ -15,7 +9,6 @@ use Rattle.rules.specs.Drawing.{Drawn, undrawn, drawn, drawn_of}
 use Rattle.rules.proofs.ListLaws.{or_false}
 use Rattle.rules.proofs.Accepted.{reading_accepted}
 use Rattle.rules.proofs.TableWords.{state_words_length}
-use Rattle.std.specs.Prelude.{Result, Ok, Err}
 use Rattle.rules.specs.declared.faults.Refusal.{Refusal}
 use Rattle.run.specs.declared.Outcome.{Outcome}
 use Rattle.run.proofs.AnswerTells.{made_is, refused_is}

@@ -1,11 +1,6 @@
 -- Bytes loaded as words: word i is made of the bytes 2 i and 2 i + 1.
-use Prim.Native.Nat.{ℕ, zero, suc, ◌+◌, ◌*◌, ◌≤◌, ◌<◌}
-use mathlib.Core.Path.{◌≡◌, refl, sym, ◌∙◌}
-use mathlib.Core.List.{List, [], ◌∷◌, ◌++◌, append-nil}
-use native.Mathlib.Omega.{arith}
-use native.Mathlib.Numerals.{add-one}
-use lib.ListN.{length, take, drop, set, get_or}
-use lib.Seq.{append_snoc, drop-cons, drop-length, length-take-le, set_at, take-suc}
+use Rattle.std.proofs.Common.{ℕ, zero, suc, ◌+◌, ◌*◌, ◌≤◌, ◌<◌, ◌≡◌, refl, sym, ◌∙◌, List, [], ◌∷◌, ◌++◌, append-nil, arith, add-one, length, take, drop, set, get_or, drop-cons, length-take-le, take-suc}
+use lib.Seq.{append_snoc, drop-length, set_at}
 use Rattle.std.specs.Int.{w16, from_le_bytes}
 use Rattle.host.specs.Bytes.{words_of}
 

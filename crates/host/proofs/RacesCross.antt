@@ -1,12 +1,5 @@
 -- What the search for races answers and leaves, as the numbers and bytes that cross.
-use Prim.Native.Nat.{ℕ, ◌≤◌, ◌<◌}
-use native.Mathlib.Omega.{arith}
-use mathlib.Core.Path.{◌≡◌, refl, sym, ap, subst}
-use mathlib.Core.Bool.{Bool, true, false, ◌||◌}
-use mathlib.Core.List.{List}
-use lib.Dec.{ltb}
-use lib.ListN.{length}
-use borrow.Author.Tests.{lt-ltb, le-ltb}
+use Rattle.std.proofs.Common.{ℕ, ◌≤◌, ◌<◌, arith, ◌≡◌, refl, sym, ap, subst, Bool, true, false, ◌||◌, List, ltb, length, lt-ltb, le-ltb, Option, Result, Ok, Err}
 use Rattle.rules.specs.Mosts as Most
 use Rattle.rules.specs.Mosts.{mosts}
 use Rattle.rules.specs.Numbers as No
@@ -14,7 +7,6 @@ use Rattle.rules.specs.Reading.{Reading, reading}
 use Rattle.rules.specs.Calls.{long_text, long_turns, inputs}
 use Rattle.rules.specs.Races.{judged_of}
 use Rattle.rules.proofs.TableWords.{program_words_length}
-use Rattle.std.specs.Prelude.{Option, Result, Ok, Err}
 use Rattle.rules.specs.declared.faults.Refusal.{Refusal}
 use Rattle.rules.specs.Numbers.{number}
 use Rattle.rules.specs.Refusals.{Refuses}

@@ -1,17 +1,12 @@
 -- Words stored as bytes: two bytes a word, each word after the one before it.
-use Prim.Native.Nat.{ℕ, zero, suc, ◌+◌, ◌-◌, ◌*◌, ◌/◌, ◌%◌, ◌≤◌, ◌<◌}
-use mathlib.Core.Path.{◌≡◌, refl, sym, ap, ◌∙◌}
-use mathlib.Core.List.{List, [], ◌∷◌, ◌++◌, append_assoc}
-use native.Mathlib.Omega.{arith}
-use native.Mathlib.Numerals.{add-one}
-use lib.ListN.{length, take, drop, set, get_or, replicate, length-append, length-drop, length-replicate}
-use lib.Seq.{set_at, take_at, drop_at, take-suc, drop-drop, length-take-le}
+use Rattle.std.proofs.Common.{ℕ, zero, suc, ◌+◌, ◌-◌, ◌*◌, ◌/◌, ◌%◌, ◌≤◌, ◌<◌, ◌≡◌, refl, sym, ap, ◌∙◌, List, [], ◌∷◌, ◌++◌, append_assoc, arith, add-one, length, take, drop, set, get_or, replicate, length-append, length-drop, take_at, drop_at, take-suc, drop-drop, length-take-le, slice_index_or}
+use lib.ListN.{length-replicate}
+use lib.Seq.{set_at}
 use borrow.Rule.Slice.PartMut.{put_mid}
 use Rattle.std.proofs.lemmas.Slice.{put_mid-paste}
 use Rattle.std.proofs.lemmas.List.{take-replicate}
 use Rattle.std.proofs.lemmas.List.Edits.{paste_all}
 use Rattle.std.specs.Int.{w16, to_le_bytes}
-use Rattle.std.specs.Prelude.{slice_index_or}
 use Rattle.rules.specs.Lists.{pad}
 use Rattle.rules.proofs.ListLaws.{pad_front}
 use Rattle.host.specs.Bytes.{bytes_of, bytes_after}

@@ -1,6 +1,5 @@
 -- `host::box_line` meets its contract: the start and the part that the line finder gives.
-use mathlib.Core.Path.{ap}
-use lib.ListN.{length}
+use Rattle.std.proofs.Common.{ap, length}
 use Rattle.host.proofs.box_line.Goals as goal
 
 pub returns : goal.returns

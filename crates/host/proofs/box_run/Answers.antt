@@ -1,5 +1,5 @@
 -- `host::box_run` meets its contract: the run is made and stored, and its answer told by its numbers.
-use mathlib.Core.Path.{refl}
+use Rattle.std.proofs.Common.{refl}
 use Rattle.table.specs.ProgramTable.{fresh_table}
 use Rattle.host.proofs.Crossing.{has_run}
 use Rattle.host.proofs.box_run.Goals as goal
