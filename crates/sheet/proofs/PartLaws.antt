@@ -1,5 +1,5 @@
 -- What the parts of a sheet find in the table of a program.
-use Prim.Native.Nat.{ℕ, ◌+◌}
+use Prim.Native.Nat.{ℕ, ◌+◌, ◌≤◌}
 use native.Mathlib.Omega.{arith}
 use mathlib.Core.Path.{◌≡◌, refl, sym, ap, ◌∙◌}
 use mathlib.Core.Bool.{true}
@@ -13,8 +13,10 @@ use Rattle.rules.specs.Valid.{Valid}
 use Rattle.rules.specs.Reading.{lines_before}
 use Rattle.rules.specs.Tables.{edition_word, program_words}
 use Rattle.rules.proofs.Accepted.{table_lines}
-use Rattle.buffer.specs.Writing.{Wrote, number_part}
-use Rattle.buffer.proofs.Appends.{◌▹◌, same_text}
+use Rattle.buffer.specs.declared.Output.{Output}
+use Rattle.buffer.specs.Outputs.{Wrote}
+use Rattle.buffer.specs.Writing.{number_part}
+use Rattle.buffer.proofs.Outputs.{◌▹◌, same_text}
 use Rattle.table.specs.ProgramTable.{Filled, LineCount, EditionIs}
 use Rattle.table.proofs.ProgramTable.{program_words_by_lines}
 use Rattle.table.proofs.ProgramLines.{blocks_of_lines}
@@ -55,84 +57,78 @@ module _ {p : List ℕ} {w : ℕ} (seen : EditionIs p w) where
       go edition1 none = refl
       go edition2 none = absurd (none refl)
 
+-- ---- A text that is the program's
+
+pub program_text : {k : ℕ} {p t : List ℕ} {o o₁ : Output} (text : Program → List ℕ) → Wrote k o o₁ t → ((P : Program) → Valid mosts P → p ≡ program_words P → t ≡ text P)
+    → WritesProgram k p o o₁ text
+program_text {k} text put same =
+    record { writes = λ P valid words. same_text k (same P valid words) (omega arith) put; most = put.most; length_same = put.length_same; buffer_same = put.buffer_same }
+
 -- ---- 1
 
-module _ {p l l₁ l₂ l₃ l₄ : List ℕ} {at a b c r lines first : ℕ} where
-  pub reads_program : LineCount p lines → FirstNumber p first → Wrote 44 l l₁ at a (tick true title_one) → Wrote 6 l₁ l₂ a b (bytes "      ")
-      → Wrote 6 l₂ l₃ b c (number_part (lines + first)) → Wrote 7 l₃ l₄ c r (bytes " lines\n") → WritesProgram 63 p l l₄ at r read_text
-  unfolding read_text
-  reads_program counted number title indent put end =
-      record {
-        writes = λ P valid words. (
-            let count : lines ≡ length (lines_of P) = counted.is (counts_of P) [] (lines_of P) (program_filled P valid words) in
-            same_text 63 (rw (count, number.is P valid words) refl) (omega arith) (title ▹ indent ▹ put ▹ end)
-            );
-        most = omega (arith, title.most, indent.most, put.most, end.most);
-      }
+pub reads_program : {p : List ℕ} {o o₁ : Output} {lines first : ℕ} → LineCount p lines → FirstNumber p first
+    → Wrote 63 o o₁ (tick true title_one ++ (bytes "      " ++ (number_part (lines + first) ++ bytes " lines\n"))) → WritesProgram 63 p o o₁ read_text
+unfolding read_text
+reads_program {lines = lines} counted number put =
+    program_text read_text put (λ P valid words. (
+    let count : lines ≡ length (lines_of P) = counted.is (counts_of P) [] (lines_of P) (program_filled P valid words) in
+    rw (count, number.is P valid words) refl
+    ))
 
 -- ---- 2
 
-module _ {p l l₁ : List ℕ} {at r a b c d : ℕ} where
-  pub counts_program : CountsMaking p 1 a → CountsMaking p 2 b → CountsMaking p 3 c → CountsMaking p 4 d → Wrote 165 l l₁ at r (cap_text a b c d)
-      → WritesProgram 165 p l l₁ at r cap_counts
-  unfolding cap_counts
-  counts_program first second third fourth put =
-      record {
-        writes = λ P valid words. (
-            let filled = program_filled P valid words in
-            let made : (k n : ℕ) → CountsMaking p k n → n ≡ making k (lines_of P) = λ (k n : ℕ) (x : CountsMaking p k n). x.is (counts_of P) [] (lines_of P) filled refl in
-            rw (← made 1 a first, ← made 2 b second, ← made 3 c third, ← made 4 d fourth) put
-            );
-        most = put.most;
-      }
+pub counts_program : {p : List ℕ} {o o₁ : Output} {a b c d : ℕ} → CountsMaking p 1 a → CountsMaking p 2 b → CountsMaking p 3 c → CountsMaking p 4 d → Wrote 165 o o₁ (cap_text a b c d)
+    → WritesProgram 165 p o o₁ cap_counts
+unfolding cap_counts
+counts_program {p} {a = a} {b} {c} {d} first second third fourth put =
+    program_text cap_counts put (λ P valid words. (
+    let made : (k n : ℕ) → CountsMaking p k n → n ≡ making k (lines_of P) = λ (k n : ℕ) (x : CountsMaking p k n). x.is (counts_of P) [] (lines_of P) (program_filled P valid words) refl in
+    rw (made 1 a first, made 2 b second, made 3 c third, made 4 d fourth) refl
+    ))
 
-none_named : (ns : List ℕ) {k : ℕ} {l l₁ : List ℕ} {at r : ℕ} → Wrote k l l₁ at r (print_many decimal ns) → r ≡ at → ns ≡ []
+none_named : (ns : List ℕ) {k : ℕ} {o o₁ : Output} → Wrote k o o₁ (print_many decimal ns) → o₁.at ≡ o.at → ns ≡ []
 unfolding print_many
 none_named [] wrote same = refl
-none_named (n ∷ ns) wrote same = absurd (let end = wrote.end in omega (arith, end, same))
+none_named (n ∷ ns) wrote same = absurd (let end = wrote.writes.end in omega (arith, end, same))
 
-some_named : (ns : List ℕ) {k : ℕ} {l l₁ : List ℕ} {at r : ℕ} → Wrote k l l₁ at r (print_many decimal ns) → (r ≡ at → ⊥) → print_many decimal ns ≡ names_or_none ns
+some_named : (ns : List ℕ) {k : ℕ} {o o₁ : Output} → Wrote k o o₁ (print_many decimal ns) → (o₁.at ≡ o.at → ⊥) → print_many decimal ns ≡ names_or_none ns
 unfolding print_many
-some_named [] {at = at} wrote other = absurd (other (wrote.end ∙ omega arith))
+some_named [] {o = o} wrote other = absurd (other (wrote.writes.end ∙ omega arith))
 some_named (n ∷ ns) wrote other = refl
 
-module _ {p l l₁ l₂ : List ℕ} {at a b first : ℕ} (number : FirstNumber p first) (head : Wrote 30 l l₁ at a (bytes "       lines that name unsafe:"))
-    (named : WritesNaming p first l₁ l₂ a b) where
-  names_at : (P : Program) → Valid mosts P → p ≡ program_words P → Wrote 4032 l₁ l₂ a b (print_many decimal (naming 4 (lines_before P.edition) (lines_of P)))
+module _ {p : List ℕ} {o o₁ o₂ : Output} {first : ℕ} (number : FirstNumber p first) (head : Wrote 30 o o₁ (bytes "       lines that name unsafe:"))
+    (named : WritesNaming p first o₁ o₂) where
+  names_at : (P : Program) → Valid mosts P → p ≡ program_words P → Wrote 4032 o₁ o₂ (print_many decimal (naming 4 (lines_before P.edition) (lines_of P)))
   names_at P valid words = rw (← number.is P valid words) (named.writes (counts_of P) [] (lines_of P) (program_filled P valid words) refl)
 
-  pub names_none : {l₃ : List ℕ} {r : ℕ} → b ≡ a → Wrote 6 l₂ l₃ b r (bytes " none\n") → WritesProgram 4070 p l l₃ at r naming_of
-  unfolding naming_of print_many
-  names_none same end =
-      record {
-        writes = λ P valid words. (
-            let ns = naming 4 (lines_before P.edition) (lines_of P) in
-            let none : ns ≡ [] = none_named ns (names_at P valid words) same in
-            same_text 4070 (said ns none) (omega arith) (head ▹ names_at P valid words ▹ end)
-            );
-        most = omega (arith, head.most, named.most, end.most);
-      }
-    where
-      said : (ns : List ℕ) → ns ≡ [] → bytes "       lines that name unsafe:" ++ (print_many decimal ns ++ bytes " none\n") ≡ bytes "       lines that name unsafe:" ++ (names_or_none ns ++ bytes "\n")
-      said ns none = rw none refl
-
-  pub names_some : {l₃ : List ℕ} {r : ℕ} → (b ≡ a → ⊥) → Wrote 1 l₂ l₃ b r (bytes "\n") → WritesProgram 4070 p l l₃ at r naming_of
+  named_text : {o₃ : Output} {k : ℕ} {end : List ℕ} → Wrote k o₂ o₃ end → 4062 + k ≤ 4070
+      → ((P : Program) (ns : List ℕ) → Wrote 4032 o₁ o₂ (print_many decimal ns) → print_many decimal ns ++ end ≡ names_or_none ns ++ bytes "\n") → WritesProgram 4070 p o o₃ naming_of
   unfolding naming_of
-  names_some other end =
+  named_text {o₃} put room same =
       record {
         writes = λ P valid words. (
-            let ns = naming 4 (lines_before P.edition) (lines_of P) in
-            same_text 4070 (ap (λ (t : List ℕ). bytes "       lines that name unsafe:" ++ (t ++ bytes "\n")) (some_named ns (names_at P valid words) other)) (omega arith)
-            (head ▹ names_at P valid words ▹ end)
+            same_text 4070 (ap (bytes "       lines that name unsafe:" ++◌) (same P (naming 4 (lines_before P.edition) (lines_of P)) (names_at P valid words))) (omega (arith, room))
+            (head ▹ names_at P valid words ▹ put)
             );
-        most = omega (arith, head.most, named.most, end.most);
+        most = omega (arith, room, head.most, named.most, put.most);
+        length_same = put.length_same ∙ named.length_same ∙ head.length_same;
+        buffer_same = put.buffer_same ∙ named.buffer_same ∙ head.buffer_same;
       }
 
-pub two_program : {p l l₁ l₂ l₃ : List ℕ} {at a b r : ℕ} → Wrote 44 l l₁ at a (tick true title_two) → WritesProgram 165 p l₁ l₂ a b cap_counts → WritesProgram 4070 p l₂ l₃ b r naming_of
-    → WritesProgram 4279 p l l₃ at r two_text
+  pub names_none : {o₃ : Output} → o₂.at ≡ o₁.at → Wrote 6 o₂ o₃ (bytes " none\n") → WritesProgram 4070 p o o₃ naming_of
+  unfolding print_many
+  names_none same put = named_text put (omega arith) (λ P ns wrote. rw (none_named ns wrote same) refl)
+
+  pub names_some : {o₃ : Output} → (o₂.at ≡ o₁.at → ⊥) → Wrote 1 o₂ o₃ (bytes "\n") → WritesProgram 4070 p o o₃ naming_of
+  names_some other put = named_text put (omega arith) (λ P ns wrote. ap (λ (t : List ℕ). t ++ bytes "\n") (some_named ns wrote other))
+
+pub two_program : {p : List ℕ} {o o₁ o₂ o₃ : Output} → Wrote 44 o o₁ (tick true title_two) → WritesProgram 165 p o₁ o₂ cap_counts → WritesProgram 4070 p o₂ o₃ naming_of
+    → WritesProgram 4279 p o o₃ two_text
 unfolding two_text
 two_program title counts names =
     record {
       writes = λ P valid words. same_text 4279 refl (omega arith) (title ▹ counts.writes P valid words ▹ names.writes P valid words);
       most = omega (arith, title.most, counts.most, names.most);
+      length_same = names.length_same ∙ counts.length_same ∙ title.length_same;
+      buffer_same = names.buffer_same ∙ counts.buffer_same ∙ title.buffer_same;
     }

@@ -1,44 +1,51 @@
 -- The text of a refusal: the bytes of a line one after the other, its last byte, where it ends, what is shown of it.
 use Prim.Native.Nat.{ℕ, suc, ◌+◌, ◌-◌, ◌≤◌, ◌<◌}
-use native.Mathlib.Numerals.{add-one}
 use native.Mathlib.Omega.{arith}
-use mathlib.Core.Path.{◌≡◌, refl, sym, ◌∙◌}
-use mathlib.Core.Bool.{false}
+use mathlib.Core.Path.{◌≡◌, refl, sym, ap, ◌∙◌}
+use mathlib.Core.Bool.{Bool, true, false, ◌&&◌}
 use mathlib.Core.List.{List, [], ◌∷◌, ◌++◌, map, map-append, append_assoc}
 use lib.Dec.{eqb}
-use lib.ListN.{length, take, set, get_or}
-use lib.Seq.{take-suc}
+use native.Mathlib.Numerals.{add-one}
+use lib.ListN.{length, take, drop, get_or}
+use lib.Seq.{take-suc, take_all}
+use Rattle.std.specs.Prelude.{min}
+use Rattle.std.specs.List.{ends_with}
+use Rattle.std.proofs.lemmas.List.{take_min}
+use Rattle.rules.proofs.Counts.{eqb_sym}
 use borrow.Author.Tests.{eqb-true, eqb-false, eq-eqb, ne_eqb}
 use Rattle.rules.specs.Numbers as No
 use Rattle.rules.specs.Text.{bytes, find_line}
 use Rattle.rules.specs.Templates.{decimal}
 use Rattle.rules.proofs.ListLaws.{by_bool}
-use Rattle.buffer.specs.Writing.{Wrote, number_part}
-use Rattle.buffer.proofs.Appends.{◌▹◌, byte}
+use Rattle.buffer.specs.declared.Output.{Output}
+use Rattle.buffer.specs.Outputs.{Wrote}
+use Rattle.buffer.specs.Writing.{number_part}
+use Rattle.buffer.proofs.Outputs.{◌▹◌, same_text}
 use Rattle.sheet.specs.SheetText.{visible, mark_under, shown, last_of, editor_line, word_text, refusal}
 
--- one byte more of a text, each byte as f gives it
-pub one_more_as : {l l₁ : List ℕ} {at : ℕ} (f : ℕ → ℕ) (t : List ℕ) (i : ℕ) → i < length t → at + i < length l₁ → Wrote i l l₁ at (at + i) (map f (take i t))
-    → Wrote (i + 1) l (set l₁ (at + i) (f (get_or t i 0))) at (at + (i + 1)) (map f (take (i + 1) t))
-one_more_as {l} {l₁} {at} f t i there room a =
-    rw (next_place, add-one i, take-suc t i 0 there, map-append f (take i t) (get_or t i 0 ∷ [])) (rw (add-one i) at (a ▹ byte (f (get_or t i 0)) room))
-  where
-    next_place : at + (i + 1) ≡ at + i + 1
-    next_place = omega arith
+-- one byte more of a line, each as h shows it; and all of them
+pub one_more_as : {o o₁ o₂ : Output} {r : ℕ} (h : ℕ → ℕ) (t : List ℕ) (i : ℕ) → i < length t → Wrote i o o₁ (map h (take i t)) → Wrote 1 o₁ o₂ (r ∷ []) → r ≡ h (get_or t i 0)
+    → Wrote (i + 1) o o₂ (map h (take (i + 1) t))
+one_more_as h t i there a b is =
+    same_text (i + 1) (rw (add-one i, take-suc t i 0 there, map-append h (take i t) (get_or t i 0 ∷ []), is) refl) (omega arith) (a ▹ b)
 
-last_at : (c : ℕ) (l : List ℕ) → get_or (c ∷ l) (length l) 0 ≡ last_of (c ∷ l)
-last_at c [] = refl
-last_at c (d ∷ l) = last_at d l
+pub all_as : {o o₁ : Output} (h : ℕ → ℕ) (t : List ℕ) (i : ℕ) → i ≡ length t → Wrote i o o₁ (map h (take i t)) → Wrote (length t) o o₁ (map h t)
+all_as h t i e a = same_text (length t) (ap (map h) (take_all i t (omega (arith, e)))) (omega (arith, e)) a
 
-pub last_byte : (l : List ℕ) → get_or l (length l - 1) 0 ≡ last_of l
-last_byte [] = refl
-last_byte (c ∷ l) =
+last_drop : (c : ℕ) (l : List ℕ) → drop (length l) (c ∷ l) ≡ last_of (c ∷ l) ∷ []
+last_drop c [] = refl
+last_drop c (d ∷ l) = last_drop d l
+
+and_true : (b : Bool) → (b && true) ≡ b
+and_true true = refl
+and_true false = refl
+
+-- the last byte, as the library looks at it
+pub ends_with_byte : (l : List ℕ) → ends_with eqb l (13 ∷ []) ≡ eqb (last_of l) 13
+ends_with_byte [] = refl
+ends_with_byte (c ∷ l) =
     let place : suc (length l) - 1 ≡ length l = omega arith in
-    rw place (last_at c l)
-
-pub none_last : (l : List ℕ) → length l ≡ 0 → false ≡ eqb (last_of l) 13
-none_last [] e = refl
-none_last (c ∷ l) e = absurd (omega (arith, e))
+    rw (place, last_drop c l, eqb_sym 13 (last_of (c ∷ l))) (and_true (eqb (last_of (c ∷ l)) 13))
 
 -- a part from s on goes up to the end of a text where it is as long as what is left there
 pub up_to_end : (s n t : ℕ) → s ≤ t → eqb n (t - s) ≡ eqb (s + n) t
@@ -51,11 +58,13 @@ unfolding shown
 shown_none k [] e = refl
 shown_none k (c ∷ l) e = absurd (omega (arith, e))
 
-pub shown_some : (k : ℕ) (l : List ℕ) (n : ℕ) → (length l ≡ 0 → ⊥) → take n l ≡ take 100 l
+pub shown_some : (k : ℕ) (l : List ℕ) (n : ℕ) → (length l ≡ 0 → ⊥) → n ≡ min (length l) 100
     → bytes "       " ++ (map visible (take n l) ++ (bytes "\n       " ++ (map (mark_under k) (take n l) ++ bytes "\n"))) ≡ shown k l
 unfolding shown
 shown_some k [] n some e = absurd (some refl)
-shown_some k (c ∷ l) n some e = rw e refl
+shown_some k (c ∷ l) n some e =
+    let front : n ≡ min 100 (length (c ∷ l)) = omega (arith, e) in
+    rw (front, take_min 100 (c ∷ l)) refl
 
 -- a refusal as its parts
 module _ (k n : ℕ) (text : List ℕ) where

@@ -1,121 +1,64 @@
 // The capabilities that the lines of a program name, from its table.
-ghost use Rattle.std.specs.Prelude.{◌≡◌, cond, suc, ◌+◌, ◌≤◌, ◌<◌, eqb, length};
-ghost use Rattle.rules.specs.Script.{rank};
+ghost use Rattle.std.specs.Prelude.{Some, ◌≤◌, ◌<◌, length};
+ghost use Rattle.buffer.specs.Outputs.{HasRoom};
 ghost use Rattle.sheet.specs.Ticks.{cap_made, cap_named};
-ghost use Rattle.sheet.specs.CapLines.{CountsMaking, TellsLine, WritesName, WritesNaming};
+ghost use Rattle.sheet.specs.CapLines.{cap_number, CountsMaking, TellsLine, WritesName, WritesNaming};
 
-use buffer::put_number;
+use buffer::Output;
 use rules::{Cap, Form};
 
-// 1 and its rank.
-fn cap_number(cap: Cap) -> u16
-    ensures { result ≡ suc (rank cap) }
-{
-    match cap {
-        Cap::Imm => 1,
-        Cap::Iso => 2,
-        Cap::Local => 3,
-        Cap::Unsafe => 4,
-    }
-}
-
-// The capability that line n names, by its number; 0 for none.
-fn cap_named(p: &[u16], n: usize) -> u16
+// The capability that line n names.
+fn cap_named(p: &[u16], n: usize) -> Option<Cap>
     requires { (8192 ≤ length p.now) × (n < 672) }
-    ensures { TellsLine p.now n cap_named result }
+    ensures { TellsLine p.now n cap_named (cap_number result) }
 {
-    let form = rules::form_of(table::line_word(p, n, 0));
-    match form {
-        Form::New | Form::Cast | Form::Copy => cap_number(table::cap_of(table::line_word(p, n, 1))),
-        Form::NoForm
-        | Form::Thread
-        | Form::Method
-        | Form::Kind
-        | Form::Give
-        | Form::Value
-        | Form::Field
-        | Form::Swap
-        | Form::Call
-        | Form::Spawn
-        | Form::Send
-        | Form::Recv => 0,
+    match Form::from(table::line_word(p, n, 0)) {
+        Form::New | Form::Cast | Form::Copy => Some(Cap::from(table::line_word(p, n, 1))),
+        _ => None,
     }
 }
 
-// That of the records which line n makes; 0 for none.
-fn cap_made(p: &[u16], n: usize) -> u16
+// That of the records which line n makes.
+fn cap_made(p: &[u16], n: usize) -> Option<Cap>
     requires { (8192 ≤ length p.now) × (n < 672) }
-    ensures { TellsLine p.now n cap_made result }
+    ensures { TellsLine p.now n cap_made (cap_number result) }
 {
-    let form = rules::form_of(table::line_word(p, n, 0));
-    match form {
-        Form::New | Form::Copy => cap_number(table::cap_of(table::line_word(p, n, 1))),
-        Form::NoForm
-        | Form::Thread
-        | Form::Method
-        | Form::Kind
-        | Form::Give
-        | Form::Value
-        | Form::Field
-        | Form::Swap
-        | Form::Call
-        | Form::Cast
-        | Form::Spawn
-        | Form::Send
-        | Form::Recv => 0,
+    match Form::from(table::line_word(p, n, 0)) {
+        Form::New | Form::Copy => Some(Cap::from(table::line_word(p, n, 1))),
+        _ => None,
     }
 }
 
-// 1 for the capability with this number, 0 for any other.
-fn one_if(made: u16, k: u16) -> usize
-    ensures { (result ≡ cond (eqb made k) 1 0) × (result ≤ 1) }
-{
-    if made == k { 1 } else { 0 }
-}
-
-// How many lines make records of the capability with this number.
-pub fn count_making(p: &[u16], k: u16) -> usize
+// How many lines make records of a capability.
+pub fn count_making(p: &[u16], cap: Cap) -> usize
     requires { 8192 ≤ length p.now }
-    ensures { CountsMaking p.now k result }
+    ensures { CountsMaking p.now (cap_number (Some cap)) result }
 {
-    let lines = table::line_count(p);
-    let mut count: usize = 0;
-    let mut n: usize = 0;
-    while n < 672 {
-        if lines <= n {
-            return count;
+    let mut count = 0;
+    for n in 0..table::line_count(p).min(672) {
+        if cap_made(p, n) == Some(cap) {
+            count += 1;
         }
-        count += one_if(cap_made(p, n), k);
-        n += 1;
     }
     count
 }
 
 // The number of line n where it names unsafe; nothing of any other.
-fn put_name(buf: &mut [u8], at: usize, p: &[u16], first: usize, n: usize) -> usize
-    requires { (at + 6 ≤ length buf.old) × (8192 ≤ length p.now) × (first ≤ 1) × (n < 672) }
-    ensures { WritesName p.now first n buf.old buf.new at result }
+fn put_name(out: &mut Output, p: &[u16], first: usize, n: usize)
+    requires { HasRoom 6 out.old × (8192 ≤ length p.now) × (first ≤ 1) × (n < 672) }
+    ensures { WritesName p.now first n out.old out.new }
 {
-    if cap_named(p, n) == 4 {
-        return put_number(buf, at, first + n);
+    if cap_named(p, n) == Some(Cap::Unsafe) {
+        out.put_number(first + n);
     }
-    at
 }
 
 // The numbers of the lines that name unsafe, each after a space; the first line has the number `first`.
-pub fn put_naming(buf: &mut [u8], at: usize, p: &[u16], first: usize) -> usize
-    requires { (at + 4032 ≤ length buf.old) × (8192 ≤ length p.now) × (first ≤ 1) }
-    ensures { WritesNaming p.now first buf.old buf.new at result }
+pub fn put_naming(out: &mut Output, p: &[u16], first: usize)
+    requires { HasRoom 4032 out.old × (8192 ≤ length p.now) × (first ≤ 1) }
+    ensures { WritesNaming p.now first out.old out.new }
 {
-    let lines = table::line_count(p);
-    let mut end = at;
-    let mut n: usize = 0;
-    while n < 672 {
-        if lines <= n {
-            return end;
-        }
-        end = put_name(buf, end, p, first, n);
-        n += 1;
+    for n in 0..table::line_count(p).min(672) {
+        put_name(out, p, first, n);
     }
-    end
 }

@@ -1,13 +1,11 @@
 -- The form tells whether the line makes records, and its second word of which capability.
-use Prim.Native.Nat.{suc}
-use mathlib.Core.Path.{ap, ◌∙◌}
+use Rattle.std.proofs.Common.{suc, ap}
 use Rattle.rules.specs.Script.{rank}
 use Rattle.sheet.proofs.CapLaws.{made_some, made_none}
 use Rattle.sheet.proofs.cap_lines.cap_made.Goals as goal
 
 pub returns-in-New : goal.returns-in-New
-returns-in-New c =
-    made_some c.line_word.ensures.line_word c.form_of-form.ensures c.line_word-in-New.ensures.line_word (c.cap_number.ensures ∙ ap (λ k. suc (rank k)) c.cap_of.ensures) c.in-New.is
+returns-in-New c = made_some c.line_word.ensures.line_word c.from.ensures c.line_word-in-New.ensures.line_word (ap (λ k. suc (rank k)) c.from-in-New.ensures) c.in-New.is
 
-pub returns-in-NoForm : goal.returns-in-NoForm
-returns-in-NoForm c = made_none c.line_word.ensures.line_word c.form_of-form.ensures c.in-NoForm.is
+pub returns-in_default : goal.returns-in_default
+returns-in_default c = made_none c.line_word.ensures.line_word c.from.ensures c.in_default.not-New c.in_default.not-Copy

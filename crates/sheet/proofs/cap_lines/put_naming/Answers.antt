@@ -1,30 +1,17 @@
 -- Before turn n the numbers of the lines before n are written.
-use native.Mathlib.Omega.{arith}
-use mathlib.Core.Logic.{inl, inr}
+use Rattle.std.proofs.Common.{arith}
 use Rattle.sheet.proofs.CapLaws.{named_start, named_on, named_all}
 use Rattle.sheet.proofs.cap_lines.put_naming.Goals as goal
 
 pub loop-n-init : goal.loop-n-init
-loop-n-init c =
-    (omega arith, omega arith, named_start c.args.p.now c.args.first c.args.at c.args.buf.now (omega (arith, c.requires.0)))
+loop-n-init c = named_start c.args.p.now c.args.first c.args.out.now (omega (arith, c.requires.0))
 
-pub shape_of-buf-then-lines-n : goal.shape_of-buf-then-lines-n
-shape_of-buf-then-lines-n c = omega (arith, c.loop-n.invariant.2.same_length)
-
-pub returns-then-lines-n : goal.returns-then-lines-n
-returns-then-lines-n c =
-    named_all c.loop-n.invariant.2 c.line_count-lines.ensures.line_count c.loop-n.invariant.0 c.loop-n.invariant.1 (inl c.if-lines-n.true)
-
-pub put_name-end-requires : goal.put_name-end-requires
-put_name-end-requires c =
-    (omega (arith, c.requires.0, c.loop-n.invariant.2.most, c.loop-n.invariant.2.same_length, c.loop-n-test.true), c.requires.1, c.requires.2, c.loop-n-test.true)
+pub put_name-requires : goal.put_name-requires
+put_name-requires c =
+    (omega (arith, c.requires.0, c.loop-n.invariant.most, c.loop-n.invariant.length_same, c.loop-n-test.true, c.min-n-end.ensures), c.requires.1, c.requires.2, omega (arith, c.loop-n-test.true, c.min-n-end.ensures))
 
 pub loop-n-preserved : goal.loop-n-preserved
-loop-n-preserved c =
-    (omega (arith, c.if-lines-n.false), omega (arith, c.loop-n-test.true), named_on c.loop-n.invariant.2 c.put_name-end.ensures c.put_name-end.auto.buf)
-
-pub shape_of-buf : goal.shape_of-buf
-shape_of-buf c = omega (arith, c.loop-n.invariant.2.same_length)
+loop-n-preserved c = named_on c.loop-n.invariant c.put_name.ensures
 
 pub returns : goal.returns
-returns c = named_all c.loop-n.invariant.2 c.line_count-lines.ensures.line_count c.loop-n.invariant.0 c.loop-n.invariant.1 (inr (omega (arith, c.loop-n-test.false)))
+returns c = named_all c.loop-n.invariant c.line_count.ensures.line_count (omega (arith, c.loop-n.auto.n-end, c.loop-n-test.false, c.min-n-end.ensures))

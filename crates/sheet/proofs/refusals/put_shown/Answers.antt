@@ -1,17 +1,15 @@
--- Of an empty line nothing is written; of any other the line, a line feed and the marks, each as long as what is shown of the line.
-use native.Mathlib.Omega.{arith}
-use Rattle.buffer.proofs.Appends.{◌▹◌, same_text, nothing}
+-- Of an empty line nothing is written; of any other the line and the marks, each as long as what is shown of the line.
+use Rattle.std.proofs.Common.{arith, rules, length-take}
+use Rattle.rules.specs.Numbers.{number}
+use Rattle.sheet.specs.SheetText.{visible, mark_under}
+use Rattle.buffer.proofs.Outputs.{nothing, ◌▹◌, same_text}
 use Rattle.sheet.proofs.RefusalLaws.{shown_none, shown_some}
-use Rattle.std.proofs.Common.{rules}
 use Rattle.sheet.proofs.refusals.put_shown.Goals as goal
 
-pub returns-then-line-eq0 : goal.returns-then-line-eq0
-returns-then-line-eq0 c =
-    let start = c.args in
-    same_text 216 (shown_none start.number start.line.now c.if-line-eq0.true) (omega arith) (nothing 0 (search rules))
+pub returns-then-is_empty : goal.returns-then-is_empty
+returns-then-is_empty c = same_text 216 (shown_none (number c.args.fault) c.args.line.now (search rules)) (omega arith) (nothing 0 (omega (arith, c.requires)))
 
 pub returns : goal.returns
 returns c =
-    let start = c.args in
-    same_text 216 (shown_some start.number start.line.now c.width-n.result c.if-line-eq0.false c.width-n.ensures.0) (omega (arith, c.width-n.ensures.2))
-    (c.put_text-a.ensures ▹ c.put_visible-b.ensures ▹ c.put_text-c.ensures ▹ c.put_marks-d.ensures ▹ c.put_text.ensures)
+    same_text 216 (shown_some (number c.args.fault) c.args.line.now c.min.result (search rules) c.min.ensures) (omega (arith, length-take c.min.result c.args.line.now, c.min.ensures))
+    (c.put_text.ensures ▹ c.put_line.ensures.text visible (λ b r low told. told) ▹ c.put_text-2.ensures ▹ c.put_line-2.ensures.text (mark_under (number c.args.fault)) (λ b r low told. search rules) ▹ c.put_text-3.ensures)

@@ -1,9 +1,7 @@
 -- Nothing of a row without turns.
-use Prim.Native.Nat.{◌*◌}
-use native.Mathlib.Omega.{arith}
-use mathlib.Core.Path.{refl, sym, ◌∙◌}
 use borrow.Author.Tests.{eq-eqb, ne_eqb}
-use Rattle.buffer.proofs.Appends.{nothing, ◌▹◌, same_text}
+use Rattle.std.proofs.Common.{◌*◌, refl, sym, ◌∙◌, arith}
+use Rattle.buffer.proofs.Outputs.{nothing, ◌▹◌, same_text}
 use Rattle.sheet.specs.SheetText.{turns_in, row_text}
 use Rattle.sheet.proofs.rows.put_row.Goals as goal
 
@@ -15,4 +13,5 @@ returns-then-turns_in-eq0 c =
 pub returns : goal.returns
 unfolding row_text
 returns c =
-    same_text 93 (rw (ne_eqb (turns_in c.args.counts.now (c.args.t * 5)) 0 (λ e. c.if-turns_in-eq0.false (c.turns_in.ensures ∙ e))) refl) (omega arith) (c.put_row_name-a.ensures ▹ c.put_fates.ensures)
+    same_text 93 (rw (ne_eqb (turns_in c.args.counts.now (c.args.t * 5)) 0 (λ e. c.if-turns_in-eq0.false (c.turns_in.ensures ∙ e))) refl) (omega arith)
+    (c.put_row_name.ensures ▹ c.put_fates.ensures)
