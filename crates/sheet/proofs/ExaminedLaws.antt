@@ -15,7 +15,9 @@ use Rattle.rules.specs.Stripped.{strip, erase}
 use Rattle.rules.specs.Calls.{long_text, long_turns, inputs}
 use Rattle.table.specs.ProgramTable.{fresh_table, Same}
 use Rattle.table.specs.StateTable.{Becomes}
-use Rattle.run.specs.declared.Answer.{Answer}
+use Rattle.std.specs.Prelude.{Result}
+use Rattle.rules.specs.declared.faults.Refusal.{Refusal}
+use Rattle.run.specs.declared.Outcome.{Outcome}
 use Rattle.run.specs.Made.{Holds, Made}
 use Rattle.tally.specs.Counted.{Tallies}
 use Rattle.stripping.specs.StrippedRuns.{stripped_of, MakesStripped}
@@ -40,7 +42,7 @@ front_reads text turns {k} few within reads =
 
 -- ---- The stripped run
 
-module _ {text turns p s p₁ s₁ : List ℕ} {r : Answer} (makes : MakesStripped text turns p s r p₁ s₁) (fresh-p : p ≡ fresh_table) (fresh-s : s ≡ fresh_table) where
+module _ {text turns p s p₁ s₁ : List ℕ} {r : Result Outcome Refusal} (makes : MakesStripped text turns p s r p₁ s₁) (fresh-p : p ≡ fresh_table) (fresh-s : s ≡ fresh_table) where
   stripped_made : (P : Program) → ReadsAs text turns P → Holds (strip P) turns r p₁ s₁
   stripped_made P reads = subst (λ (C : Reading). Made (stripped_of C) turns r p₁ s₁) reads (makes.makes fresh-p fresh-s)
 
@@ -56,7 +58,7 @@ module _ {text turns p s p₁ s₁ : List ℕ} {r : Answer} (makes : MakesStripp
 
 -- ---- Both
 
-pub examined : {text turns p s s₀ counts : List ℕ} {k : ℕ} {r : Answer} {b : Bool} → length turns ≤ Most.turns → s₀ ≡ fresh_table → length counts ≡ 85
+pub examined : {text turns p s s₀ counts : List ℕ} {k : ℕ} {r : Result Outcome Refusal} {b : Bool} → length turns ≤ Most.turns → s₀ ≡ fresh_table → length counts ≡ 85
     → Tallies p s₀ turns k counts → StrippedAnswers text turns r → ComparesRuns text (take k turns) s b
     → Examines text turns p s (record { counts = counts; played = k; stripped = r; same = b })
 examined {text} {turns} {k = k} few fresh wide tallied answers compared =

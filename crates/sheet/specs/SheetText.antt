@@ -1,5 +1,5 @@
 -- The sheet of an input, byte for byte: docs/SHEET.md shows one of each sort.
-use Rattle.std.specs.Prelude.{ℕ, zero, suc, ◌+◌, ◌*◌, Bool, true, false, cond, List, [], ◌∷◌, ◌++◌, map, eqb, ltb, length, get_or, take}
+use Rattle.std.specs.Prelude.{Result, Ok, Err, ℕ, zero, suc, ◌+◌, ◌*◌, Bool, true, false, cond, List, [], ◌∷◌, ◌++◌, map, eqb, ltb, length, get_or, take}
 use Prim.Native.Char.{code}
 use Prim.Native.String as S
 use Rattle.rules.specs.Mosts.{mosts}
@@ -9,14 +9,15 @@ use Rattle.rules.specs.Templates.{decimal, print_many}
 use Rattle.rules.specs.Script.{Program, lines_of}
 use Rattle.rules.specs.Reading.{Reading, turned_away, accepted, lines_before}
 use Rattle.buffer.specs.Writing.{number_part}
-use Rattle.run.specs.declared.Answer as Run
-use Rattle.run.specs.RunAnswers.{answer_of}
-use Rattle.listing.specs.Outputs.{answer_text, output_bytes}
+use Rattle.rules.specs.Run.{Answer}
+use Rattle.rules.specs.Listing.{answer_line}
+use Rattle.listing.specs.Outputs.{output_bytes}
 use Rattle.replay.specs.Given.{Given, away, faulty, given, given_of}
 use Rattle.tally.specs.Fates.{rows, tally, played}
 use Rattle.stripping.specs.StrippedRuns.{guards_change_nothing}
-use Rattle.sheet.specs.declared.Checked.{Checked}
-use Rattle.sheet.specs.declared.Checked.TheVariants.{Refused, Sheet}
+use Rattle.rules.specs.declared.faults.Fault.{Fault}
+use Rattle.rules.specs.declared.faults.Fault.TheVariants.{ShortTable}
+use Rattle.sheet.specs.declared.Sheet.{Sheet}
 use Rattle.sheet.specs.Ticks.{reading_of, making, naming, guarded_answer, stripped_answer}
 
 -- ---- Ticks
@@ -207,11 +208,11 @@ words_text false = bytes "       other words, capabilities aside, after"
 unfoldable pub compared_text : (same : Bool) → (turns : ℕ) → List ℕ
 compared_text b n = words_text b ++ (number_part n ++ bytes " turns\n")
 
-unfoldable pub four_text : (guarded stripped : Run.Answer) → (same : Bool) → (turns : ℕ) → List ℕ
-four_text g r b n = tick b title_four ++ (bytes "       with guards: " ++ (answer_text g ++ (bytes "       without:     " ++ (answer_text r ++ compared_text b n))))
+unfoldable pub four_text : (guarded stripped : Answer) → (same : Bool) → (turns : ℕ) → List ℕ
+four_text g r b n = tick b title_four ++ (bytes "       with guards: " ++ (answer_line g ++ (bytes "       without:     " ++ (answer_line r ++ compared_text b n))))
 
 unfoldable pub part_four : Program → List ℕ → List ℕ
-part_four P ts = four_text (answer_of (guarded_answer P ts)) (answer_of (stripped_answer P ts)) (guards_change_nothing P ts) (played mosts P ts)
+part_four P ts = four_text (guarded_answer P ts) (stripped_answer P ts) (guards_change_nothing P ts) (played mosts P ts)
 
 -- ---- The sheet
 
@@ -266,5 +267,5 @@ unfoldable pub holds_of : (input : List ℕ) → Bool
 holds_of input = holds_by (given_of input)
 
 -- "9 short table: a lent table or list under its length"; otherwise the sheet's bytes are counted, and told whether all four conditions hold
-unfoldable pub checked_of : (input output : List ℕ) → Checked
-checked_of input output = cond (ltb (length output) output_bytes) (Refused No.short_table) (Sheet (length (sheet_of input)) (holds_of input))
+unfoldable pub checked_of : (input output : List ℕ) → Result Sheet Fault
+checked_of input output = cond (ltb (length output) output_bytes) (Err ShortTable) (Ok (record { length = length (sheet_of input); holds = holds_of input }))

@@ -2,19 +2,20 @@
 ghost use Rattle.std.specs.Prelude.{◌≤◌, length};
 ghost use Rattle.sheet.specs.Examined.{ComparesRuns, Examines, StrippedAnswers};
 
-use run::Answer;
+use rules::Refusal;
+use run::Outcome;
 
 // What is found: five counts for each thread, the turns played before a stop, the stripped run's answer, and whether the tables are the same.
 #[derive(Clone, Copy)]
 pub struct Examined {
     pub counts: [u16; 85],
     pub played: usize,
-    pub stripped: Answer,
+    pub stripped: Result<Outcome, Refusal>,
     pub same: bool,
 }
 
 // What the stripped run answers.
-fn stripped_answer(text: &[u8], turns: &[u8]) -> Answer
+fn stripped_answer(text: &[u8], turns: &[u8]) -> Result<Outcome, Refusal>
     ensures { StrippedAnswers text.now turns.now result }
 {
     let mut p = [0u16; 8192];
@@ -29,7 +30,7 @@ fn is_same(text: &[u8], played: &[u8], s: &mut [u16]) -> bool
 {
     let mut q = [0u16; 8192];
     let mut t = [0u16; 8192];
-    stripping::make_stripped(text, played, &mut q, &mut t);
+    let _ = stripping::make_stripped(text, played, &mut q, &mut t);
     table::erase_state(s);
     table::same_table(s, &t)
 }
@@ -40,15 +41,11 @@ pub fn examine(text: &[u8], turns: &[u8], p: &[u16], s: &mut [u16]) -> Examined
     ensures { Examines text.now turns.now p.now s.old result }
 {
     let mut fresh = [0u16; 8192];
-    let counted = tally::tally(p, &mut fresh, turns);
-    let counts = counted.counts;
-    let played = counted.played;
-    let stripped = stripped_answer(text, turns);
-    let same = is_same(text, &turns[..played], s);
+    let tallied = tally::tally(p, &mut fresh, turns);
     Examined {
-        counts: counts,
-        played: played,
-        stripped: stripped,
-        same: same,
+        counts: tallied.counts,
+        played: tallied.played,
+        stripped: stripped_answer(text, turns),
+        same: is_same(text, &turns[..tallied.played], s),
     }
 }

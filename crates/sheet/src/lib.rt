@@ -8,52 +8,63 @@ mod refusals;
 mod rows;
 mod sheets;
 
-ghost use Rattle.std.specs.Prelude.{◌≡◌, false, ◌++◌, ◌≤◌, length, take};
+ghost use Rattle.std.specs.Prelude.{◌≡◌, ◌≤◌, length};
+ghost use Rattle.buffer.specs.Outputs.{HasRoom, Wrote};
 ghost use Rattle.listing.specs.Outputs.{output_after};
-ghost use Rattle.sheet.specs.Ticks.{reading_of};
-ghost use Rattle.sheet.specs.Sheets.{PrintsFiled, PrintsSheet};
-ghost use Rattle.sheet.specs.SheetText.{checked_of, faulty_sheet, heading, sheet_of};
+ghost use Rattle.replay.specs.Given.{cut_by, misfit_told};
+ghost use Rattle.sheet.specs.SheetText.{checked_of, holds_of, sheet_by, sheet_of};
 
-use replay::Parts;
+use buffer::Output;
+use replay::Misfit;
+use rules::Fault;
 use sheets::{put_away, put_faulty, put_filed};
 
-// What checking answers: the output is turned away, with document 01's number; or how many bytes the sheet has, and whether all four conditions hold.
-#[derive(Clone, Copy)]
-pub enum Checked {
-    Refused(u16),
-    Sheet(usize, bool),
+// A sheet that was written: how many bytes it has, and whether all four conditions hold.
+#[derive(Clone, Copy, Debug, PartialEq, Eq)]
+pub struct Sheet {
+    pub length: usize,
+    pub holds: bool,
 }
 
-// The sheet of an input whose last line has a fault and starts at a place.
-fn print_faulty(input: &[u8], at: usize, number: u16, line: usize, output: &mut [u8]) -> Checked
-    requires { (at ≤ length input.now) × (8192 ≤ length output.old) }
-    ensures { PrintsSheet (heading ++ faulty_sheet (reading_of (take at input.now)) (take at input.now) number line input.now) false output.old result output.new }
+// The sheet of an input that has no parts.
+fn put_misfit(out: &mut Output, misfit: Misfit, input: &[u8])
+    requires { HasRoom 8192 out.old × (cut_by misfit.script ≤ length input.now) }
+    ensures { Wrote 8192 out.old out.new (sheet_by input.now (misfit_told misfit.refusal misfit.script input.now)) }
 {
-    Checked::Sheet(put_faulty(output, &input[..at], number, line, input), false)
+    match misfit.script {
+        Some(at) => put_faulty(out, &input[..at], misfit.refusal, input),
+        None => put_away(out, misfit.refusal.fault),
+    }
 }
 
-// The sheet of an input whose script ends at a place, on the first n turns.
-fn print_filed(input: &[u8], at: usize, turns: &[u8], n: usize, output: &mut [u8]) -> Checked
-    requires { (at ≤ length input.now) × (n ≤ length turns.now) × (n ≤ 32768) × (8192 ≤ length output.old) }
-    ensures { PrintsFiled (take at input.now) (take n turns.now) output.old result output.new }
+// The sheet of an input: whether all four conditions hold.
+fn put_sheet(out: &mut Output, input: &[u8]) -> bool
+    requires { HasRoom 8192 out.old }
+    ensures wrote { Wrote 8192 out.old out.new (sheet_of input.now) }
+    ensures holds_value { result ≡ holds_of input.now }
 {
-    let told = put_filed(output, &input[..at], &turns[..n]);
-    Checked::Sheet(told.end, told.holds)
+    let mut turns = [0u8; 32768];
+    match replay::split(input, &mut turns) {
+        Ok(parts) => put_filed(out, &input[..parts.script], &turns[..parts.turns]),
+        Err(misfit) => {
+            put_misfit(out, misfit, input);
+            false
+        }
+    }
 }
 
 // Prints the check sheet of an input of boxrun. An output under 32,768 bytes is refused with 9 and stays as it was.
-pub fn print_sheet(input: &[u8], output: &mut [u8]) -> Checked
+pub fn print_sheet(input: &[u8], output: &mut [u8]) -> Result<Sheet, Fault>
     ensures value { result ≡ checked_of input.now output.old }
     ensures output_after { output.new ≡ output_after (sheet_of input.now) output.old }
 {
     if output.len() < 32768 {
-        return Checked::Refused(rules::numbers::SHORT_TABLE);
+        return Err(Fault::ShortTable);
     }
-    let mut turns = [0u8; 32768];
-    let parts = replay::split(input, &mut turns);
-    match parts {
-        Parts::Away(number) => Checked::Sheet(put_away(output, number, &input[..0]), false),
-        Parts::Fault(at, number, line) => print_faulty(input, at, number, line, output),
-        Parts::Turns(at, n) => print_filed(input, at, &turns, n, output),
-    }
+    let mut out = Output::new(output);
+    let holds = put_sheet(&mut out, input);
+    Ok(Sheet {
+        length: out.at,
+        holds,
+    })
 }

@@ -2,12 +2,15 @@
 ghost use Rattle.std.specs.Prelude.{◌++◌, ◌≤◌, length};
 ghost use Rattle.buffer.specs.Outputs.{HasRoom, Wrote};
 ghost use Rattle.buffer.specs.Writing.{number_part};
+ghost use Rattle.run.specs.RunAnswers.{outcome, told};
 ghost use Rattle.sheet.specs.SheetText.{cap_text, cap_counts, compared_text, four_text, mark, naming_of, read_text, tick, turn_count, two_text, unexamined, verdict, words_text};
 ghost use Rattle.sheet.specs.SheetParts.{FirstNumber, WritesProgram};
 
 use super::cap_lines::{count_making, put_naming};
+use super::examined::Examined;
 use buffer::Output;
 use rules::Cap;
+use run::Outcome;
 
 fn put_mark(out: &mut Output, stands: bool)
     requires { HasRoom 4 out.old }
@@ -66,7 +69,11 @@ fn put_cap_counts(out: &mut Output, p: &[u16])
     requires { HasRoom 165 out.old × (8192 ≤ length p.now) }
     ensures { WritesProgram 165 p.now out.old out.new cap_counts }
 {
-    put_count(out, b"       lines that make records: imm", count_making(p, Cap::Imm));
+    put_count(
+        out,
+        b"       lines that make records: imm",
+        count_making(p, Cap::Imm),
+    );
     put_count(out, b", iso", count_making(p, Cap::Iso));
     put_count(out, b", local", count_making(p, Cap::Local));
     put_count(out, b", unsafe", count_making(p, Cap::Unsafe));
@@ -128,7 +135,19 @@ fn put_compared(out: &mut Output, same: bool, played: usize)
     out.put_text(b" turns\n");
 }
 
-//FOUR
+// 4, of both runs.
+pub fn put_four(out: &mut Output, guarded: Outcome, found: &Examined)
+    requires { HasRoom 230 out.old }
+    ensures { Wrote 230 out.old out.new (four_text (outcome guarded) (told found.now.stripped) found.now.same found.now.played) }
+{
+    put_tick(out, found.same, b"4. Guards change no result\n");
+    out.put_text(b"       with guards: ");
+    listing::put_answer(out, Ok(guarded));
+    out.put_text(b"       without:     ");
+    listing::put_answer(out, found.stripped);
+    put_compared(out, found.same, found.played);
+}
+
 pub fn put_verdict(out: &mut Output, holds: bool)
     requires { HasRoom 40 out.old }
     ensures { Wrote 40 out.old out.new (verdict holds) }

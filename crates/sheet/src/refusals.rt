@@ -21,7 +21,11 @@ fn visible(b: u8) -> u8
 fn mark(fault: Fault, b: u8) -> u8
     ensures { result ≡ mark_under (number fault) b }
 {
-    if fault == Fault::StrayByte && reader::is_allowed(b) { b' ' } else { b'^' }
+    if fault == Fault::StrayByte && reader::is_allowed(b) {
+        b' '
+    } else {
+        b'^'
+    }
 }
 
 // A line, each byte as it is to be shown: by any g that tells what the closure answers.
@@ -81,11 +85,15 @@ fn hint(fault: Fault, cr: bool, cut: bool) -> &'static [u8]
         Fault::Overlong => b"       hint: a script has at most 16384 bytes, an input 65536\n",
         Fault::StrayByte => stray_hint(cr),
         Fault::Malformed => malformed_hint(cut),
-        Fault::OverCount => b"       hint: a number over 255, or more kinds, blocks, slots or lets than there is room for\n",
+        Fault::OverCount =>
+            b"       hint: a number over 255, or more kinds, blocks, slots or lets than there is room for\n",
         Fault::Unbound => b"       hint: a slot is used that no line has filled yet\n",
-        Fault::SelfTaken => b"       hint: a method may read its own object, slot 0, and not take it\n",
-        Fault::Unfinished => b"       hint: the last block has no give, or there is no block; was the file cut off?\n",
-        _ => b"       hint: no such kind or block, a block of the wrong sort, or other operands than the kind's fields\n",
+        Fault::SelfTaken =>
+            b"       hint: a method may read its own object, slot 0, and not take it\n",
+        Fault::Unfinished =>
+            b"       hint: the last block has no give, or there is no block; was the file cut off?\n",
+        _ =>
+            b"       hint: no such kind or block, a block of the wrong sort, or other operands than the kind's fields\n",
     }
 }
 

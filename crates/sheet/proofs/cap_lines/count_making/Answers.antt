@@ -10,8 +10,8 @@ loop-n-init c = counted_none _ _
 pub loop-n-preserved : goal.loop-n-preserved
 loop-n-preserved c =
     elim c.if-eq.branch [
-      then-eq w ↦ rw w.count-is (counted_one c.cap_made.ensures c.loop-n.invariant (is_cap _ _ c.eq.ensures w.if-eq.true))
-    | else-eq w ↦ rw w.count-is (counted_other c.cap_made.ensures c.loop-n.invariant (is_no_cap _ _ c.eq.ensures w.if-eq.false))
+      | then-eq w ↦ rw w.count-is (counted_one c.cap_made.ensures c.loop-n.invariant (is_cap _ _ c.eq.ensures w.if-eq.true))
+      | else-eq w ↦ rw w.count-is (counted_other c.cap_made.ensures c.loop-n.invariant (is_no_cap _ _ c.eq.ensures w.if-eq.false))
     ]
 
 pub overflow_add-count : goal.overflow_add-count

@@ -1,9 +1,7 @@
 -- The fourth condition, and the verdict.
-use native.Mathlib.Omega.{arith}
-use mathlib.Core.Path.{refl}
-use Rattle.buffer.proofs.Appends.{◌▹◌, same_text}
+use Rattle.std.proofs.Common.{refl, arith}
+use Rattle.buffer.proofs.Outputs.{◌▹◌, same_text}
 use Rattle.sheet.proofs.sheets.put_last.Goals as goal
 
 pub returns : goal.returns
-returns c =
-    same_text 270 refl (omega arith) (c.put_four-a.ensures ▹ c.put_verdict.ensures)
+returns c = same_text 270 refl (omega arith) (c.put_four.ensures ▹ c.put_verdict.ensures)
