@@ -7,8 +7,8 @@ use mathlib.Core.Logic.{inl}
 use lib.ListN.{length, take, drop, length-append}
 use lib.Seq.{take-append_seam}
 use borrow.Author.Tests.{le-ltb}
-use Rattle.listing.specs.declared.Printed.{Printed}
-use Rattle.listing.specs.declared.Printed.TheVariants.{Written}
+use Rattle.std.specs.Prelude.{Result, Ok}
+use Rattle.rules.specs.declared.faults.Refusal.{Refusal}
 use Rattle.listing.specs.Outputs.{output_bytes, printed_in, output_in, printed_of, output_after}
 use Rattle.stripping.specs.StrippedTexts.{Prints}
 use Rattle.save.specs.Saved.{saved_bytes, saved_in, saved_after}
@@ -18,7 +18,7 @@ use Rattle.box_tool.specs.declared.Status.TheVariants.{Fault}
 use Rattle.box_tool.specs.Status.{status_of, Unless}
 use Rattle.box_tool.specs.Jobs.{IsText, Finishes}
 
-module _ {Q : List ℕ → Type 0} (text : List ℕ) (such : Q text) (output : List ℕ) {r : Printed} {after : List ℕ} where
+module _ {Q : List ℕ → Type 0} (text : List ℕ) (such : Q text) (output : List ℕ) {r : Result ℕ Refusal} {after : List ℕ} where
   -- where so many bytes must be there
   pub prints_in : (room : ℕ) → room ≤ length output → (r ≡ printed_in room text output) × (after ≡ output_in room text output) → Prints Q output r after
   prints_in room long told =
@@ -34,7 +34,7 @@ module _ {Q : List ℕ → Type 0} (text : List ℕ) (such : Q text) (output : L
   prints_saved long told = prints_in saved_bytes long told
 
 -- what is written fits in the output, and is the text
-module _ {Q : List ℕ → Type 0} {l : List ℕ} {r : Printed} {l₁ : List ℕ} (p : Prints Q l r l₁) {m : ℕ} (written : r ≡ Written m) where
+module _ {Q : List ℕ → Type 0} {l : List ℕ} {r : Result ℕ Refusal} {l₁ : List ℕ} (p : Prints Q l r l₁) {m : ℕ} (written : r ≡ Ok m) where
   count : m ≡ length p.text
   count = let all = p.answers in cc
 
@@ -45,7 +45,7 @@ module _ {Q : List ℕ → Type 0} {l : List ℕ} {r : Printed} {l₁ : List ℕ
   front_is = rw (p.leaves, count) (take-append_seam p.text (drop (length p.text) l))
 
 -- the status of what was printed, unless writing it failed
-module _ (job : Job) (input : List ℕ) {output : List ℕ} {r : Printed} {after : List ℕ} (p : Prints (IsText job input) output r after) (status : Status) where
+module _ (job : Job) (input : List ℕ) {output : List ℕ} {r : Result ℕ Refusal} {after : List ℕ} (p : Prints (IsText job input) output r after) (status : Status) where
   pub finishes : {right : Status} → right ≡ status_of p.text → Unless status right → Finishes job input status
   finishes same told = record { text = p.text; such = p.such; told = subst (Unless status) same told }
 

@@ -14,8 +14,7 @@ ghost use Rattle.box_tool.specs.Jobs.{IsText, Finishes};
 
 use commands::{Command, Job, command_of, takes};
 use files::read_input;
-use listing::Printed;
-use sheet::Checked;
+use rules::Refusal;
 use std::env::FillError;
 use std::fs::OpenOptions;
 use std::rt::Env;
@@ -80,8 +79,8 @@ fn write_out(rt: &HostRuntime, text: &[u8], status: Status) -> Status
     }
 }
 
-// Prints what is asked of an input.
-fn print(job: Job, input: &[u8], output: &mut [u8]) -> Printed
+// Prints what is asked of an input. (A match and no closure: the contract says by the job which text it is.)
+fn print(job: Job, input: &[u8], output: &mut [u8]) -> Result<usize, Refusal>
     requires { 65536 ≤ length output.old }
     ensures { Prints (IsText job input.now) output.old result output.new }
 {
@@ -100,11 +99,11 @@ fn finish(rt: &HostRuntime, job: Job, input: &[u8]) -> Status
 {
     let mut output = [0u8; 65536];
     match print(job, input, &mut output) {
-        Printed::Written(n) => {
+        Ok(n) => {
             let text = &output[..n];
             write_out(rt, text, status_of(text))
         }
-        Printed::Refused(_, _) => Status::Fault, // the output is long enough
+        Err(_) => Status::Fault, // the output is long enough
     }
 }
 
@@ -120,8 +119,12 @@ fn finish_check(rt: &HostRuntime, input: &[u8]) -> Status
 {
     let mut output = [0u8; 32768];
     match sheet::print_sheet(input, &mut output) {
-        Checked::Sheet(n, holds) => write_out(rt, &output[..n], status_of_sheet(holds)),
-        Checked::Refused(_) => Status::Fault, // the output is long enough
+        Ok(sheet) => write_out(
+            rt,
+            &output[..sheet.length],
+            status_of_sheet(sheet.holds),
+        ),
+        Err(_) => Status::Fault, // the output is long enough
     }
 }
 
@@ -160,12 +163,12 @@ fn reach(rt: &HostRuntime, i: usize) -> Status
 fn explain_number(rt: &HostRuntime, number: usize) -> Status {
     let mut output = [0u8; 32768];
     match explain::print_explained(number, &mut output) {
-        Printed::Written(0) => {
+        Ok(0) => {
             let _ = rt.eprintln("box: explain: there are the numbers 1 to 21");
             Status::Refused
         }
-        Printed::Written(n) => write_out(rt, &output[..n], Status::Well),
-        Printed::Refused(_, _) => Status::Fault, // the output is long enough
+        Ok(n) => write_out(rt, &output[..n], Status::Well),
+        Err(_) => Status::Fault, // the output is long enough
     }
 }
 

@@ -2,13 +2,11 @@
 // a write that fails is told on standard error, and of what could not be read whole nothing is printed.
 #![tactic(auto)]
 
-use listing::Printed;
-
 // The printed run of an input that was read whole.
 fn print(rt: &HostRuntime, input: &[u8]) {
     let mut output = [0u8; 32768];
     // the output is long enough
-    if let Printed::Written(n) = replay::print_input(input, &mut output) {
+    if let Ok(n) = replay::print_input(input, &mut output) {
         if let Err(error) = streams::write_all(&mut rt.stdout(), &output[..n]) {
             let _ = streams::tell(&mut rt.stderr(), b"boxrun: standard output", error);
         }

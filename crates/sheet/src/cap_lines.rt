@@ -7,7 +7,7 @@ ghost use Rattle.sheet.specs.CapLines.{cap_number, CountsMaking, TellsLine, Writ
 use buffer::Output;
 use rules::{Cap, Form};
 
-// The capability that line n names.
+// The capability that line n names. (Two functions for two lists of forms, as the definitions have them: one over a closure would hold both lists.)
 fn cap_named(p: &[u16], n: usize) -> Option<Cap>
     requires { (8192 ≤ length p.now) × (n < 672) }
     ensures { TellsLine p.now n cap_named (cap_number result) }
