@@ -1,38 +1,27 @@
 -- What a word is as a number, by what stands at its front.
 use Prim.Native.Nat.{ℕ, ◌≤◌, ◌<◌}
-use mathlib.Core.Path.{◌≡◌, refl}
-use mathlib.Core.Bool.{Bool, true, false, not, cond}
+use mathlib.Core.Path.{◌≡◌}
 use mathlib.Core.List.{List}
 use lib.ListN.{length, drop, drop_of_length-le}
 use lib.Seq.{drop-cons}
-use Rattle.rules.specs.Templates.{took, unfit, number, whole}
-use Rattle.rules.proofs.ListLaws.{impossible}
-use Rattle.std.specs.Prelude.{Some, None}
-use Rattle.box_tool.specs.Numerals.{number_by, number_of}
+use Rattle.std.specs.Prelude.{Option, Some, None}
+use Rattle.rules.specs.Templates.{number}
+use Rattle.grammar.specs.declared.parts.Part.{Part}
+use Rattle.grammar.specs.Parts.{told}
+use Rattle.box_tool.specs.Numerals.{number_of}
 
-module _ (word : List ℕ) (ok : Bool) (n end : ℕ) (fits : number (drop 0 word) ≡ cond ok (took n (drop end word)) unfit) where
-  pub no_number : not ok ≡ true → None ≡ number_of word
+module _ (word : List ℕ) {r : Option Part} (fits : number (drop 0 word) ≡ told (λ n. n) word r) where
+  pub no_number : r ≡ None → None ≡ number_of word
   unfolding number_of
-  no_number fails = rw fits (go ok fails)
-    where
-      go : (b : Bool) → not b ≡ true → None ≡ number_by (whole (cond b (took n (drop end word)) unfit))
-      go true e = impossible cc
-      go false e = refl
+  no_number is = rw (fits, is)
 
-  -- something after the number
-  pub more_than_number : not ok ≡ false → end < length word → None ≡ number_of word
-  unfolding number_of
-  more_than_number read more = rw fits (go ok read)
-    where
-      go : (b : Bool) → not b ≡ false → None ≡ number_by (whole (cond b (took n (drop end word)) unfit))
-      go true e = rw (drop-cons word end 0 more) refl
-      go false e = impossible cc
+  module _ {p : Part} (is : r ≡ Some p) where
+    -- something after the number
+    pub more_than_number : p.end < length word → None ≡ number_of word
+    unfolding number_of
+    more_than_number more = rw (fits, is, drop-cons word p.end 0 more)
 
-  -- a number and nothing else
-  pub a_number : not ok ≡ false → length word ≤ end → Some n ≡ number_of word
-  unfolding number_of
-  a_number read all = rw fits (go ok read)
-    where
-      go : (b : Bool) → not b ≡ false → Some n ≡ number_by (whole (cond b (took n (drop end word)) unfit))
-      go true e = rw (drop_of_length-le word {i = end} all) refl
-      go false e = impossible cc
+    -- a number and nothing else
+    pub a_number : length word ≤ p.end → Some p.word ≡ number_of word
+    unfolding number_of
+    a_number all = rw (fits, is, drop_of_length-le word {i = p.end} all)

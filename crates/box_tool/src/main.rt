@@ -41,7 +41,7 @@ impl Status {
     }
 }
 
-const USAGE: [u8; 705] = *b"\
+const USAGE: &[u8] = b"\
 usage: one of\n\
 box check [FILE]        print the check sheet of an input: the four conditions\n\
 box run [FILE]          print the run of an input: a script, then its turns\n\
@@ -173,7 +173,7 @@ fn explain_number(rt: &HostRuntime, number: usize) -> Status {
 }
 
 fn usage(rt: &HostRuntime) -> Status {
-    let _ = rt.stderr().write_all(&USAGE);
+    let _ = rt.stderr().write_all(USAGE);
     Status::Fault
 }
 
@@ -192,7 +192,7 @@ fn perform(rt: &HostRuntime, i: usize) -> Status
         Command::Reach => reach(rt, i + 1),
         Command::Explain => explain_number(rt, number_argument(rt, i + 1).unwrap_or(0)),
         Command::Version => write_out(rt, b"box 1.8.0\n", Status::Well),
-        Command::Help => write_out(rt, &USAGE, Status::Well),
+        Command::Help => write_out(rt, USAGE, Status::Well),
         Command::Unknown => usage(rt),
     }
 }

@@ -7,10 +7,9 @@ ghost use Rattle.box_tool.specs.Numerals.{number_of};
 pub fn number_of(text: &[u8]) -> Option<usize>
     ensures { result ≡ number_of text.now }
 {
-    let part = grammar::number_at(text, 0);
-    if part.ok && text.len() <= part.end {
-        Some(part.word as usize)
-    } else {
-        None
+    let part = grammar::number_at(text, 0)?;
+    if part.end < text.len() {
+        return None;
     }
+    Some(part.word as usize)
 }
