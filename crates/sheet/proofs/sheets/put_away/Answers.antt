@@ -6,4 +6,4 @@ use Rattle.sheet.proofs.sheets.put_away.Goals as goal
 
 pub returns : goal.returns
 unfolding away_sheet
-returns c = same_text 8192 (rw c.at.ensures refl) (omega arith) (c.put_text.ensures ▹ c.put_refused.ensures ▹ c.put_unread.ensures)
+returns c = same_text 8192 (rw (c.at.ensures.fault, c.at.ensures.line) refl) (omega arith) (c.put_text.ensures ▹ c.put_refused.ensures ▹ c.put_unread.ensures)
