@@ -5,7 +5,6 @@ use native.Mathlib.Numerals.{add-one}
 use native.Mathlib.Omega.{arith}
 use mathlib.Core.Path.{◌≡◌, refl, sym, ap, ◌∙◌, subst}
 use mathlib.Core.Bool.{Bool, true, false, cond}
-use mathlib.Core.Logic.{◌⊎◌, ⊎_elim}
 use mathlib.Core.List.{List, [], ◌∷◌, ◌++◌, map, append_assoc, append-nil}
 use lib.Dec.{eqb}
 use Rattle.std.specs.Prelude.{min, Option, Some, None}
@@ -18,7 +17,7 @@ use lib.Seq.{take-suc, take_all, length-take-le}
 use borrow.Author.Tests.{eqb-true, eqb-false, eq-eqb, ne_eqb}
 use types.Run.{OneOf, miss}
 use Rattle.rules.specs.declared.forms.Form.{Form as Name}
-use Rattle.rules.specs.declared.forms.Form.TheVariants.{NoForm, Thread, Method, Kind, Give, Value, Field, Swap, Call, New, Cast, Spawn, Send, Recv, Copy}
+use Rattle.rules.specs.declared.forms.Form.TheVariants.{New, Cast, Copy}
 use Rattle.rules.specs.Forms.{form_of}
 use Rattle.rules.specs.Text.{space}
 use Rattle.rules.specs.Templates.{decimal, print_many}

@@ -2,7 +2,7 @@
 use Prim.Native.Nat.{ℕ, ◌≤◌, ◌<◌}
 use native.Mathlib.Nat.{zero-add}
 use native.Mathlib.Omega.{arith}
-use mathlib.Core.Path.{◌≡◌, refl, sym, ap, ◌∙◌}
+use mathlib.Core.Path.{◌≡◌, refl, sym, ap, ◌∙◌, subst}
 use mathlib.Core.Bool.{Bool, false}
 use mathlib.Core.List.{List, ◌++◌, append_assoc}
 use lib.ListN.{length, drop}
@@ -25,7 +25,7 @@ use Rattle.reader.specs.ReadAnswers as ReadAnswers
 use Rattle.reader.proofs.Outcome as Outcome
 use Rattle.run.specs.declared.Outcome as Run
 use Rattle.run.specs.RunAnswers.{outcome, told}
-use Rattle.run.specs.Made.{Made, Makes}
+use Rattle.run.specs.Made.{Holds, Made, Makes}
 use Rattle.run.proofs.AnswerTells.{made_is, refused_is}
 use Rattle.listing.specs.Outputs.{output_after}
 use Rattle.replay.specs.Given.{Given, given_of, misfit_told}
@@ -106,7 +106,7 @@ module _ {text turns p s p₁ s₁ : List ℕ} {answer : Result Run.Outcome Refu
       let P = is_made.program in
       let reads : ReadsAs text turns P = is_made.is in
       let same : reading_of text ≡ accepted P = sym (inputs_are text turns few) ∙ reads in
-      let holds = rw is at is_made.holds in
+      let holds = subst (λ (r : Result Run.Outcome Refusal). Holds P turns r p₁ s₁) is is_made.holds in
       rw same (same_text 8192 refl (omega arith) (head ▹ ran.writes P reads holds), ran.verdict P reads holds)
 
 -- ---- In an output

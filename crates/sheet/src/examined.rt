@@ -42,8 +42,9 @@ pub fn examine(text: &[u8], turns: &[u8], p: &[u16], s: &mut [u16]) -> Examined
 {
     let mut fresh = [0u16; 8192];
     let tallied = tally::tally(p, &mut fresh, turns);
+    let counts = tallied.counts;
     Examined {
-        counts: tallied.counts,
+        counts,
         played: tallied.played,
         stripped: stripped_answer(text, turns),
         same: is_same(text, &turns[..tallied.played], s),

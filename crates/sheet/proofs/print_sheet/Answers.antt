@@ -12,6 +12,6 @@ returns-then-output-lt32768 c =
 pub returns : goal.returns
 returns c =
     let both =
-        sheet_printed c.args.input.now c.args.output.now (omega (arith, c.if-output-lt32768.false))
-        (at_front c.new-out.ensures.start c.new-out.ensures.content (search rules) c.put_sheet-holds.ensures.wrote) c.put_sheet-holds.ensures.holds_value in
+    sheet_printed c.args.input.now c.args.output.now (omega (arith, c.if-output-lt32768.false))
+    (at_front c.new-out.ensures.start c.new-out.ensures.content (search rules) c.put_sheet-holds.ensures.wrote) c.put_sheet-holds.ensures.holds_value in
     record { value = both.0; output_after = both.1 }

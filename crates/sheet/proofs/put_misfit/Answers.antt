@@ -3,7 +3,7 @@ use Rattle.std.proofs.Common.{sym, length-take-le}
 use Rattle.sheet.proofs.put_misfit.Goals as goal
 
 pub slice_bounds-put_faulty-end : goal.slice_bounds-put_faulty-end
-slice_bounds-put_faulty-end c = ?
+slice_bounds-put_faulty-end c = sym (length-take-le c.in-Some.at c.args.input.now (rw c.in-Some.is at c.requires.1))
 
 pub returns-in-Some : goal.returns-in-Some
 returns-in-Some c = rw c.in-Some.is c.put_faulty.ensures

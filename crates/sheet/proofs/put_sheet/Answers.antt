@@ -1,5 +1,5 @@
 -- What the input comes to decides which sheet is written.
-use Rattle.std.proofs.Common.{sym, arith, length-take-le}
+use Rattle.std.proofs.Common.{arith}
 use Rattle.replay.proofs.GivenLaws.{given_told}
 use Rattle.sheet.proofs.SheetLaws.{sheet_is, misfit_holds}
 use Rattle.sheet.proofs.put_sheet.Goals as goal

@@ -1,6 +1,6 @@
 -- The parts of a refusal one after the other; no line is shown of a text that is too long.
-use Rattle.std.proofs.Common.{refl, arith}
-use Rattle.std.proofs.Common.{rules, ◌≡◌}
+use Rattle.std.proofs.Common.{arith}
+use Rattle.std.proofs.Common.{rules}
 use Rattle.rules.specs.Numbers.{number}
 use Rattle.buffer.proofs.Outputs.{◌▹◌, same_text}
 use Rattle.sheet.proofs.RefusalLaws.{refusal_text, overlong_text}

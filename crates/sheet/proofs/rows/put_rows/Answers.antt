@@ -1,6 +1,6 @@
 -- Before turn t the rows before t are written.
 use native.Mathlib.Numerals.{add-one}
-use Rattle.std.proofs.Common.{◌+◌, ◌*◌, refl, sym, ap, arith}
+use Rattle.std.proofs.Common.{◌+◌, ◌*◌, sym, ap, arith}
 use Rattle.buffer.proofs.Outputs.{nothing, ◌▹◌, same_text}
 use Rattle.sheet.specs.SheetText.{rows_text}
 use Rattle.sheet.proofs.rows.put_rows.Goals as goal

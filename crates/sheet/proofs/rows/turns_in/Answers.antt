@@ -1,5 +1,5 @@
 -- The sum of five counts.
-use Rattle.std.proofs.Common.{refl, arith}
+use Rattle.std.proofs.Common.{arith}
 use Rattle.sheet.specs.SheetText.{turns_in}
 use Rattle.sheet.proofs.rows.turns_in.Goals as goal
 

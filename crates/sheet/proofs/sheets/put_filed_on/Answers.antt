@@ -17,5 +17,5 @@ returns-in-Ok c =
 pub returns-in-Err : goal.returns-in-Err
 returns-in-Err c =
     let both =
-        filed_refused c.make-made.ensures c.requires.1 c.requires.2 c.requires.3 c.in-Err.is (same_text 32 refl (omega arith) c.put_text.ensures) c.put_refused.ensures c.put_refused_end.ensures in
+    filed_refused c.make-made.ensures c.requires.1 c.requires.2 c.requires.3 c.in-Err.is (same_text 32 refl (omega arith) c.put_text.ensures) c.put_refused.ensures c.put_refused_end.ensures in
     record { wrote = both.0; holds_value = both.1 }
