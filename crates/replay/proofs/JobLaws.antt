@@ -93,7 +93,7 @@ module _ {post : Bor (List ℕ) → Bor (List ℕ) → Bor (List ℕ) → MutBor
       by_given (faulty text k n) e does = refused_as k n (rw e refl) does
       by_given (given text ts) e does =
           let told = job does.text_lent does.turns_lent does.last_lent does.output_lent done.answer does.left does.called (rw (does.text_is, does.turns_are) e)
-              does.whole does.few (rw does.output_is wide) in
+          does.whole does.few (rw does.output_is wide) in
           told_as does.text_is does.turns_are does.output_is does.leaves e told
 
 -- what is printed as a run is told
@@ -125,6 +125,6 @@ module _ {post : Bor (List ℕ) → Bor (List ℕ) → Bor (List ℕ) → MutBor
       long : ltb (length output) room ≡ false → (r ≡ printed_in room (W (given_of input)) output) × (output₁ ≡ output_in room (W (given_of input)) output)
       long f =
           let printed = such_printed prints low (λ text turns t. t ≡ W (given text turns))
-              (λ text turns last lent q left p g l f w. (W (given text.now turns.now), refl, job text turns last lent q left p g l f w)) (ltb-false (length output) room f) in
+          (λ text turns last lent q left p g l f w. (W (given text.now turns.now), refl, job text turns last lent q left p g l f w)) (ltb-false (length output) room f) in
           let same = only (given_of input) printed.text printed.such in
           rw (f, ← same) (printed.answers, printed.leaves)

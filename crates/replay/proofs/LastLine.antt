@@ -95,8 +95,7 @@ module _ (s : List ℕ) (n : ℕ) (front : n ≡ length s - 1) where
   pub last_lf : (i : ℕ) → i < length (take n s) → get_or (take n s) i 0 ≡ lf
       → ((k : ℕ) → i + 1 ≤ k → k < length (take n s) → get_or (take n s) k 0 ≢ lf) → Cut s (i + 1) × (i + 1 ≤ length s)
   last_lf i inside here none =
-      let long : length (take n s) ≡ n = length-take-le n s (omega arith) in
-      (
+      let long : length (take n s) ≡ n = length-take-le n s (omega arith) in (
         after_lf s i (i + 1) refl (omega arith) (sym (in_front i (omega arith)) ∙ here)
             (one_from s (n - (i + 1)) (i + 1) (omega arith) (λ k h m e. none k h (omega arith) (in_front k (omega arith) ∙ e))),
         omega arith,

@@ -7,7 +7,10 @@ ghost use Rattle.rules.specs.Input.{last_line, lines_before};
 pub fn last_start(s: &[u8]) -> usize
     ensures { (take result s.now ≡ join (lines_before (lines s.now))) × (drop result s.now ≡ last_line (lines s.now)) × (result ≤ length s.now) }
 {
-    match s[..s.len().saturating_sub(1)].iter().rposition(|b| *b == b'\n') {
+    match s[..s.len().saturating_sub(1)]
+        .iter()
+        .rposition(|b| *b == b'\n')
+    {
         Some(i) => i + 1,
         None => 0,
     }

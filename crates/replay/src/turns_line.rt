@@ -50,7 +50,7 @@ pub fn turns_line(s: &[u8], at: usize, turns: &mut [u8]) -> Result<usize, Fault>
         return Err(Fault::Malformed);
     };
     if !grammar::begins_at(s, list.end, b")\n") || list.end + 2 < s.len() {
-        return Err(Fault::Malformed);
+        return Err(Fault::Malformed); // before a number over 255
     }
     if list.over {
         return Err(Fault::OverCount);

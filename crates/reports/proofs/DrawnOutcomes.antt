@@ -27,5 +27,5 @@ pub graph_told : (text turns : List ℕ) {program state buffer program₁ state�
 unfolding graph_text draw_call
 graph_told text turns {program} {state} {buffer} {buffer₁ = buffer₁} {r = r} told program-long state-long buffer-long =
     let drew : Drew (drawn_of mosts turns (inputs mosts text turns false)) buffer r buffer₁ =
-        rw (none_short text turns program state buffer Most.drawing program-long state-long buffer-long) at told.drew in
+    rw (none_short text turns program state buffer Most.drawing program-long state-long buffer-long) at told.drew in
     drew_tells (drawn_of mosts turns (inputs mosts text turns false)) buffer drew

@@ -104,7 +104,7 @@ module _ (text turns : List ℕ) (t : ℕ) {list list₁ : List ℕ} {r : Result
       let rest : List ℕ = drop Most.reach_list list in
       let after : list₁ ≡ list_words objects ++ rest = told.leaves ∙ ap (λ (x : Report). list_after x list) of.is in
       let front : take n list₁ ≡ objects =
-          ap (take n) (after ∙ ap (λ (l : List ℕ). l ++ rest) (pad_front Most.reach_list 0 objects few) ∙ append_assoc objects _ rest) ∙ take_at objects _ n (sym of.many) in
+      ap (take n) (after ∙ ap (λ (l : List ℕ). l ++ rest) (pad_front Most.reach_list 0 objects few) ∙ append_assoc objects _ rest) ∙ take_at objects _ n (sym of.many) in
       ap reached_line front ∙ sym (ap reported of.is)
 
   pub objects_told : {n k m : ℕ} {output left : List ℕ} → r ≡ Ok n → Wrote k output left 0 m (reached_line (take n list₁)) → Tells (report_text text turns t) output (Ok m) left

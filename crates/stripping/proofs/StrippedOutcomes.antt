@@ -67,6 +67,6 @@ module _ {post : Bor (List ℕ) → Bor (List ℕ) → Bor (List ℕ) → MutBor
     short = λ short. prints.short short;
     prints = λ wide.
         let printed = such_printed prints (omega arith) (λ t ts. StrippedText (inputs mosts t ts false) (drop (length t) input))
-            (λ text turns last lent q left p g l f w. says_rest (inputs mosts text.now turns.now false) text.now last.now input l (job text turns last lent q left p)) wide in
+        (λ text turns last lent q left p g l f w. says_rest (inputs mosts text.now turns.now false) text.now last.now input l (job text turns last lent q left p)) wide in
         record { text = printed.text; such = such_given input printed.text (given_of input) printed.such; answers = printed.answers; leaves = printed.leaves };
   }

@@ -52,7 +52,12 @@ fn write_table(table: &[u16], last: &[u8], output: &mut [u8]) -> Result<usize, R
 }
 
 // The stripped script of a script and a list of turns, and the line that says these.
-fn write_stripped(text: &[u8], turns: &[u8], last: &[u8], output: &mut [u8]) -> Result<usize, Refusal>
+fn write_stripped(
+    text: &[u8],
+    turns: &[u8],
+    last: &[u8],
+    output: &mut [u8],
+) -> Result<usize, Refusal>
     requires { 65536 ≤ length output.old }
     ensures { Says (StrippedText (inputs mosts text.now turns.now false) last.now) output.old result output.new }
 {

@@ -12,5 +12,5 @@ pub returns : goal.returns
 unfolding printed_of output_after
 returns c =
     let all = text_printed c.print_parts.ensures (omega arith) printed_given (λ k. refl) (λ t k n. refl)
-        (λ text turns last lent q left p given whole few wide. printed_tells _ _ wide (search rules) (search rules)) in
+    (λ text turns last lent q left p given whole few wide. printed_tells _ _ wide (search rules) (search rules)) in
     rw (prints_given c.args.input.now) (record { value = all.0; output_after = all.1 })

@@ -11,5 +11,5 @@ pub returns : goal.returns
 unfolding printed_of output_after reached_text
 returns c =
     let all = text_printed c.print_parts.ensures (omega arith) (reached_given c.args.thread) (λ k. refl) (λ t k n. refl)
-        (λ text turns last lent q left p given whole few wide. search rules) in
+    (λ text turns last lent q left p given whole few wide. search rules) in
     record { value = all.0; output_after = all.1 }

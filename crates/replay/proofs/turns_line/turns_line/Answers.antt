@@ -12,9 +12,9 @@ begins_at-requires c = search rules
 
 pub returns-then-s-lt8-clause-s_value : goal.returns-then-s-lt8-clause-s_value
 returns-then-s-lt8-clause-s_value c = elim c.then-s-lt8.branch [
-    then-s-lt8-via-then-s-lt8 w ↦ turns_short c.args.s.now c.args.at w.if-s-lt8.true
+  | then-s-lt8-via-then-s-lt8 w ↦ turns_short c.args.s.now c.args.at w.if-s-lt8.true
   | then-s-lt8-via-else-s-lt8+then-not-begins_at w ↦ not_opened c.args.s.now c.args.at w.begins_at.ensures w.if-not-begins_at.true
-  ]
+]
 
 pub returns-in_default-clause-s_value : goal.returns-in_default-clause-s_value
 returns-in_default-clause-s_value c = none_numbered c.args.s.now c.args.at c.begins_at.ensures c.if-not-begins_at.false c.in_default.ensures.numbers_stored
@@ -28,9 +28,9 @@ returns-then-not-begins_at-2-clause-s_value c =
     let opened = c.if-not-begins_at.false in
     let stored = c.in-Some.ensures.numbers_stored in
     elim c.then-not-begins_at-2.branch [
-      then-not-begins_at-2-via-then-not-begins_at-2 w ↦ not_closed c.args.s.now c.args.at c.begins_at.ensures opened stored c.begins_at-2.ensures w.if-not-begins_at-2.true
-    | then-not-begins_at-2-via-else-not-begins_at-2+then-list-s w ↦
-        goes_on c.args.s.now c.args.at c.begins_at.ensures opened stored c.begins_at-2.ensures w.if-not-begins_at-2.false w.if-list-s.true
+      | then-not-begins_at-2-via-then-not-begins_at-2 w ↦ not_closed c.args.s.now c.args.at c.begins_at.ensures opened stored c.begins_at-2.ensures w.if-not-begins_at-2.true
+      | then-not-begins_at-2-via-else-not-begins_at-2+then-list-s w ↦
+          goes_on c.args.s.now c.args.at c.begins_at.ensures opened stored c.begins_at-2.ensures w.if-not-begins_at-2.false w.if-list-s.true
     ]
 
 pub returns-then-list-clause-s_value : goal.returns-then-list-clause-s_value
