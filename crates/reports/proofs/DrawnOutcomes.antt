@@ -1,6 +1,5 @@
 -- What a drawing answers and leaves is told: its text, or the line of its refusal, over an output that the drawing left as it was.
 use Prim.Native.Nat.{ℕ, ◌≤◌}
-use native.Mathlib.Omega.{arith}
 use mathlib.Core.Path.{◌≡◌, refl}
 use mathlib.Core.Bool.{false}
 use mathlib.Core.List.{List}

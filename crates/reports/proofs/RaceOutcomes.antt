@@ -1,5 +1,5 @@
 -- What a search for races answers is printed as it stands: a refusal by its line, the race by its two turns, its object and its field.
-use Prim.Native.Nat.{ℕ, ◌≤◌}
+use Prim.Native.Nat.{ℕ}
 use native.Mathlib.Omega.{arith}
 use mathlib.Core.Path.{◌≡◌, refl, sym, ap, ◌∙◌}
 use mathlib.Core.List.{List, [], ◌∷◌, ◌++◌, map, append_assoc}
@@ -14,7 +14,7 @@ use Rattle.rules.specs.Calls.{short_table}
 use Rattle.rules.specs.Races.{Verdict, norace, race, race_call, Judged, unjudged, judged, judged_of}
 use Rattle.rules.specs.Listing.{bracket, a_line, answer_line}
 use Rattle.buffer.specs.Writing.{number_part}
-use Rattle.std.specs.Prelude.{Option, None, Some, Result, Ok, Err}
+use Rattle.std.specs.Prelude.{Option, Result, Ok, Err}
 use Rattle.rules.specs.Numbers.{number}
 use Rattle.rules.specs.declared.faults.Refusal.{Refusal}
 use Rattle.buffer.specs.Writing.{Wrote}

@@ -2,7 +2,6 @@
 use native.Mathlib.Omega.{arith}
 use mathlib.Core.Path.{refl, sym}
 use Rattle.std.proofs.Common.{rules}
-use Rattle.buffer.proofs.Appends.{same_text}
 use Rattle.buffer.proofs.Outputs.{◌▹◌, at_front}
 use Rattle.stripping.proofs.StrippedPrints.{called, script_fits, says_no_script, says_too_long, says_again}
 use Rattle.stripping.proofs.write_table.Goals as goal
