@@ -15,12 +15,12 @@ use Rattle.box_tool.specs.Status.{status_of_sheet, Unless}
 
 module _ (input output : List ℕ) {after : List ℕ} {r : Result Sheet Fault} {sheet : Sheet} (room : output_bytes ≤ length output)
     (told : (r ≡ checked_of input output) × (after ≡ output_after (sheet_of input) output)) (is : r ≡ Ok sheet) where
-  whole : (Ok sheet ≡ Ok (record { length = length (sheet_of input); holds = holds_of input })) × (after ≡ sheet_of input ++ drop (length (sheet_of input)) output)
+  whole : (r ≡ Ok (record { length = length (sheet_of input); holds = holds_of input })) × (after ≡ sheet_of input ++ drop (length (sheet_of input)) output)
   unfolding checked_of output_after
-  whole = let both = rw (le-ltb (length output) output_bytes room) at told in (sym is ∙ both.0, both.1)
+  whole = rw (le-ltb (length output) output_bytes room) at told
 
   same : sheet ≡ record { length = length (sheet_of input); holds = holds_of input }
-  same = let e = whole.0 in cc
+  same = let both = sym is ∙ whole.0 in cc
 
   pub sheet_fits : sheet.length ≤ length after
   sheet_fits =

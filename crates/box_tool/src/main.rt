@@ -119,11 +119,7 @@ fn finish_check(rt: &HostRuntime, input: &[u8]) -> Status
 {
     let mut output = [0u8; 32768];
     match sheet::print_sheet(input, &mut output) {
-        Ok(sheet) => write_out(
-            rt,
-            &output[..sheet.length],
-            status_of_sheet(sheet.holds),
-        ),
+        Ok(sheet) => write_out(rt, &output[..sheet.length], status_of_sheet(sheet.holds)),
         Err(_) => Status::Fault, // the output is long enough
     }
 }

@@ -4,8 +4,11 @@ use Rattle.box_tool.specs.Status.{status_of}
 use Rattle.box_tool.proofs.JobTexts.{front_fits, front_is, finishes, finishes_failed}
 use Rattle.box_tool.proofs.finish.Goals as goal
 
+pub slice_bounds-output-end : goal.slice_bounds-output-end
+slice_bounds-output-end c = front_fits c.print.ensures c.in-Ok.is
+
 pub slice_bounds-text-end : goal.slice_bounds-text-end
-slice_bounds-text-end c = front_fits c.print.ensures c.in-Ok.is
+slice_bounds-text-end c = sym (length-take-le _ _ (front_fits c.print.ensures c.in-Ok.is))
 
 pub returns-in-Ok : goal.returns-in-Ok
 returns-in-Ok c =
