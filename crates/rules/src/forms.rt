@@ -3,34 +3,6 @@
 ghost use Rattle.std.specs.Prelude.{◌≡◌};
 ghost use Rattle.rules.specs.Forms.{form_number, form_of};
 
-pub const KIND: u16 = 1;
-
-pub const THREAD: u16 = 2;
-
-pub const METHOD: u16 = 3;
-
-pub const GIVE: u16 = 4;
-
-pub const VALUE: u16 = 5;
-
-pub const FIELD: u16 = 6;
-
-pub const SWAP: u16 = 7;
-
-pub const CALL: u16 = 8;
-
-pub const NEW: u16 = 9;
-
-pub const CAST: u16 = 10;
-
-pub const SPAWN: u16 = 11;
-
-pub const SEND: u16 = 12;
-
-pub const RECV: u16 = 13;
-
-pub const COPY: u16 = 14;
-
 // The forms, each with its number. The kind stands out of the order of the numbers: so the compiler makes one jump of `Form::from` and the
 // `match` after it. In that order it would first compute the variant.
 #[derive(Clone, Copy, Debug, PartialEq, Eq)]
@@ -66,28 +38,21 @@ impl From<u16> for Form {
 
     fn from(n: u16) -> Form {
         match n {
-            KIND => Form::Kind,
-            THREAD => Form::Thread,
-            METHOD => Form::Method,
-            GIVE => Form::Give,
-            VALUE => Form::Value,
-            FIELD => Form::Field,
-            SWAP => Form::Swap,
-            CALL => Form::Call,
-            NEW => Form::New,
-            CAST => Form::Cast,
-            SPAWN => Form::Spawn,
-            SEND => Form::Send,
-            RECV => Form::Recv,
-            COPY => Form::Copy,
+            1 => Form::Kind,
+            2 => Form::Thread,
+            3 => Form::Method,
+            4 => Form::Give,
+            5 => Form::Value,
+            6 => Form::Field,
+            7 => Form::Swap,
+            8 => Form::Call,
+            9 => Form::New,
+            10 => Form::Cast,
+            11 => Form::Spawn,
+            12 => Form::Send,
+            13 => Form::Recv,
+            14 => Form::Copy,
             _ => Form::NoForm,
         }
     }
-}
-
-// The form that has this number.
-pub fn form_of(n: u16) -> Form
-    ensures { result ≡ form_of n }
-{
-    Form::from(n)
 }

@@ -1,19 +1,17 @@
-// The types that the definitions (specs/) share with the code, who may hold whom, the numbers of grounds and of forms, and the words of K.
+// The types that the definitions (specs/) share with the code, who may hold whom, the numbers of faults and of forms, and the words of K.
 #![tactic(auto)]
 
-ghost use Rattle.std.specs.Prelude.{◌≡◌, ◌<◌, get_or};
-ghost use Rattle.rules.specs.Numbers as No;
+ghost use Rattle.std.specs.Prelude.{◌≡◌, ◌<◌};
 ghost use Rattle.rules.specs.Script.{rank};
 ghost use Rattle.rules.specs.Templates.{cap_word};
 ghost use Rattle.rules.specs.Tables.{cap_of};
 ghost use Rattle.rules.specs.Turn.{may_hold};
 
 mod faults;
-pub mod forms;
-pub mod numbers;
+mod forms;
 
 pub use faults::{Fault, Refusal};
-pub use forms::{Form, form_of};
+pub use forms::Form;
 
 // "A value is absent, an object number or a channel number."
 #[derive(Clone, Copy, Debug, PartialEq, Eq)]
@@ -26,10 +24,10 @@ pub enum Value {
 // "Capabilities are ordered imm < iso < local < unsafe".
 #[derive(Clone, Copy, Debug, PartialEq, Eq, PartialOrd, Ord)]
 pub enum Cap {
-    Imm,
-    Iso,
-    Local,
-    Unsafe,
+    Imm = 0,
+    Iso = 1,
+    Local = 2,
+    Unsafe = 3,
 }
 
 // The grounds of a permission stop (document 02, L5).
@@ -70,37 +68,13 @@ pub const HOLDS: [[bool; 4]; 4] = [
     [true, true, true, true],
 ];
 
-// The place of a capability in the order.
-pub fn cap_rank(c: Cap) -> usize
-    ensures value { result ≡ rank c }
-    ensures upper_bound { result < 4 }
-{
-    match c {
-        Cap::Imm => 0,
-        Cap::Iso => 1,
-        Cap::Local => 2,
-        Cap::Unsafe => 3,
-    }
-}
-
 // "A holder may hold a value of its own or a lesser capability".
 pub fn may_hold(holder: Cap, value: Cap) -> bool
     ensures { result ≡ may_hold holder value }
 {
-    let row = cap_rank(holder);
-    let column = cap_rank(value);
+    let row = holder.rank();
+    let column = value.rank();
     HOLDS[row][column]
-}
-
-// The number of a stop on this ground.
-pub fn ground_number(g: Ground) -> u16
-    ensures { result ≡ No.permission g }
-{
-    match g {
-        Ground::Foreign => numbers::FOREIGN,
-        Ground::Alias => numbers::ALIAS,
-        Ground::Other => numbers::PERMISSION,
-    }
 }
 
 // "K is one of the words".
@@ -146,32 +120,4 @@ impl From<u16> for Cap {
             _ => Cap::Unsafe,
         }
     }
-}
-// Letter i of the word of a capability, and 0 past its end.
-pub fn cap_letter(c: Cap, i: usize) -> u8
-    ensures { result ≡ get_or (cap_word c) i 0 }
-{
-    match c {
-        Cap::Imm => {
-            if i < 3 {
-                return IMM[i];
-            }
-        }
-        Cap::Iso => {
-            if i < 3 {
-                return ISO[i];
-            }
-        }
-        Cap::Local => {
-            if i < 5 {
-                return LOCAL[i];
-            }
-        }
-        Cap::Unsafe => {
-            if i < 6 {
-                return UNSAFE[i];
-            }
-        }
-    }
-    0
 }

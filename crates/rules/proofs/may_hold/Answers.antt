@@ -1,8 +1,6 @@
 -- The table says what the order does: one test for each pair of capabilities.
-use mathlib.Core.Path.{◌≡◌, refl}
-use mathlib.Core.Bool.{Bool, true, false}
-use mathlib.Core.List.{List, [], ◌∷◌}
-use lib.ListN.{get_or}
+use Rattle.std.proofs.Common.{refl}
+use Rattle.std.specs.Prelude.{◌≡◌, Bool, true, false, List, [], ◌∷◌, get_or}
 use Rattle.rules.specs.declared.Cap.{Cap}
 use Rattle.rules.specs.declared.Cap.TheVariants.{Imm, Iso, Local, Unsafe}
 use Rattle.rules.specs.Script.{rank}
@@ -36,4 +34,4 @@ rows_right =
     (each_cap (Right Unsafe) refl refl refl refl)
 
 pub returns : goal.returns
-returns c = rw (c.cap_rank-row.ensures.value, c.cap_rank-column.ensures.value) (rows_right _ _)
+returns c = rw (c.rank-row.ensures.value, c.rank-column.ensures.value) (rows_right _ _)
