@@ -1,5 +1,5 @@
 -- Laws of `Wrote`: nothing, a byte, one text after the other, the same text said otherwise, a text at the front.
-use Rattle.std.proofs.Common.{ℕ, ◌+◌, ◌≤◌, ◌<◌, add-zero, zero-add, add_assoc, add-one, arith, ◌≡◌, refl, sym, ap, ◌∙◌, List, [], ◌∷◌, ◌++◌, append_assoc, length, take, drop, set, get_or, length-append, take-append-drop, length-take-le, drop-drop, take-suc}
+use Rattle.std.proofs.Common.{ℕ, ◌+◌, ◌≤◌, ◌<◌, add-zero, zero-add, add_assoc, add-one, arith, ◌≡◌, refl, sym, ap, ◌∙◌, List, [], ◌∷◌, ◌++◌, append_assoc, length, take, drop, set, length-append, take-append-drop, length-take-le, drop-drop}
 use borrow.Rule.Slice.PartMut.{put_mid}
 use Rattle.std.proofs.Math.Seq.{take-append_seam, drop-append-add, set_split}
 use Rattle.buffer.specs.Writing.{over, Wrote}
@@ -55,11 +55,3 @@ same_text k e wide a = record { is = rw (← e) a.is; end = rw (← e) a.end; mo
 pub front_is : {k r : ℕ} {l l₁ t : List ℕ} → Wrote k l l₁ 0 r t → (l₁ ≡ t ++ drop (length t) l) × (r ≡ length t)
 unfolding over
 front_is {t = t} w = (rw (zero-add (length t)) at w.is, rw (zero-add (length t)) at w.end)
-
--- one byte more of a text
-pub one_more_byte : {l l₁ : List ℕ} {at : ℕ} (t : List ℕ) (i : ℕ) → i < length t → at + i < length l₁ → Wrote i l l₁ at (at + i) (take i t)
-    → Wrote (i + 1) l (set l₁ (at + i) (get_or t i 0)) at (at + (i + 1)) (take (i + 1) t)
-one_more_byte {l} {l₁} {at} t i there room a = rw (next_place, add-one i, take-suc t i 0 there) (rw (add-one i) at (a ▹ byte (get_or t i 0) room))
-  where
-    next_place : at + (i + 1) ≡ at + i + 1
-    next_place = omega arith

@@ -88,11 +88,6 @@ as_outcome (ok a) = refl
 as_outcome wait = refl
 as_outcome (stop n) = refl
 
-pub passed_is_ok : {x : Res (Unit {0})} (k : Res (Unit {0})) → k ≡ x → passed k ≡ true → x ≡ ok tt
-passed_is_ok (ok a) e passes = sym e
-passed_is_ok wait e passes = impossible cc
-passed_is_ok (stop n) e passes = impossible cc
-
 -- where the rests answer the same, so do the wholes
 pub same_after : {A B C : Type 0} (x : Res A) (g : A → Res B) (g' : A → Res C) → ((a : A) → outcome_of (g a) ≡ outcome_of (g' a)) → outcome_of (x >>= g) ≡ outcome_of (x >>= g')
 unfolding ◌>>=◌

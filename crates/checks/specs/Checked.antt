@@ -54,11 +54,6 @@ waited (ok a) = false
 waited wait = true
 waited (stop n) = false
 
-abbrev pub stop_number : Res (Unit {0}) → ℕ
-stop_number (ok a) = 0
-stop_number wait = 0
-stop_number (stop n) = n
-
 -- ---- What is asked of the state
 
 abbrev pub Made : ℕ → State → Type 0

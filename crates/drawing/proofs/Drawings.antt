@@ -26,7 +26,8 @@ use Rattle.drawing.specs.Drawings.{Drew, DrawsState, HasDrawn}
 -- ---- Of a table
 
 -- what is too short is refused
-pub too_short : {s buffer : List ℕ} {f : Refusal} → f.fault ≡ ShortTable → f.line ≡ 0 → (length s < Most.words) ⊎ ((Most.words ≤ length s) × (length buffer < Most.drawing))
+pub too_short : {s buffer : List ℕ} {f : Refusal} → f.fault ≡ ShortTable → f.line ≡ 0
+    → (length s < Most.words) ⊎ ((Most.words ≤ length s) × (length buffer < Most.drawing))
     → DrawsState s buffer (Err f) buffer
 too_short {f = f} fault line short =
     record {

@@ -24,10 +24,6 @@ use Rattle.table.proofs.StateEdits.{thread_put, put_put, length_put}
 unfoldable pub zeros : ℕ → List ℕ
 zeros n = replicate n 0
 
-length_zeros : (n : ℕ) → length (zeros n) ≡ n
-unfolding zeros
-length_zeros n = length-replicate n 0
-
 -- what is left of a part of k words that is filled with 0
 pub filled_with_zeros : (l m : List ℕ) (at k : ℕ) → at + k ≤ length l → m ≡ replicate (length (take (at + k - at) (drop at l))) 0 → m ≡ zeros k
 unfolding zeros

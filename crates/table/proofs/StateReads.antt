@@ -23,13 +23,6 @@ value_of_word (Obj n) h = simp (ne_eqb (n + 1) 0 (λ e. omega arith), lt-ltb (n 
 value_of_word (Chan c) h =
     simp (ne_eqb (c + 257) 0 (λ e. omega arith), le-ltb (c + 257) 257 (omega arith), add-sub_cancel c 257) (ap Chan (mod-eq_of_lt h))
 
--- a word of none of the first three is the fourth's
-pub other_cap : (w : ℕ) → (w ≡ 0 → ⊥) → (w ≡ 1 → ⊥) → (w ≡ 2 → ⊥) → Unsafe ≡ cap_of w
-other_cap zero imm iso local = absurd (imm refl)
-other_cap (suc zero) imm iso local = absurd (iso refl)
-other_cap (suc (suc zero)) imm iso local = absurd (local refl)
-other_cap (suc (suc (suc n))) imm iso local = refl
-
 pub object_in_table : (v : Value) (n : ℕ) → v ≡ Obj n → InTable v → n < 256
 object_in_table v n e h = rw e at h
 

@@ -15,7 +15,7 @@ pub use program::{
 };
 pub use standing::Here;
 pub use state::{
-    add_object, cap, cap_of, clear_slot, creator, drop_frame, empty_channel, field, frame_block,
+    add_object, cap, clear_slot, creator, drop_frame, empty_channel, field, frame_block,
     frame_count, frame_line, frame_slot, give_value, hold, holder_count, kind, locate, message,
     message_number, object_count, push_frame, put_message, release, return_value, sender, slot,
     slot_count, start_state, start_thread, store_field, thread_count,

@@ -33,13 +33,6 @@ fn pack(v: Value) -> u16
     }
 }
 
-// A capability's word read back.
-pub fn cap_of(w: u16) -> Cap
-    ensures { result ≡ cap_of w }
-{
-    Cap::from(w)
-}
-
 // ---- Reading
 
 #[tactic(auto, using(crate::proofs::StateReads::objects_seen))]

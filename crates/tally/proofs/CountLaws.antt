@@ -75,10 +75,6 @@ module _ (counts : List ℕ) (at : ℕ) where
   unfolding raise
   raise_length = length-set counts at (get_or counts at 0 + 1)
 
-pub none_wide : (counts : List ℕ) → counts ≡ none_counted → length counts ≡ 85
-unfolding none_counted
-none_wide counts fresh = rw fresh refl
-
 -- ---- A stopped run
 
 after_stop : (P : Program) (S : State) (n k t b l : ℕ) (counts ts : List ℕ)

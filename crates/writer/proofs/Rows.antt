@@ -26,8 +26,16 @@ line_written {n = n} w₀ w₁ w₂ w₃ w₄ w₅ w₆ written =
       text = _;
       writes = written;
       is_line = λ counts rest Fs filled there few.
-        rw (w₀.is counts rest Fs filled there, w₁.is counts rest Fs filled there, w₂.is counts rest Fs filled there, w₃.is counts rest Fs filled there, w₄.is counts rest Fs filled there, w₅.is counts rest Fs filled there, w₆.is counts rest Fs filled there)
-        (form_told (get_or Fs n no_form) few);
+          rw (
+            w₀.is counts rest Fs filled there,
+            w₁.is counts rest Fs filled there,
+            w₂.is counts rest Fs filled there,
+            w₃.is counts rest Fs filled there,
+            w₄.is counts rest Fs filled there,
+            w₅.is counts rest Fs filled there,
+            w₆.is counts rest Fs filled there,
+          )
+          (form_told (get_or Fs n no_form) few);
     }
 
 -- ---- The text of some lines
@@ -72,8 +80,11 @@ one_line_more {n = n} room before next =
       text = before.text ++ next.text;
       writes = bounded (Most.text + line_bytes) (omega (arith, room, next.writes.most)) (before.writes ▹ next.writes);
       first_lines = λ counts rest Fs filled few there.
-        rw (before.first_lines counts rest Fs filled few (omega (arith, there)), next.is_line counts rest Fs filled (omega (arith, there)) (every_at FewParts Fs n no_form (omega (arith, there)) few))
-        (text_more Fs n (omega (arith, there)));
+          rw (
+            before.first_lines counts rest Fs filled few (omega (arith, there)),
+            next.is_line counts rest Fs filled (omega (arith, there)) (every_at FewParts Fs n no_form (omega (arith, there)) few),
+          )
+          (text_more Fs n (omega (arith, there)));
     }
 
 module _ {t : List ℕ} {o o₁ : Output} {n count : ℕ} (small : o₁.at ≤ Most.text + line_bytes) (so_far : SoFar t o o₁ n) where

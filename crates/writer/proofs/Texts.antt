@@ -47,14 +47,18 @@ module _ (f : ℕ → List ℕ) (k : ℕ) where
 
   -- an item more, where there is one
   pub an_item_more : {o o₁ o₂ : Output} {n : ℕ} (ws : List ℕ) → n < length ws → (get_or ws n 0 ≡ 0 → ⊥)
-      → Wrote (n * k) o o₁ (print_many f (items_of (take n ws))) → Wrote k o₁ o₂ (space ∷ f (get_or ws n 0 - 1)) → Wrote ((n + 1) * k) o o₂ (print_many f (items_of (take (n + 1) ws)))
+      → Wrote (n * k) o o₁ (print_many f (items_of (take n ws))) → Wrote k o₁ o₂ (space ∷ f (get_or ws n 0 - 1))
+      → Wrote ((n + 1) * k) o o₂ (print_many f (items_of (take (n + 1) ws)))
   an_item_more {n = n} ws there some before next =
-      same_text ((n + 1) * k) (ap (λ (t : List ℕ). print_many f (items_of (take n ws)) ++ t) (an_item (get_or ws n 0) some) ∙ items_more ws n there) (omega (arith, suc-mul n k)) (before ▹ next)
+      same_text ((n + 1) * k) (ap (λ (t : List ℕ). print_many f (items_of (take n ws)) ++ t) (an_item (get_or ws n 0) some) ∙ items_more ws n there)
+      (omega (arith, suc-mul n k)) (before ▹ next)
 
   pub no_item_more : {o o₁ : Output} {n : ℕ} (ws : List ℕ) → n < length ws → get_or ws n 0 ≡ 0
       → Wrote (n * k) o o₁ (print_many f (items_of (take n ws))) → Wrote ((n + 1) * k) o o₁ (print_many f (items_of (take (n + 1) ws)))
   no_item_more {n = n} ws there none before =
-      same_text ((n + 1) * k) (sym (append-nil _) ∙ ap (λ (t : List ℕ). print_many f (items_of (take n ws)) ++ t) (no_item (get_or ws n 0) none) ∙ items_more ws n there) (omega (arith, suc-mul n k)) before
+      same_text ((n + 1) * k)
+      (sym (append-nil _) ∙ ap (λ (t : List ℕ). print_many f (items_of (take n ws)) ++ t) (no_item (get_or ws n 0) none) ∙ items_more ws n there)
+      (omega (arith, suc-mul n k)) before
 
 -- room for one item of four more, where n are written
 pub room_left : {o o₁ : Output} {t : List ℕ} (n k : ℕ) → n < 4 → HasRoom (4 * k) o → Wrote (n * k) o o₁ t → HasRoom k o₁
@@ -67,7 +71,8 @@ print_operands (i ∷ is) = ap (λ (t : List ℕ). space ∷ (print_operand (ope
 
 -- what is written for a `new` is its form's text
 pub new_text : (a b c d e f : ℕ)
-    → bytes "(let (new" ++ ((space ∷ cap_word (cap_of a)) ++ (number_part b ++ (print_many (λ i. print_operand (operand_of i)) (items_of (c ∷ d ∷ e ∷ f ∷ [])) ++ bytes "))\n")))
+    → bytes "(let (new" ++ ((space ∷ cap_word (cap_of a)) ++ (number_part b
+    ++ (print_many (λ i. print_operand (operand_of i)) (items_of (c ∷ d ∷ e ∷ f ∷ [])) ++ bytes "))\n")))
     ≡ form_text N.New a b c d e f
 unfolding form_text show print
 new_text a b c d e f = rw (print_operands (items_of (c ∷ d ∷ e ∷ f ∷ []))) refl

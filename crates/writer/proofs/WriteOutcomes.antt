@@ -121,7 +121,8 @@ module _ (printed words : List ℕ) {words₁ : List ℕ} (answer : Result Unit 
 -- ---- The answers
 
 module _ (table buffer : List ℕ) where
-  pub too_short : (length table < Most.words) ⊎ ((Most.words ≤ length table) × (length buffer < Most.text)) → WriteCall mosts table buffer (refused No.short_table) buffer
+  pub too_short : (length table < Most.words) ⊎ ((Most.words ≤ length table) × (length buffer < Most.text))
+      → WriteCall mosts table buffer (refused No.short_table) buffer
   unfolding short_table short_buffer
   too_short (inl short) = rw (lt-ltb (length table) Most.words short) (record { answers = refl; leaves = refl })
   too_short (inr (long, short)) = rw (le-ltb (length table) Most.words long, lt-ltb (length buffer) Most.text short) (record { answers = refl; leaves = refl })

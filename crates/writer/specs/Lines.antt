@@ -34,7 +34,8 @@ items_of (zero ∷ ws) = items_of ws
 items_of (suc i ∷ ws) = i ∷ items_of ws
 
 -- each call of `put` writes an item after a space, in at most k bytes
-pub record PutsItems {F : Type 0} (g : Shared F (MutBor Output × (ℕ × Unit {0})) (Unit {0} × (MutBor Output × Unit {0}))) (put : F) (f : ℕ → List ℕ) (k : ℕ) : Type 0 where
+pub record PutsItems {F : Type 0} (g : Shared F (MutBor Output × (ℕ × Unit {0})) (Unit {0} × (MutBor Output × Unit {0})))
+    (put : F) (f : ℕ → List ℕ) (k : ℕ) : Type 0 where
   pub callable : (o : MutBor Output) (i : ℕ) → i < 2 ^ 16 → HasRoom k o.now → g.pre put (o, (i, tt))
   pub writes : (o o₁ : MutBor Output) (i : ℕ) → i < 2 ^ 16 → HasRoom k o.now → g.post put (o, (i, tt)) (tt, (o₁, tt)) → Wrote k o.now o₁.now (space ∷ f i)
 

@@ -8,7 +8,6 @@ ghost use Rattle.rules.specs.Writer.{WriteCall};
 ghost use Rattle.writer.specs.WriteAnswers.{answer_of};
 
 use rules::Fault;
-
 use script_lines::put_script;
 
 // Writes the text that reads to a program table, and answers how many bytes it has. What its words say is written beside the buffer and read again:

@@ -16,5 +16,5 @@ pub returns : goal.returns
 returns c =
     let a = c.args in
     let x = in_output (answer_line (refused a.number a.line)) c.if-output-lt32768.false
-      (at_front c.new-out.ensures.start c.new-out.ensures.content (search rules) c.put_refused.ensures) in
+    (at_front c.new-out.ensures.start c.new-out.ensures.content (search rules) c.put_refused.ensures) in
     record { value = x.answers; output_after = x.leaves }

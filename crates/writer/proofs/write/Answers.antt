@@ -15,12 +15,12 @@ returns-then-is_err c =
     let read = c.read.ensures in
     turned_away_lem start.table.now start.buffer.now (search rules) (search rules)
     (elim c.then-is_err.branch [
-      then-is_err-via-then-is_err w ↦
-        refused_none printed _ c.read.result (search rules) read.value read.table_after (search rules) (λ text it. is_written script.ensures it)
-        (is_refused _ (sym c.is_err.ensures.value ∙ w.if-is_err.true))
+      | then-is_err-via-then-is_err w ↦
+          refused_none printed _ c.read.result (search rules) read.value read.table_after (search rules) (λ text it. is_written script.ensures it)
+          (is_refused _ (sym c.is_err.ensures.value ∙ w.if-is_err.true))
       | then-is_err-via-else-is_err+then-not-same_table w ↦
-        other_words_none printed _ c.read.result (search rules) read.value read.table_after (search rules) (λ text it. is_written script.ensures it)
-        w.same_table.ensures w.if-not-same_table.true
+          other_words_none printed _ c.read.result (search rules) read.value read.table_after (search rules) (λ text it. is_written script.ensures it)
+          w.same_table.ensures w.if-not-same_table.true
     ])
 
 pub slice_bounds-copy_from_slice-end : goal.slice_bounds-copy_from_slice-end
@@ -31,7 +31,7 @@ slice_bounds-copy_from_slice-end c =
 pub slice_bounds-copy_from_slice-end-2 : goal.slice_bounds-copy_from_slice-end-2
 slice_bounds-copy_from_slice-end-2 c =
     let fits = fits_buffer _ _ c.args.buffer.now c.read.result (omega (arith, c.put_script-length.ensures.most)) c.read.ensures.value (sym c.if-is_err.ensures.value)
-      c.if-buffer-lt16384.false in
+    c.if-buffer-lt16384.false in
     sym (length-take-le c.put_script-length.result c.args.buffer.now fits)
 
 pub copy_from_slice-requires : goal.copy_from_slice-requires
@@ -48,7 +48,7 @@ returns c =
     let printed = take script.result script.new.text in
     let read = c.read.ensures in
     let it = reads_to printed _ c.read.result (search rules) read.value read.table_after {table = start.table.now} (search rules)
-      (is_read _ (sym c.if-is_err.ensures.value)) (c.same_table.ensures.same c.if-not-same_table.false) in
+    (is_read _ (sym c.if-is_err.ensures.value)) (c.same_table.ensures.same c.if-not-same_table.false) in
     let whole = length-take-le script.result script.new.text (omega (arith, script.ensures.most)) in
     written_out start.table.now start.buffer.now (search rules) (search rules) it (λ text other. is_written script.ensures other)
     (rw (c.copy_from_slice.ensures.after, whole) refl) (sym whole)

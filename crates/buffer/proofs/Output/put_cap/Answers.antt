@@ -1,5 +1,5 @@
 -- `buffer::Output::put_cap` meets its contract: a space, and the word of the capability.
-use Rattle.std.proofs.Common.{ℕ, ◌+◌, ◌≤◌, arith, ap, ◌∷◌, length, rules}
+use Rattle.std.proofs.Common.{◌≤◌, arith, ap, ◌∷◌, length}
 use Rattle.rules.specs.Text.{space}
 use Rattle.rules.specs.Templates.{cap_word}
 use Rattle.rules.specs.declared.Cap.{Cap}

@@ -7,7 +7,7 @@ pub loop-c-init : goal.loop-c-init
 loop-c-init c = record { few = search rules; written = no_channel_yet (search rules) }
 
 pub loop-c-preserved : goal.loop-c-preserved
-loop-c-preserved c = 
+loop-c-preserved c =
     record {
       few = omega arith;
       written = channel_after c.thread_count-c-end.ensures.sees c.loop-c.c (search rules) c.loop-c-test.true c.loop-c.invariant.written c.put_channel.ensures;

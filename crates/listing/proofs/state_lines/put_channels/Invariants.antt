@@ -6,7 +6,7 @@ use Rattle.listing.specs.StateWriting.{Writes}
 use Rattle.listing.proofs.state_lines.put_channels.Given as goal
 
 abbrev pub invariant-loop-c : goal.invariant-loop-c
-invariant-loop-c l = 
+invariant-loop-c l =
     record {
       few : l.c ≤ 16;
       written : Writes (29 * l.c) l.s l.initial.out l.out Any (λ S. numbered channel_line 1 (drop 1 (take l.c S.channels)));

@@ -7,7 +7,7 @@ pub loop-i-init : goal.loop-i-init
 loop-i-init c = no_slot_yet c.args.t c.args.k (search rules)
 
 pub loop-i-preserved : goal.loop-i-preserved
-loop-i-preserved c = 
+loop-i-preserved c =
     slot_after c.args.t c.args.k c.slot_count.ensures.sees c.loop-i.i c.loop-i-test.true c.loop-i.invariant c.frame_slot.ensures.sees
     c.put_value.ensures
 

@@ -40,7 +40,9 @@ returns-in-Call c = rw c.in-Call.is (same_text 77 refl (omega arith) c.put_place
 
 pub returns-in-New : goal.returns-in-New
 unfolding form_text show print
-returns-in-New c = rw c.in-New.is (same_text 77 (let p = λ (k : ℕ). get_or c.args.parts k 0 in new_text (p 0) (p 1) (p 2) (p 3) (p 4) (p 5)) (omega arith) c.put_new.ensures)
+returns-in-New c =
+    let p = λ (k : ℕ). get_or c.args.parts k 0 in
+    rw c.in-New.is (same_text 77 (new_text (p 0) (p 1) (p 2) (p 3) (p 4) (p 5)) (omega arith) c.put_new.ensures)
 
 pub returns-in-Cast : goal.returns-in-Cast
 unfolding form_text show print

@@ -16,9 +16,9 @@ put-requires g c = c.requires.1.1.callable _ _ (search rules) (room_left c.loop-
 pub loop-item-preserved : goal.loop-item-preserved
 loop-item-preserved g c =
     elim c.if-item-ne0.branch [
-      then-item-ne0 w ↦
-        rw w.out-is
-        (an_item_more g.item.0 g.item.1 c.args.items (search rules) w.if-item-ne0.true c.loop-item.invariant
-        (c.requires.1.1.writes _ _ _ (search rules) (room_left c.loop-item.item-index g.item.1 (search rules) c.requires.1.0 c.loop-item.invariant) w.put.ensures))
+      | then-item-ne0 w ↦
+          rw w.out-is
+          (an_item_more g.item.0 g.item.1 c.args.items (search rules) w.if-item-ne0.true c.loop-item.invariant
+          (c.requires.1.1.writes _ _ _ (search rules) (room_left c.loop-item.item-index g.item.1 (search rules) c.requires.1.0 c.loop-item.invariant) w.put.ensures))
       | else-item-ne0 w ↦ rw w.out-is (no_item_more g.item.0 g.item.1 c.args.items (search rules) w.if-item-ne0.false c.loop-item.invariant)
     ]
