@@ -1,14 +1,7 @@
 -- The front of a text and its first line: a form that fits the front is printed there, a printing holds one LF and that ends it, and a line
 -- that decodes fits whatever follows it. Only one form can fit, and a few bytes tell which.
-use Prim.Native.Nat.{ℕ, zero, suc, ◌+◌, ◌/◌, ◌%◌, ◌<◌, ◌≤◌, suc-le-suc}
-use native.Mathlib.Nat.{le-add_right, not-le_of_lt, le_of_suc-le-suc, not-suc-le-zero}
-use native.Mathlib.Omega.{arith}
-use mathlib.Core.Path.{◌≡◌, refl, sym, ap, subst, ◌∙◌}
-use mathlib.Core.Bool.{Bool, true, false, not, ◌&&◌, cond, false≢true}
-use mathlib.Core.List.{List, [], ◌∷◌, ◌++◌, append-nil}
-use lib.Dec.{ltb, eqb}
-use lib.ListN.{length, get_or, drop, length-append, length-drop, get_or-append}
-use borrow.Author.Tests.{eqb-true, not-true, ltb-true}
+use Rattle.std.proofs.lemmas.Bool.{false≢true, not-true}
+use Rattle.std.proofs.Math.ListN.{get_or-append}
 use Rattle.rules.specs.declared.Mosts.{Mosts}
 use Rattle.rules.specs.declared.Cap.{Cap}
 use Rattle.rules.specs.declared.Cap.TheVariants.{Imm, Iso, Local, Unsafe}
@@ -22,7 +15,7 @@ use Rattle.rules.proofs.ListLaws.{impossible, by_bool, and_true, all_true, every
 use Rattle.rules.proofs.Printing.{says_of, Short, fit_front, fit_prints, decode_prints, join_lines}
 use Rattle.rules.proofs.OneForm.{Way, ways, every_way, opening, head, Begins, print_begins, one_beginning, InOrder, none_gives, only_gives, decode_none, print_fits, print_decodes}
 use Rattle.grammar.specs.declared.forms.Line.{Line}
-use Rattle.std.proofs.Common.{Option, Some, None, IfSome}
+use Rattle.std.proofs.Common.{Option, Some, None, IfSome, ℕ, zero, suc, ◌+◌, ◌/◌, ◌%◌, ◌<◌, ◌≤◌, suc-le-suc, le-add_right, not-le_of_lt, le_of_suc-le-suc, not-suc-le-zero, arith, ◌≡◌, refl, sym, ap, subst, ◌∙◌, Bool, true, false, not, ◌&&◌, cond, List, [], ◌∷◌, ◌++◌, append-nil, ltb, eqb, length, get_or, drop, length-append, length-drop, eqb-true, ltb-true}
 use Rattle.grammar.specs.Words.{After}
 use Rattle.grammar.specs.Decoded.{front_by, front, let_form, only_form, FormAt, LineAt, told_end}
 use Rattle.grammar.proofs.Told.{done, word, no_word}

@@ -1,14 +1,6 @@
 -- A list of parts, read one part after the other: what is read so far, put before what the list still gives at the place reached.
-use Prim.Native.Nat.{ℕ, zero, suc, ◌+◌, ◌≤◌, ◌<◌}
-use native.Mathlib.Nat.{add-zero, not-suc-le-zero}
-use native.Mathlib.Omega.{arith}
-use mathlib.Core.Path.{◌≡◌, refl, sym, ap, ◌∙◌}
-use mathlib.Core.Bool.{Bool, true, false, cond, false≢true}
-use mathlib.Core.List.{List, [], ◌∷◌, ◌++◌, append-nil, append_assoc}
-use lib.Dec.{eqb}
-use borrow.Author.Tests.{eq-eqb, ne_eqb}
-use lib.ListN.{length, drop, get_or, length-append}
-use lib.Seq.{drop-drop, get_or-drop}
+use Rattle.std.proofs.lemmas.Bool.{false≢true}
+use Rattle.std.proofs.Common.{ℕ, zero, suc, ◌+◌, ◌≤◌, ◌<◌, add-zero, not-suc-le-zero, arith, ◌≡◌, refl, sym, ap, ◌∙◌, Bool, true, false, cond, List, [], ◌∷◌, ◌++◌, append-nil, append_assoc, eqb, eq-eqb, ne_eqb, length, drop, get_or, length-append, drop-drop, get_or-drop}
 use Rattle.rules.specs.Text.{space}
 use Rattle.rules.specs.Templates.{Taken, took, unfit, ◌>>=◌, number, operand, many}
 use Rattle.rules.proofs.ListLaws.{by_bool}

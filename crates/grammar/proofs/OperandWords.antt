@@ -1,10 +1,6 @@
 -- The words of operands and capabilities tell what they stand for: an odd word takes, half of it is the slot.
-use Prim.Native.Nat.{ℕ, zero, suc, ◌+◌, ◌/◌, ◌%◌, ◌≤◌}
-use native.Mathlib.Numerals.{add-one}
-use native.Mathlib.Omega.{arith}
-use mathlib.Core.Path.{◌≡◌, refl, sym, ap, ◌∙◌}
-use lib.Dec.{eqb}
-use borrow.Author.Tests.{eqb-true, eqb-false, eq-eqb, ne_eqb}
+use Rattle.std.proofs.lemmas.Bool.{eqb-false}
+use Rattle.std.proofs.Common.{ℕ, zero, suc, ◌+◌, ◌/◌, ◌%◌, ◌≤◌, add-one, arith, ◌≡◌, refl, sym, ap, ◌∙◌, eqb, eqb-true, eq-eqb, ne_eqb}
 use Rattle.rules.specs.Script.{rank}
 use Rattle.rules.specs.Reading.{takes_first}
 use Rattle.rules.specs.Tables.{operand_word, operand_item, operand_of, cap_of}

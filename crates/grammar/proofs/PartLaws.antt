@@ -1,15 +1,9 @@
 -- Numbers, operands and capabilities by the bytes at their places.
-use Prim.Native.Nat.{ℕ, zero, suc, ◌+◌, ◌*◌, ◌/◌, ◌%◌, ◌≤◌, ◌<◌}
+use Rattle.std.proofs.lemmas.Bool.{false≢true, eqb-false, lt-leb}
 use Prim.Native.Char.{code}
-use native.Mathlib.Decide.{dec_lt}
-use native.Mathlib.Omega.{arith}
-use mathlib.Core.Path.{◌≡◌, refl, sym, ap, ◌∙◌}
-use mathlib.Core.Bool.{Bool, true, false, ◌&&◌, ◌||◌, cond, false≢true, and-true, and-false}
-use mathlib.Core.List.{List, [], ◌∷◌}
-use lib.Dec.{eqb, ltb, leb}
-use lib.ListN.{length, drop, get_or, drop_of_length-le, get_or-eq_default}
-use lib.Seq.{drop-drop}
-use borrow.Author.Tests.{ltb-true, eqb-true, eqb-false, lt-ltb, le-leb, lt-leb, ne_eqb}
+use Rattle.std.proofs.Math.Decide.{dec_lt}
+use Rattle.std.proofs.Math.Bool.{and-true, and-false}
+use Rattle.std.proofs.Math.ListN.{get_or-eq_default}
 use Rattle.rules.specs.declared.Cap.{Cap}
 use Rattle.rules.specs.declared.Cap.TheVariants.{Imm, Iso, Local, Unsafe}
 use Rattle.rules.specs.Lists.{place_of}
@@ -18,7 +12,7 @@ use Rattle.rules.specs.Script.{Operand, reads, takes}
 use Rattle.rules.specs.Templates.{Taken, took, unfit, ◌>>=◌, or_else, digit_of, digits_at, is_number, decimal_value, number, operand_by, operand, cap_word, cap_by, capability}
 use Rattle.rules.specs.Tables.{operand_of}
 use Rattle.rules.proofs.ListLaws.{by_bool}
-use Rattle.std.proofs.Common.{Option, Some, None}
+use Rattle.std.proofs.Common.{Option, Some, None, ℕ, zero, suc, ◌+◌, ◌*◌, ◌/◌, ◌%◌, ◌≤◌, ◌<◌, arith, ◌≡◌, refl, sym, ap, ◌∙◌, Bool, true, false, ◌&&◌, ◌||◌, cond, List, [], ◌∷◌, eqb, ltb, leb, length, drop, get_or, drop_of_length-le, drop-drop, ltb-true, eqb-true, lt-ltb, le-leb, ne_eqb}
 use Rattle.std.specs.Option.{is_some}
 use mir.Val.{bool_byte}
 use Rattle.grammar.specs.Words.{begins}

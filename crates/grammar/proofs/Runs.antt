@@ -1,13 +1,6 @@
 -- Parts read one after the other are a list as the rules have it, of what their words stand for.
-use Prim.Native.Nat.{ℕ, suc, ◌+◌, ◌/◌}
-use native.Mathlib.Numerals.{add-one}
-use native.Mathlib.Omega.{arith}
-use mathlib.Core.Path.{◌≡◌, refl, sym, ◌∙◌}
-use mathlib.Core.Bool.{Bool}
-use mathlib.Core.List.{List, [], ◌∷◌, map, map-append}
-use lib.Dec.{eqb}
-use lib.ListN.{drop}
-use Rattle.std.proofs.Common.{Option, Some, None}
+use Rattle.std.proofs.lemmas.List.{map-append}
+use Rattle.std.proofs.Common.{Option, Some, None, ℕ, suc, ◌+◌, ◌/◌, add-one, arith, ◌≡◌, refl, sym, ◌∙◌, Bool, List, [], ◌∷◌, map, eqb, drop}
 use Rattle.rules.specs.Lists.{any}
 use Rattle.rules.specs.Templates.{Taken, took, unfit, number, operand}
 use Rattle.rules.specs.Reading.{slot_of, takes_first}

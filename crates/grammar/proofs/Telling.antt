@@ -1,14 +1,9 @@
 -- What a line's words tell of its form: each form's row, its numbers over 255, its highest slot and whether it takes slot 0, computed.
+use Rattle.std.proofs.Common.{ℕ, suc, ◌+◌, ◌/◌, ◌≤◌, max, arith, ◌≡◌, refl, sym, ap, ◌∙◌, Bool, false, ◌||◌, List, [], ◌∷◌, ◌++◌, map, ltb, eqb, length, get_or, take, replicate, ltb-false, le-ltb}
 use Prim.{Unit}
-use Prim.Native.Nat.{ℕ, suc, ◌+◌, ◌/◌, ◌≤◌, max}
-use native.Mathlib.Nat.{max-zero}
-use native.Mathlib.Omega.{arith}
-use mathlib.Core.Path.{◌≡◌, refl, sym, ap, ◌∙◌}
-use mathlib.Core.Bool.{Bool, false, ◌||◌, or-false, or_assoc}
-use mathlib.Core.List.{List, [], ◌∷◌, ◌++◌, map}
-use lib.Dec.{ltb, eqb}
-use lib.ListN.{length, get_or, take, replicate, length-map}
-use borrow.Author.Tests.{ltb-false, le-ltb}
+use Rattle.std.proofs.Math.Nat.{max-zero}
+use Rattle.std.proofs.Math.Bool.{or-false, or_assoc}
+use Rattle.std.proofs.lemmas.List.{length-map}
 use Rattle.rules.specs.Mosts as Most
 use Rattle.rules.specs.Lists.{any, pad}
 use Rattle.rules.specs.Script.{Operand, value, field, swap, call, new, cast, spawn, send, recv, copy, bind, give, thread, method, Form, kind, opens, line}

@@ -1,12 +1,6 @@
 -- A form is read straight on: each part at the place where the part before it ends; the form fits where all parts do.
-use Prim.Native.Nat.{ℕ, ◌+◌}
-use mathlib.Core.Path.{◌≡◌, refl, sym}
-use mathlib.Core.Bool.{true, false, false≢true}
-use mathlib.Core.List.{List, [], ◌∷◌, ◌++◌, map}
-use lib.Dec.{eqb}
-use lib.ListN.{length, drop}
-use lib.Seq.{drop-drop}
-use Rattle.std.proofs.Common.{Option, None}
+use Rattle.std.proofs.lemmas.Bool.{false≢true}
+use Rattle.std.proofs.Common.{Option, None, ℕ, ◌+◌, ◌≡◌, refl, sym, true, false, List, [], ◌∷◌, ◌++◌, map, eqb, length, drop, drop-drop}
 use Rattle.rules.specs.Script.{Operand}
 use Rattle.rules.specs.declared.Cap.{Cap}
 use Rattle.rules.specs.Templates.{Taken, took, unfit, ◌>>=◌, literal, number, operand, capability, many, Part, character, one_number, one_operand, one_cap, many_numbers, many_operands, Holds, fit, rule_at}

@@ -1,7 +1,5 @@
 -- What two forms share is read after a word, which tells the form.
-use Prim.Native.Nat.{ℕ}
-use mathlib.Core.List.{List}
-use Rattle.std.proofs.Common.{Option, Some, None}
+use Rattle.std.proofs.Common.{Option, Some, None, ℕ, List}
 use Rattle.rules.specs.declared.forms.Form.TheVariants as N
 use Rattle.rules.specs.Text.{bytes}
 use Rattle.rules.specs.Templates.{template}

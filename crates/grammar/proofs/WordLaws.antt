@@ -1,20 +1,11 @@
 -- Bytes as one number: its low bytes are the front of the text, so one comparison tells whether a word stands there.
-use Prim.Native.Nat.{ℕ, zero, suc, ◌+◌, ◌-◌, ◌*◌, ◌/◌, ◌%◌, ◌^◌, ◌≤◌, ◌<◌}
-use native.Mathlib.Nat.{zero-add, pow-suc, mul_assoc, suc-mul, one-le-pow, pow-le-pow_right, mod-eq_of_lt, div-eq_of_lt, add-mul-mod_self_right, add-mul-div_right}
-use native.Mathlib.Numerals.{add-one}
-use native.Mathlib.Omega.{arith}
-use mathlib.Core.Path.{◌≡◌, refl, sym, ap, ◌∙◌}
-use mathlib.Core.Bool.{true, false, ◌&&◌, cond, false≢true, and_assoc}
-use mathlib.Core.List.{List, [], ◌∷◌, ◌++◌}
-use lib.Dec.{eqb, ltb}
-use lib.ListN.{length, take, drop, get_or, length-append, length-drop}
-use lib.Pow.{pow-add}
-use lib.Seq.{drop-cons, drop-drop, get_or-drop, take_all, take-take}
-use borrow.Author.Tests.{eqb-true, eqb-false, eq-eqb, ne_eqb, ltb-true}
+use Rattle.std.proofs.lemmas.Bool.{false≢true, eqb-false}
+use Rattle.std.proofs.Math.Nat.{one-le-pow, pow-le-pow_right, div-eq_of_lt, add-mul-mod_self_right, add-mul-div_right}
+use Rattle.std.proofs.Math.Bool.{and_assoc}
 use Rattle.rules.specs.Lists.{all, Every}
 use Rattle.rules.specs.Templates.{took, unfit, literal}
 use Rattle.rules.proofs.ListLaws.{by_bool, and_true, every_take, every_drop}
-use Rattle.std.proofs.Common.{Option, Some, None}
+use Rattle.std.proofs.Common.{Option, Some, None, ℕ, zero, suc, ◌+◌, ◌-◌, ◌*◌, ◌/◌, ◌%◌, ◌^◌, ◌≤◌, ◌<◌, zero-add, pow-suc, mul_assoc, suc-mul, mod-eq_of_lt, add-one, arith, ◌≡◌, refl, sym, ap, ◌∙◌, true, false, ◌&&◌, cond, List, [], ◌∷◌, ◌++◌, eqb, ltb, length, take, drop, get_or, length-append, length-drop, pow-add, drop-cons, drop-drop, get_or-drop, take_all, take-take, eqb-true, eq-eqb, ne_eqb, ltb-true}
 use Rattle.grammar.specs.Words.{Byte, word_of, begins, plain, After}
 
 -- the characters that stand for themselves fit where the text begins with them

@@ -1,5 +1,5 @@
 -- Each part is read where the one before it ends; where one does not fit, the form does not.
-use mathlib.Core.Path.{refl}
+use Rattle.std.proofs.Common.{refl}
 use Rattle.rules.specs.Text.{bytes}
 use Rattle.rules.specs.Tables.{cap_of}
 use Rattle.grammar.proofs.Told.{no_line, fits_at, done, word, no_word, past, a_number, past_number, no_number, a_cap, past_cap, no_cap}

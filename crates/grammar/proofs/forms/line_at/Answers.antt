@@ -1,6 +1,5 @@
 -- The form that a few bytes tell is the only one that can fit, so what that form gives is the line; where the text is too short, none fits.
-use native.Mathlib.Omega.{arith}
-use mathlib.Core.Path.{sym, ap, ◌∙◌}
+use Rattle.std.proofs.Common.{arith, sym, ap, ◌∙◌}
 use Rattle.rules.specs.Forms.{form_number}
 use Rattle.grammar.proofs.Fronts.{line_by_form, line_in_short, line_by_none}
 use Rattle.grammar.proofs.WordForms.{a_thread, a_method, a_give, a_value, a_swap, a_call}

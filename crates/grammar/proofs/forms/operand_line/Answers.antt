@@ -1,5 +1,5 @@
 -- After the word an operand, whose word tells its slot and whether it takes slot 0.
-use mathlib.Core.Path.{sym}
+use Rattle.std.proofs.Common.{sym}
 use Rattle.rules.specs.Text.{bytes}
 use Rattle.rules.specs.Tables.{operand_of}
 use Rattle.rules.proofs.TableWords.{slot_of_word}

@@ -1,6 +1,5 @@
 -- Each part is read where the one before it ends; the operand's word tells its slot and whether it takes slot 0.
-use mathlib.Core.Path.{sym}
-use mathlib.Core.List.{◌++◌}
+use Rattle.std.proofs.Common.{sym, ◌++◌}
 use Rattle.rules.specs.Text.{bytes}
 use Rattle.rules.specs.Tables.{operand_of}
 use Rattle.rules.proofs.TableWords.{slot_of_word}

@@ -1,5 +1,5 @@
 -- The four words are tried in turn, as the rule tries them.
-use mathlib.Core.Path.{sym, ◌∙◌}
+use Rattle.std.proofs.Common.{sym, ◌∙◌}
 use Rattle.grammar.proofs.PartLaws.{capability_begins}
 use Rattle.grammar.proofs.parts.cap_at.Goals as goal
 

@@ -1,7 +1,5 @@
 -- The digits' codes follow one another, from 48 to 57.
-use mathlib.Core.Path.{sym, ◌∙◌}
-use native.Mathlib.Omega.{arith}
-use borrow.Author.Tests.{le-leb}
+use Rattle.std.proofs.Common.{sym, ◌∙◌, arith, le-leb}
 use Rattle.grammar.proofs.PartLaws.{digit_high, digit_code, no_digit}
 use Rattle.grammar.proofs.parts.digit.Goals as goal
 

@@ -1,9 +1,5 @@
 -- `parts::items_at` meets its contract: the parts read so far run from the list's place to the place reached.
-use Prim.Native.Nat.{◌+◌, ◌/◌}
-use native.Mathlib.Omega.{arith}
-use lib.Dec.{eqb}
-use mathlib.Core.Path.{refl, sym, ◌∙◌}
-use mathlib.Core.List.{[], ◌∷◌, ◌++◌}
+use Rattle.std.proofs.Common.{◌+◌, ◌/◌, arith, eqb, refl, sym, ◌∙◌, [], ◌∷◌, ◌++◌}
 use Rattle.rules.specs.Lists.{any}
 use Rattle.grammar.specs.Items.{past, none, more}
 use Rattle.grammar.specs.declared.parts.Part.{Part}

@@ -1,11 +1,6 @@
 -- `parts::items_at` meets its contract. The loop's invariant: the parts read so far run from the list's place to the place reached. The measure is what
 -- is left of the text: the loop goes on at a space only, which lies inside the text, and each part ends past it.
-use Prim.Native.Nat.{ℕ, ◌+◌, ◌-◌, ◌/◌, ◌≤◌}
-use mathlib.Core.Path.{◌≡◌}
-use mathlib.Core.List.{List, map}
-use lib.Dec.{eqb}
-use lib.ListN.{length}
-use Rattle.std.proofs.Common.{Option}
+use Rattle.std.proofs.Common.{Option, ℕ, ◌+◌, ◌-◌, ◌/◌, ◌≤◌, ◌≡◌, List, map, eqb, length}
 use Rattle.rules.specs.Lists.{any}
 use Rattle.grammar.specs.declared.parts.Part.{Part}
 use Rattle.grammar.specs.declared.parts.Items.{Items}

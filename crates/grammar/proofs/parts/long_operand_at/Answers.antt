@@ -1,5 +1,5 @@
 -- An operand is one of two words, a number and a closing bracket; the words exclude each other.
-use mathlib.Core.Path.{refl, ◌∙◌}
+use Rattle.std.proofs.Common.{refl, ◌∙◌}
 use Rattle.grammar.proofs.PartLaws.{operand_none, operand_begins, taken_word}
 use Rattle.grammar.proofs.parts.long_operand_at.Goals as goal
 

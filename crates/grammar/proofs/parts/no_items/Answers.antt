@@ -1,5 +1,5 @@
 -- `parts::no_items` meets its contract: no item, so no word and no excess.
-use mathlib.Core.Path.{refl}
+use Rattle.std.proofs.Common.{refl}
 use Rattle.rules.specs.Lists.{any, pad}
 use Rattle.grammar.proofs.parts.no_items.Goals as goal
 

@@ -1,5 +1,5 @@
 -- The four bytes at the place decide: one to three digits, and then no digit.
-use mathlib.Core.Path.{sym, ◌∙◌}
+use Rattle.std.proofs.Common.{sym, ◌∙◌}
 use Rattle.grammar.proofs.PartLaws.{is_digit, number_none, number_one, number_zero, number_two, number_long, number_whole}
 use Rattle.grammar.proofs.parts.number_at.Goals as goal
 

@@ -1,5 +1,5 @@
 -- Where a digit and a closing bracket stand at their places, the operand is one of two words before them; else it is read part by part.
-use mathlib.Core.Path.{refl, ◌∙◌}
+use Rattle.std.proofs.Common.{refl, ◌∙◌}
 use Rattle.grammar.proofs.PartLaws.{operand_short, taken_word}
 use Rattle.grammar.proofs.parts.operand_at.Goals as goal
 

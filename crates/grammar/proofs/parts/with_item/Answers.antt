@@ -1,6 +1,5 @@
 -- `parts::with_item` meets its contract: each of the first four items is set at its place, a later one is noted as excess.
-use mathlib.Core.Path.{refl}
-use native.Mathlib.Omega.{arith}
+use Rattle.std.proofs.Common.{refl, arith}
 use Rattle.grammar.proofs.ItemLists.{adds_item, adds_excess}
 use Rattle.grammar.proofs.parts.with_item.Goals as goal
 

@@ -1,7 +1,6 @@
 -- The low bytes of the eight at the place are as many as the word has: they are its number where it stands there.
-use native.Mathlib.Nat.{one-le-pow}
-use native.Mathlib.Omega.{arith}
-use lib.ListN.{length, drop}
+use Rattle.std.proofs.Common.{arith, length, drop}
+use Rattle.std.proofs.Math.Nat.{one-le-pow}
 use Rattle.grammar.proofs.WordLaws.{begins_word}
 use Rattle.grammar.proofs.words.begins_at.Goals as goal
 

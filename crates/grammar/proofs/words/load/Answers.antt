@@ -1,5 +1,5 @@
 -- Each read is one byte of the text: so the sum is the number that the eight bytes make, low byte first.
-use lib.ListN.{drop}
+use Rattle.std.proofs.Common.{drop}
 use Rattle.rules.proofs.ListLaws.{every_take, every_drop}
 use Rattle.grammar.specs.Words.{Byte}
 use Rattle.grammar.proofs.WordLaws.{word_eight, every_byte}

@@ -1,7 +1,5 @@
 -- The last eight bytes of the text end in those that are left: a shift takes the others away.
-use mathlib.Core.Path.{refl}
-use native.Mathlib.Omega.{arith}
-use lib.ListN.{drop_of_length-le}
+use Rattle.std.proofs.Common.{refl, arith, drop_of_length-le}
 use Rattle.grammar.specs.Words.{word_of}
 use Rattle.grammar.proofs.WordLaws.{word_last}
 use Rattle.grammar.proofs.words.load_last.Goals as goal

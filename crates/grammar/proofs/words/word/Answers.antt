@@ -1,8 +1,6 @@
 -- The bytes passed, from the last one down, make the number of the rest of the word.
-use native.Mathlib.Omega.{arith}
-use mathlib.Core.Path.{◌≡◌, ap, ◌∙◌}
-use lib.ListN.{drop}
-use lib.Seq.{drop-length}
+use Rattle.std.proofs.Common.{arith, ◌≡◌, ap, ◌∙◌, drop}
+use Rattle.std.proofs.Math.Seq.{drop-length}
 use Rattle.grammar.specs.Words.{word_of}
 use Rattle.grammar.proofs.WordLaws.{every_byte, six_bytes, word_earlier}
 use Rattle.grammar.proofs.words.word.Goals as goal

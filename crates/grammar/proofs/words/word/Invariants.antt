@@ -1,7 +1,5 @@
 -- The bytes passed, from the last one down, make the number of the rest of the word.
-use Prim.Native.Nat.{◌≤◌}
-use mathlib.Core.Path.{◌≡◌}
-use lib.ListN.{length, drop}
+use Rattle.std.proofs.Common.{◌≤◌, ◌≡◌, length, drop}
 use Rattle.rules.specs.Lists.{Every}
 use Rattle.grammar.specs.Words.{Byte, word_of}
 use Rattle.grammar.proofs.words.word.Given as goal
