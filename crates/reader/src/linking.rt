@@ -1,4 +1,4 @@
-// "then 8 in line order": what the lines name is there, and of its sort.
+// "then 8 in line order": what the lines name is there, and of its sort. (The table is a slice whose length each contract asks: crate table says why.)
 ghost use Rattle.std.specs.Prelude.{ℕ, Some, ◌≡◌, cond, ◌≤◌, ◌<◌, eqb, length};
 ghost use Rattle.rules.specs.Forms.{form_number};
 ghost use Rattle.reader.specs.Linking.{IsSort, MethodDangles, KindDangles, NewDangles, LineDangles, FirstDangling};

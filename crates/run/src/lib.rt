@@ -1,4 +1,4 @@
-// Running a script on a list of turns.
+// Running a script on a list of turns. A table is lent as a slice, and each contract says `8192 ≤ length` (kept: crate table says why).
 #![tactic(auto)]
 
 mod ends;

@@ -17,6 +17,7 @@ pub enum Stretch {
 }
 
 // The stop of the line where a thread stands, with the moves before it.
+#[cold]
 fn stop_at(s: &[u16], here: Here, fault: Fault, moves: u16) -> Stop
     requires { 8192 ≤ length s.now }
     ensures { StopsAt s.now here fault moves result }
@@ -30,7 +31,8 @@ fn stop_at(s: &[u16], here: Here, fault: Fault, moves: u16) -> Stop
     }
 }
 
-// Where thread t stands, if it has a frame: as kept, or looked for and kept.
+// Where thread t stands, if it has a frame: as kept, or looked for and kept. (Written out in the loop, which calls no function.)
+#[inline(always)]
 fn look_up(p: &[u16], s: &[u16], places: &mut [Option<Here>], t: usize) -> Option<Here>
     requires { (8192 ≤ length p.now) × (8192 ≤ length s.now) × (t < 16) × (t < length places.old) }
     ensures { LooksUp p.now s.now places.old t result places.new }

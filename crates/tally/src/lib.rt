@@ -18,7 +18,7 @@ pub enum Fate {
 }
 
 // Five counts for each thread, in the order of the fates, and five for the numbers that no thread can have; and how many turns were played
-// before one stopped the run.
+// before one stopped the run. (Kept in one array: the definitions have one list, and in rows each place would be told by two numbers.)
 #[derive(Clone, Copy)]
 pub struct Tallied {
     pub counts: [u16; 85],
