@@ -32,7 +32,7 @@ ALLOWED = [
     ('turn::new_line', 'for i in 0..4', 'the items of a new'),
     ('turn::hold_all', 'for v in values', 'the fields of one copy'),
     ('turn::any_foreign_met', 'order.iter', 'the objects that a copy has met'),
-    ('turn::add_copies', 'for i in 0..order.len()', 'the objects that a copy has met'),
+    ('turn::add_all', 'for i in 0..order.len()', 'the objects that a copy has met'),
     ('run::all_finished', '(0..16).all', 'at the end, the threads: whether one has a frame'),
     ('run::all_wait', '(0..table::thread_count(s) as usize).all', 'at the end, the threads: whether each would wait'),
     ('run::play_from', 'for i in from..turns.len()', 'the turns'),

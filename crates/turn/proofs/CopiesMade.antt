@@ -52,10 +52,6 @@ met_seen t order seen = record { sees = λ S rest held there. seen.sees S rest h
 abbrev pub FieldCopied : (s places : List ℕ) → (first o j : ℕ) → Value → Type 0
 FieldCopied s places first o j v = Sees s (λ S. FieldIn o j S) (λ S. renamed_by places first (slot_at (object_at S.objects o).fields j)) v
 
-pub field_copied : {s : List ℕ} {v u : Value} (places : List ℕ) (first o j : ℕ) → Sees s (λ S. FieldIn o j S) (λ S. slot_at (object_at S.objects o).fields j) v
-    → u ≡ renamed_by places first v → FieldCopied s places first o j u
-field_copied places first o j read is = record { sees = λ S rest held has. is ∙ ap (renamed_by places first) (read.sees S rest held has) }
-
 -- what is absent is held by nothing
 four_raised : (vs : List Value) (N : ℕ → ℕ) → length vs ≤ 4 → all_raised (pad 4 Absent vs) N ≡ all_raised vs N
 unfolding all_raised recount pad

@@ -23,31 +23,6 @@ fn any_foreign_met(s: &[u16], t: usize, order: &[u16]) -> bool
     order.iter().any(|o| checks::is_foreign(s, t, *o % 256))
 }
 
-// What a copy holds where its source holds v. `places` has one more than the place of each object met; the copy of the one at place i has number
-// first + i.
-fn renamed_value(places: &[u16], first: usize, v: Value) -> Value
-    requires { (256 ≤ length places.now) × (first ≤ 256) × InTable v }
-    ensures { (result ≡ renamed_by places.now first v) × InTable result }
-{
-    match v {
-        Value::Absent => Value::Absent,
-        Value::Chan(c) => Value::Chan(c),
-        Value::Obj(x) => {
-            let number = ((first + places[x as usize] as usize + 255) % 256) as u16; // 255 more is one less
-            Value::Obj(number)
-        }
-    }
-}
-
-// Field j of object o's copy; absent where the object has no such field.
-fn copied_field(s: &[u16], places: &[u16], first: usize, o: u16, j: u16) -> Value
-    requires { (8192 ≤ length s.now) × (256 ≤ length places.now) × (first ≤ 256) × (o < 256) }
-    ensures in_table { InTable result }
-    ensures sees { Sees s.now (λ S. FieldIn o j S) (λ S. renamed_by places.now first (slot_at (object_at S.objects o).fields j)) result }
-{
-    renamed_value(places, first, table::field(s, o, j))
-}
-
 // Each value gets a holder more.
 fn hold_all(s: &mut [u16], values: [Value; 4])
     requires { (8192 ≤ length s.old) × Every InTable values }
@@ -58,27 +33,65 @@ fn hold_all(s: &mut [u16], values: [Value; 4])
     }
 }
 
-// The copy of object o is made, with number n, and each of its fields is held.
-fn add_copy_of(s: &mut [u16], t: u16, cap: u16, places: &[u16], first: usize, n: u16, o: u16)
-    requires { (8192 ≤ length s.old) × (256 ≤ length places.now) × (first ≤ 256) × (n < 256) × (o < 256) }
-    ensures { CopiesOne t cap places.now first n o s.old s.new }
-{
-    let kind = table::kind(s, o);
-    let a = copied_field(s, places, first, o, 0);
-    let b = copied_field(s, places, first, o, 1);
-    let c = copied_field(s, places, first, o, 2);
-    let d = copied_field(s, places, first, o, 3);
-    table::add_object(s, t, n, cap, kind, a, b, c, d);
-    hold_all(s, [a, b, c, d]);
+// A copy: the thread that makes it and the word of its capability; `places` has one more than the place of each object met, and the copy of the one at
+// place i has number first + i.
+#[derive(Clone, Copy)]
+struct Copying<'a> {
+    creator: u16,
+    cap: u16,
+    places: &'a [u16],
+    first: usize,
+    ghost long: { 256 ≤ length places.now },
+    ghost few: { first ≤ 256 },
 }
 
-// The objects met are copied, in order.
-fn add_copies(s: &mut [u16], t: u16, cap: u16, places: &[u16], order: &[u16], first: usize)
-    requires { (8192 ≤ length s.old) × (256 ≤ length places.now) × (first + length order.now ≤ 256) }
-    ensures { CopiesAll t cap places.now first order.now s.old s.new }
-{
-    for i in 0..order.len() {
-        add_copy_of(s, t, cap, places, first, (first + i) as u16, order[i] % 256);
+impl<'a> Copying<'a> {
+    // What a copy holds where its source holds v.
+    fn renamed(&self, v: Value) -> Value
+        requires { InTable v }
+        ensures { (result ≡ renamed_by self.now.places.now self.now.first v) × InTable result }
+    {
+        match v {
+            Value::Absent => Value::Absent,
+            Value::Chan(c) => Value::Chan(c),
+            Value::Obj(x) => {
+                let number = ((self.first + self.places[x as usize] as usize + 255) % 256) as u16; // 255 more is one less
+                Value::Obj(number)
+            }
+        }
+    }
+
+    // Field j of object o's copy; absent where the object has no such field.
+    fn field(&self, s: &[u16], o: u16, j: u16) -> Value
+        requires { (8192 ≤ length s.now) × (o < 256) }
+        ensures in_table { InTable result }
+        ensures sees { Sees s.now (λ S. FieldIn o j S) (λ S. renamed_by self.now.places.now self.now.first (slot_at (object_at S.objects o).fields j)) result }
+    {
+        self.renamed(table::field(s, o, j))
+    }
+
+    // The copy of object o is made, with number n, and each of its fields is held.
+    fn add_one(&self, s: &mut [u16], n: u16, o: u16)
+        requires { (8192 ≤ length s.old) × (n < 256) × (o < 256) }
+        ensures { CopiesOne self.now.creator self.now.cap self.now.places.now self.now.first n o s.old s.new }
+    {
+        let kind = table::kind(s, o);
+        let a = self.field(s, o, 0);
+        let b = self.field(s, o, 1);
+        let c = self.field(s, o, 2);
+        let d = self.field(s, o, 3);
+        table::add_object(s, self.creator, n, self.cap, kind, a, b, c, d);
+        hold_all(s, [a, b, c, d]);
+    }
+
+    // The objects met are copied, in order.
+    fn add_all(&self, s: &mut [u16], order: &[u16])
+        requires { (8192 ≤ length s.old) × (self.now.first + length order.now ≤ 256) }
+        ensures { CopiesAll self.now.creator self.now.cap self.now.places.now self.now.first order.now s.old s.new }
+    {
+        for i in 0..order.len() {
+            self.add_one(s, (self.first + i) as u16, order[i] % 256);
+        }
     }
 }
 
@@ -99,7 +112,13 @@ fn copy_from(s: &mut [u16], t: usize, cap: u16, n: u16) -> Result<(), Fault>
     if used_up {
         return Err(Fault::UsedUp);
     }
-    add_copies(s, t as u16, cap, &places, &order[..count], first);
+    let copying = Copying {
+        creator: t as u16,
+        cap,
+        places: &places,
+        first,
+    };
+    copying.add_all(s, &order[..count]);
     Ok(())
 }
 

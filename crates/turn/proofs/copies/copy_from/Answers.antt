@@ -35,4 +35,4 @@ returns-then-used_up c =
 pub returns : goal.returns
 returns c =
     from_copied c.walk-count.ensures.walks _ _ c.any_foreign_met-foreign.ensures c.object_count-first.ensures.sees c.if-foreign.false
-    c.if-used_up.false c.add_copies.ensures
+    c.if-used_up.false c.add_all.ensures
