@@ -71,7 +71,7 @@ pub fn item_values(s: &[u16], h: Here, items: [u16; 4]) -> [Value; 4]
     ]
 }
 
-// Whether a value is local to another thread than t.
+// Whether a value is local to another thread than t. (It and the next are one match each, kept apart: a function over a closure would be as long.)
 fn is_foreign_value(s: &[u16], t: usize, v: Value) -> bool
     requires { (8192 ≤ length s.now) × InTable v }
     ensures { Sees s.now (InObjects v) (λ S. foreign_to t S v) result }

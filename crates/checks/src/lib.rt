@@ -1,4 +1,5 @@
 // What the checks of a line answer, read off the tables. None of them writes.
+// A table is lent as a slice, and each contract says `8192 ≤ length` (kept: crate table says why).
 #![tactic(auto, using(table::proofs::StateReads::object_in_table, table::proofs::StateReads::channel_in_table, crate::proofs::CheckLaws::object_place, crate::proofs::CheckLaws::channel_place))]
 
 mod form_checks;

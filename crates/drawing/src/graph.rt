@@ -1,4 +1,5 @@
-// The objects of a state table as a directed graph: a line for each object, then one for each field that holds an object.
+// The objects of a state table as a directed graph: a line for each object, then one for each field that holds an object. Nodes, edges and fields are a
+// loop of one call each (kept apart, as in listing).
 ghost use Rattle.std.specs.Prelude.{◌≤◌, ◌<◌, length};
 ghost use Rattle.rules.specs.Templates.{print};
 ghost use Rattle.rules.specs.State.{object_at};

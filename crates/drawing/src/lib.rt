@@ -1,4 +1,5 @@
 // The drawing: a run, and then its objects as a directed graph in the DOT language, written into a lent buffer. docs/DRAWING.md has the text.
+// A table is lent as a slice, and each contract says `8192 ≤ length` (kept: crate table says why).
 #![tactic(auto)]
 
 mod graph;

@@ -1,4 +1,5 @@
 // The printed run: a run, and what document 01 prints of it, written into a lent output.
+// A table is lent as a slice, and each contract says `8192 ≤ length` (kept: crate table says why).
 #![tactic(auto)]
 
 mod answers;
@@ -52,7 +53,7 @@ pub fn print_run(text: &[u8], turns: &[u8], output: &mut [u8]) -> Result<usize, 
     print_on(text, turns, &mut program, &mut state, output)
 }
 
-// Prints a refusal that is found before the run's, as that of a faulty line of turns.
+// Prints a refusal that is found before the run's, as that of a faulty line of turns. (Its number is a parameter, which may not be narrowed.)
 pub fn print_refusal(number: u16, line: usize, output: &mut [u8]) -> Result<usize, Refusal>
     ensures value { result ≡ printed_of (answer_line (refused number line)) output.old }
     ensures output_after { output.new ≡ output_after (answer_line (refused number line)) output.old }

@@ -1,4 +1,5 @@
-// The lines of the state that a run left, read from its table.
+// The lines of the state that a run left, read from its table. Objects, channels, threads, slots and fields are a loop of one call each (kept apart: one
+// function over a closure would be as long, and its callers longer).
 ghost use Rattle.std.specs.Prelude.{◌∷◌, ◌≤◌, ◌<◌, length, drop};
 ghost use Rattle.rules.specs.Text.{space};
 ghost use Rattle.rules.specs.State.{object_at, thread_at, channel_at};

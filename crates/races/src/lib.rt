@@ -1,4 +1,5 @@
 // Races: whether two turns of a run race, and which. The turns are played once, and of the turns before only the last ones that count are noted.
+// A table is lent as a slice, and each contract says `8192 ≤ length` (kept: crate table says why).
 #![tactic(auto)]
 
 mod events;

@@ -1,4 +1,5 @@
 // The reach report: a run, and then every object that a thread reaches, in rising order.
+// A table is lent as a slice, and each contract says `8192 ≤ length` (kept: crate table says why).
 #![tactic(auto)]
 
 mod sending;

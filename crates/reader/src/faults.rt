@@ -4,7 +4,7 @@ ghost use Rattle.rules.specs.Reading.{may_copy};
 ghost use Rattle.rules.specs.Tables.{cap_of};
 ghost use Rattle.reader.specs.Sofar.{edition_of, InPlace, Full, Faults, GoesOn};
 
-use rules::{Fault, Form};
+use rules::{Cap, Fault, Form};
 
 // Where the next line stands: outside of blocks, or in a block of a sort.
 #[derive(Clone, Copy, Debug, PartialEq, Eq)]
@@ -30,7 +30,7 @@ pub struct Sofar {
 fn may_copy(second: bool, cap: u16) -> bool
     ensures { result ≡ may_copy (edition_of second) (cap_of cap) }
 {
-    if second { cap != 1 } else { false }
+    second && Cap::from(cap) != Cap::Iso
 }
 
 // 3: "Kinds come before all blocks. (thread) or (method) opens a block; (let E) lines follow; (give W) closes it." And a copy where it may not be.

@@ -20,7 +20,7 @@ use rules::{Fault, Refusal};
 pub use scanning::is_allowed;
 use scanning::{lines_before, scan_lines};
 
-// The edition's word in the table.
+// The edition's word in the table. (There are two editions: a flag while a text is scanned, a number in the table.)
 fn edition_word(second: bool) -> u16
     ensures { result ≡ edition_word (edition_of second) }
 {

@@ -122,7 +122,7 @@ pub fn scan_lines(
         }
         put_line(words, n, r.blocks, l);
         r = after_line(r, l.form);
-        n += 1;
+        n += 1; // the lines have no list that could be counted along
         at = l.end;
     }
     finish(r, n, n + before)

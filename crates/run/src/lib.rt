@@ -1,4 +1,5 @@
-// Running a script on a list of turns. A table is lent as a slice, and each contract says `8192 ≤ length` (kept: crate table says why).
+// Running a script on a list of turns. A table is lent as a slice, and each contract says `8192 ≤ length` (kept: crate table says why); a list of
+// turns is a slice too, and what counts in 16 bits asks that it has at most 32,768 (kept: a struct round it would be taken off at once).
 #![tactic(auto)]
 
 mod ends;

@@ -64,6 +64,7 @@ fn play_from(
         let t = turns[i] as usize;
         if t < 16 {
             if let Some(here) = look_up(p, s, &mut places, t) {
+                // by its number, since one form alone is asked for
                 if here.part(p, 0) == Form::Copy.number() {
                     return Ok(Stretch::AtCopy(i, moves, here));
                 }

@@ -33,7 +33,7 @@ fn pack(v: Value) -> u16
     }
 }
 
-// ---- Reading
+// ---- Reading (one function for each word, kept apart: their names tell what they read)
 
 #[tactic(auto, using(crate::proofs::StateReads::objects_seen))]
 pub fn object_count(s: &[u16]) -> u16

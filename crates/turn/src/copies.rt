@@ -38,7 +38,7 @@ fn hold_all(s: &mut [u16], values: [Value; 4])
 #[derive(Clone, Copy)]
 struct Copying<'a> {
     creator: u16,
-    cap: u16,
+    cap: u16, // as `table::add_object` takes it
     places: &'a [u16],
     first: usize,
     ghost long: { 256 ≤ length places.now },
@@ -102,6 +102,7 @@ fn copy_from(s: &mut [u16], t: usize, cap: u16, n: u16) -> Result<(), Fault>
 {
     let mut places = [0u16; 256];
     let mut order = [0u16; 256];
+    // a function and its lists, not a `Met`: through that, the proof did not see the list after the loan
     let count = walk::walk(s, &mut places, &mut order, 0, Value::Obj(n));
     let first = table::object_count(s) as usize;
     let foreign = any_foreign_met(s, t, &order[..count]);

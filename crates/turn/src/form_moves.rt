@@ -1,5 +1,5 @@
 // Each line form: its checks in document 01's order, then its writes, and a holder more or less for each value that gains or loses one. A line that
-// waits or stops has written nothing.
+// waits or stops has written nothing. (The table and the place stay two parameters: the one is lent on, the other is copied.)
 ghost use Rattle.std.specs.Prelude.{◌≡◌, [], ◌∷◌, ◌≤◌, ◌<◌, length};
 ghost use Rattle.rules.specs.Script.{value, field, swap, call, cast, spawn, send, recv, bind, give};
 ghost use Rattle.rules.specs.State.{ready, thread_at};

@@ -1,4 +1,5 @@
 // One turn of one thread on the tables.
+// A table is lent as a slice, and each contract says `8192 ≤ length` (kept: crate table says why).
 #![tactic(auto, using(table::proofs::StateReads::object_in_table, table::proofs::StateReads::channel_in_table, checks::proofs::CheckLaws::object_place, checks::proofs::CheckLaws::channel_place))]
 
 mod copies;

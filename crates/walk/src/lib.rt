@@ -1,4 +1,5 @@
 // The walk through fields: depth first, fields in order, each object once. The objects met are numbered as they are first met.
+// A table is lent as a slice, and each contract says `8192 ≤ length` (kept: crate table says why).
 #![tactic(auto)]
 
 ghost use Rattle.std.specs.Prelude.{[], ◌∷◌, ◌+◌, ◌≡◌, ◌≤◌, length};
@@ -55,7 +56,7 @@ impl<'a> Met<'a> {
     }
 }
 
-// The same on lists that are the caller's own, of which the first n words of `order` are the objects met; answers how many are met then.
+// The same on lists that are the caller's own and are read again after it (kept for copies: crate turn says why), of which the first n words of `order` are the objects met; answers how many are met then.
 pub fn walk(s: &[u16], places: &mut [u16], order: &mut [u16], n: usize, v: Value) -> usize
     requires { (8192 ≤ length s.now) × (256 ≤ length places.old) × (256 ≤ length order.old) × InTable v × (n + unmet 256 places.old ≤ 256) }
     ensures walks { Walks s.now (tally places.old order.old n) (Of v) (λ S. v ∷ []) (tally places.new order.new result) }

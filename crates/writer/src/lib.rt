@@ -1,4 +1,5 @@
 // A script written back out from its program table.
+// A table is lent as a slice, and each contract says `8192 ≤ length` (kept: crate table says why).
 #![tactic(auto)]
 
 mod script_lines;
