@@ -149,7 +149,8 @@ fn first_of(mark: u16, was: u16) -> u16
     if was == 0 { mark } else { was }
 }
 
-// In the rows of all its fields, where no put is noted yet. (Kept beside the one before: over a closure, what is there would have to be read for both.)
+// In the rows of all its fields, where no put is noted yet. (One function over a closure for this and `mark_fields` would owe a law more: that a word
+// marked twice, by an object met twice, is as marked once.)
 fn mark_first(puts: &mut [u16; 16384], objects: &[u16], t: usize, mark: u16)
     requires { t < 16 }
     ensures { MarksFirst (objects_in objects.now) t mark puts.old puts.new }

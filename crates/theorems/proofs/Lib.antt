@@ -8,6 +8,8 @@ mod Readings
 mod ShownForms
 -- and a text of such lines as these lines
 mod ShownTexts
+-- a number tells its fault
+mod FaultNumbers
 -- each word fits in 16 bits; a state's words tell it
 mod SmallWords
 mod WordsTell
