@@ -1,6 +1,6 @@
 -- Frames pushed and dropped, the fresh table, and the line where a thread stands: what the words written make of the state.
 use Rattle.std.proofs.Common.{◌≡◌, ℕ, suc, ◌+◌, ◌-◌, ◌*◌, ◌%◌, ◌<◌, ◌≤◌, List, length, get_or, take, drop, set, replicate, sym, refl, ap, ◌∙◌, append_assoc, append-nil, arith, length-drop, length-take-le}
-use Rattle.std.proofs.Math.ListN.{length-replicate, get_or-eq_default}
+use Rattle.std.proofs.Math.ListN.{get_or-eq_default}
 use Rattle.std.proofs.Math.Seq.{paste}
 use Rattle.rules.specs.Lists.{pad, cells}
 use Rattle.rules.specs.declared.Value.{Value}
