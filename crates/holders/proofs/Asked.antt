@@ -1,15 +1,7 @@
 -- An object that was made has a record, and its count there is told; any other is 21. Before it: what the run answers.
-use Prim.Native.Nat.{ℕ, ◌%◌, ◌≤◌, ◌<◌}
-use native.Mathlib.Nat.{mod-eq_of_lt}
-use native.Mathlib.Omega.{arith}
-use mathlib.Core.Path.{◌≡◌, refl, sym, ap, ◌∙◌, subst}
-use mathlib.Core.Bool.{Bool, false}
-use mathlib.Core.List.{List}
-use lib.ListN.{length, drop}
-use borrow.Author.Tests.{lt-ltb, le-ltb}
+use Rattle.std.proofs.Common.{ℕ, ◌%◌, ◌≤◌, ◌<◌, mod-eq_of_lt, arith, ◌≡◌, refl, sym, ap, ◌∙◌, subst, Bool, false, List, length, drop, lt-ltb, le-ltb, Result, Ok, Err}
 use Rattle.rules.specs.Mosts as Most
 use Rattle.rules.specs.Mosts.{mosts}
-use Rattle.std.specs.Prelude.{Result, Ok, Err}
 use Rattle.rules.specs.Numbers as No
 use Rattle.rules.specs.Numbers.{number}
 use Rattle.rules.specs.Refusals.{Refuses}

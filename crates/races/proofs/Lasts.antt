@@ -1,12 +1,7 @@
 -- The last place with a property, one more than it, or 0: that place has it and none after it does, so there is one such number.
-use Prim.Native.Nat.{ℕ, zero, suc, ◌≤◌, ◌<◌, zero-le}
-use native.Mathlib.Nat.{le_refl, le_trans, le_antisymm, not-suc-le-zero}
-use native.Mathlib.Omega.{arith}
-use mathlib.Core.Path.{◌≡◌, refl}
-use mathlib.Core.Bool.{Bool, true, false, ◌&&◌, ◌||◌, false≢true}
-use mathlib.Core.Logic.{◌⊎◌, inl, inr}
-use lib.Dec.{ltb, eqb}
-use borrow.Author.Tests.{eqb-true, eqb-false, ltb-true, ltb-false}
+use Rattle.std.proofs.Common.{ℕ, zero, suc, ◌≤◌, ◌<◌, zero-le, le_refl, le_trans, le_antisymm, not-suc-le-zero, arith, ◌≡◌, refl, Bool, true, false, ◌&&◌, ◌||◌, ◌⊎◌, inl, inr, ltb, eqb, eqb-true, ltb-true, ltb-false}
+use mathlib.Core.Bool.{false≢true}
+use borrow.Author.Tests.{eqb-false}
 use Rattle.rules.specs.Lists.{any_below, first_below, last_below}
 use Rattle.rules.proofs.ListLaws.{impossible, by_bool}
 use Rattle.races.specs.Marks.{most}

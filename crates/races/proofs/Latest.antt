@@ -1,20 +1,12 @@
 -- Row by row: a thread's last turn was handed over exactly if the first put after it came before the other's last receive; if it was, so were all before it.
-use Prim.Native.Nat.{ℕ, zero, suc, ◌+◌, ◌*◌, ◌≤◌, ◌<◌, zero-le}
-use native.Mathlib.Nat.{le_refl, le_trans, not-suc-le-zero}
-use native.Mathlib.Omega.{arith}
-use mathlib.Core.Path.{◌≡◌, refl, sym, subst, ◌∙◌}
-use mathlib.Core.Bool.{Bool, true, false, ◌&&◌, cond, false≢true}
-use mathlib.Core.List.{List, [], ◌∷◌}
-use mathlib.Core.Logic.{◌⊎◌, inl, inr}
-use lib.Dec.{ltb, eqb}
-use lib.ListN.{get_or}
-use borrow.Author.Tests.{eqb-true, eqb-false, eq-eqb, not-true, lt-ltb, ltb-true, ltb-false}
+use Rattle.std.proofs.Common.{ℕ, zero, suc, ◌+◌, ◌*◌, ◌≤◌, ◌<◌, zero-le, le_refl, le_trans, not-suc-le-zero, arith, ◌≡◌, refl, sym, subst, ◌∙◌, Bool, true, false, ◌&&◌, cond, List, [], ◌∷◌, ◌⊎◌, inl, inr, ltb, eqb, get_or, eqb-true, eq-eqb, lt-ltb, ltb-true, ltb-false, Option, None, Some}
+use mathlib.Core.Bool.{false≢true}
+use borrow.Author.Tests.{eqb-false, not-true}
 use Rattle.rules.specs.Lists.{among, any_below, last_below}
 use Rattle.rules.specs.Mosts.{mosts}
 use Rattle.rules.specs.Script.{Program}
 use Rattle.rules.specs.Races.{thread_of, puts_at, receives_at, apart, put_between, handed_over}
 use Rattle.rules.proofs.ListLaws.{impossible, by_bool, and_true}
-use Rattle.std.specs.Prelude.{Option, None, Some}
 use Rattle.races.specs.declared.marks.Found.{Found}
 use Rattle.races.specs.Marks.{unhanded, latest_in, latest_on, race_on, mark_of, later, over_fields, over_objects}
 use Rattle.races.proofs.Lasts.{or_left, or_right, and_both, any_there, any_some, LastIs, last_agrees, last_none, last_most, last_below_lem}

@@ -1,14 +1,8 @@
 -- Why the loops note what they should: each step changes one row, and the words of different objects, fields and threads stand apart.
-use Prim.Native.Nat.{ℕ, suc, ◌+◌, ◌*◌, ◌%◌, ◌≤◌, ◌<◌, max}
-use native.Mathlib.Omega.{arith}
-use mathlib.Core.Path.{◌≡◌, refl, sym, ap, ◌∙◌}
-use mathlib.Core.Bool.{Bool, true, false, ◌&&◌, ◌||◌, cond, false≢true}
-use mathlib.Core.List.{List, [], ◌∷◌, ◌++◌, map, map-append}
-use lib.Dec.{eqb, ltb}
-use lib.ListN.{length, get_or, set, take, length-set}
-use lib.Seq.{take-suc, get_or-set_same, get_or-set_other}
-use borrow.Author.Tests.{eqb-true, eqb-false, eq-eqb, ne_eqb, ltb-true, ltb-false}
-use Rattle.std.specs.Prelude.{Option, None}
+use Rattle.std.proofs.Common.{ℕ, suc, ◌+◌, ◌*◌, ◌%◌, ◌≤◌, ◌<◌, max, arith, ◌≡◌, refl, sym, ap, ◌∙◌, Bool, true, false, ◌&&◌, ◌||◌, cond, List, [], ◌∷◌, ◌++◌, map, eqb, ltb, length, get_or, set, take, length-set, take-suc, get_or-set_same, get_or-set_other, eqb-true, eq-eqb, ne_eqb, ltb-true, ltb-false, Option, None}
+use mathlib.Core.Bool.{false≢true}
+use mathlib.Core.List.{map-append}
+use borrow.Author.Tests.{eqb-false}
 use Rattle.rules.specs.Lists.{among}
 use Rattle.rules.proofs.ListLaws.{by_bool, and_true}
 use Rattle.walk.proofs.Numbers.{among_snoc}

@@ -1,13 +1,7 @@
 -- What a turn notes makes the marks before it those before the next: it is its thread's last turn or first put after that, and each thread has its own words.
-use Prim.Native.Nat.{ℕ, zero, suc, ◌%◌, ◌≤◌, ◌<◌}
-use native.Mathlib.Omega.{arith}
-use mathlib.Core.Path.{◌≡◌, refl, sym, ap, ◌∙◌}
-use mathlib.Core.Bool.{Bool, false, ◌&&◌, cond, and_comm, and-false}
-use mathlib.Core.List.{List}
-use lib.Dec.{eqb}
-use lib.ListN.{length, get_or, set}
-use lib.Seq.{get_or-set_same, get_or-set_other}
-use borrow.Author.Tests.{eqb-true, eqb-false}
+use Rattle.std.proofs.Common.{ℕ, zero, suc, ◌%◌, ◌≤◌, ◌<◌, arith, ◌≡◌, refl, sym, ap, ◌∙◌, Bool, false, ◌&&◌, cond, List, eqb, length, get_or, set, get_or-set_same, get_or-set_other, eqb-true, Option}
+use mathlib.Core.Bool.{and_comm, and-false}
+use borrow.Author.Tests.{eqb-false}
 use Rattle.rules.specs.declared.Event.{Event}
 use Rattle.rules.specs.declared.Event.TheVariants.{Quiet, Reads, Swaps, Puts, Receives, Copies}
 use Rattle.rules.specs.Mosts.{mosts}
@@ -16,7 +10,6 @@ use Rattle.rules.specs.Script.{Program}
 use Rattle.rules.specs.Races.{meets, reads_of, swaps_of, puts_of, receives_of, objects_at, thread_of, event_at, reads_at, swaps_at, puts_at, receives_at}
 use Rattle.rules.proofs.ListLaws.{by_bool}
 use Rattle.rules.proofs.Counts.{eqb_sym}
-use Rattle.std.specs.Prelude.{Option}
 use Rattle.races.specs.declared.marks.Found.{Found}
 use Rattle.races.specs.declared.marks.Rows.{Rows}
 use Rattle.races.specs.declared.marks.Marks.{Marks}

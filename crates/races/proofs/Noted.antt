@@ -1,13 +1,7 @@
 -- What is found is the last turn that races with this one: it races only with a swap, or swaps against a read, and a swap names one field of one object.
-use Prim.Native.Nat.{ℕ, suc, ◌+◌, ◌*◌, ◌≤◌, ◌<◌}
-use native.Mathlib.Nat.{le_refl, le_trans}
-use mathlib.Core.Path.{◌≡◌, refl, sym, ap, subst, ◌∙◌}
-use mathlib.Core.Bool.{Bool, true, false, ◌&&◌, ◌||◌, false≢true, or-false}
-use mathlib.Core.List.{List, [], ◌∷◌}
-use mathlib.Core.Logic.{◌⊎◌, inl, inr, ⊎_elim}
-use lib.Dec.{eqb}
-use lib.ListN.{get_or}
-use borrow.Author.Tests.{eqb-true, eq-eqb, not-true}
+use Rattle.std.proofs.Common.{ℕ, suc, ◌+◌, ◌*◌, ◌≤◌, ◌<◌, le_refl, le_trans, ◌≡◌, refl, sym, ap, subst, ◌∙◌, Bool, true, false, ◌&&◌, ◌||◌, List, [], ◌∷◌, ◌⊎◌, inl, inr, ⊎_elim, eqb, get_or, eqb-true, eq-eqb, Option, None}
+use mathlib.Core.Bool.{false≢true, or-false}
+use borrow.Author.Tests.{not-true}
 use Rattle.rules.specs.declared.Event.{Event}
 use Rattle.rules.specs.declared.Event.TheVariants.{Quiet, Reads, Swaps, Puts, Receives, Copies}
 use Rattle.rules.specs.Mosts.{mosts}
@@ -16,7 +10,6 @@ use Rattle.rules.specs.State.{Object}
 use Rattle.rules.specs.Script.{Program}
 use Rattle.rules.specs.Races.{meets, reads_of, swaps_of, objects_at, thread_of, event_at, reads_at, swaps_at, apart, touches, clash, handed_over, races_on, races, race, object_of, field_on, named}
 use Rattle.rules.proofs.ListLaws.{by_bool, and_true}
-use Rattle.std.specs.Prelude.{Option, None}
 use Rattle.races.specs.declared.marks.Found.{Found}
 use Rattle.races.specs.declared.marks.Marks.{Marks}
 use Rattle.races.specs.Marks.{field_at, most, latest_on, race_on, mark_of, over_objects, Notes}

@@ -1,15 +1,8 @@
 -- The verdict of a program in a table, and then of a run's inputs as lent: at most 1,024 turns are a run's turns, and more are refused first.
-use Prim.Native.Nat.{ℕ, ◌≤◌, ◌<◌}
-use native.Mathlib.Omega.{arith}
-use mathlib.Core.Path.{◌≡◌, refl, sym, ap, ◌∙◌, subst}
-use mathlib.Core.Bool.{Bool, true, false, ◌||◌}
-use mathlib.Core.List.{List}
-use lib.Dec.{ltb}
-use lib.ListN.{length, replicate, length-replicate}
-use borrow.Author.Tests.{lt-ltb, le-ltb}
+use Rattle.std.proofs.Common.{ℕ, ◌≤◌, ◌<◌, arith, ◌≡◌, refl, sym, ap, ◌∙◌, subst, Bool, true, false, ◌||◌, List, ltb, length, replicate, lt-ltb, le-ltb, Option, Result, Ok, Err}
+use lib.ListN.{length-replicate}
 use Rattle.rules.specs.Mosts as Most
 use Rattle.rules.specs.Mosts.{mosts}
-use Rattle.std.specs.Prelude.{Option, Result, Ok, Err}
 use Rattle.rules.specs.Numbers as No
 use Rattle.rules.specs.Numbers.{number}
 use Rattle.rules.specs.Refusals.{Refuses}

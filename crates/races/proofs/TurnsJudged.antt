@@ -1,14 +1,5 @@
 -- A turn played is a turn of the rules, noted; and after the turns so far the marks are theirs, and no turn has raced with one before it.
-use Prim.Native.Nat.{ℕ, zero, suc, ◌+◌, ◌%◌, ◌≤◌, ◌<◌, zero-le}
-use native.Mathlib.Omega.{arith}
-use mathlib.Core.Path.{◌≡◌, refl, sym, ap, ◌∙◌, subst}
-use mathlib.Core.Bool.{Bool, true, false}
-use mathlib.Core.List.{List, [], ◌∷◌, map}
-use mathlib.Core.Logic.{◌⊎◌, inl, inr, ⊎_elim}
-use lib.Dec.{ltb, leb}
-use lib.ListN.{length, get_or, take}
-use lib.Seq.{length-take-le}
-use borrow.Author.Tests.{ltb-true, ltb-false, leb-true, leb-false}
+use Rattle.std.proofs.Common.{ℕ, zero, suc, ◌+◌, ◌%◌, ◌≤◌, ◌<◌, zero-le, arith, ◌≡◌, refl, sym, ap, ◌∙◌, subst, Bool, true, false, List, [], ◌∷◌, map, ◌⊎◌, inl, inr, ⊎_elim, ltb, leb, length, get_or, take, length-take-le, ltb-true, ltb-false, leb-true, leb-false, Option, None, Some}
 use Rattle.rules.specs.declared.Event.{Event}
 use Rattle.rules.specs.declared.Event.TheVariants.{Quiet, Reads, Swaps, Puts, Receives, Copies}
 use Rattle.rules.specs.Mosts.{mosts}
@@ -29,7 +20,6 @@ use Rattle.tally.specs.declared.Fate.{Fate}
 use Rattle.tally.specs.declared.Fate.TheVariants.{Moved, Waited, Idled, Halted, Unplayed}
 use Rattle.tally.specs.Fates.{fate_by}
 use Rattle.tally.specs.Counted.{TakesOne}
-use Rattle.std.specs.Prelude.{Option, None, Some}
 use Rattle.races.specs.declared.Race.{Race}
 use Rattle.races.specs.declared.marks.Found.{Found}
 use Rattle.races.specs.declared.marks.Marks.{Marks}

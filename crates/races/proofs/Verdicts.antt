@@ -1,11 +1,6 @@
 -- The verdict, turn by turn: the first turn that races with one before it decides it, and where none does there is no race.
-use Prim.Native.Nat.{ℕ, zero, suc, ◌≤◌, ◌<◌, zero-le}
-use native.Mathlib.Omega.{arith}
-use mathlib.Core.Path.{◌≡◌, refl, sym, ap, ◌∙◌}
-use mathlib.Core.List.{List}
-use lib.Dec.{eqb, leb}
-use lib.ListN.{length}
-use borrow.Author.Tests.{eqb-true, eqb-false, leb-true, leb-false}
+use Rattle.std.proofs.Common.{ℕ, zero, suc, ◌≤◌, ◌<◌, zero-le, arith, ◌≡◌, refl, sym, ap, ◌∙◌, List, eqb, leb, length, eqb-true, leb-true, leb-false}
+use borrow.Author.Tests.{eqb-false}
 use Rattle.rules.specs.declared.Event.TheVariants.{Quiet}
 use Rattle.rules.specs.Mosts.{mosts}
 use Rattle.rules.specs.Lists.{last_below}

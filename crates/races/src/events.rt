@@ -1,5 +1,5 @@
 // What a turn does to fields and messages, if it moves, and the objects that it meets.
-ghost use Rattle.std.specs.Prelude.{◌≡◌, ◌/◌, ◌%◌, ◌≤◌, ◌<◌, length};
+ghost use Rattle.std.specs.Prelude.{◌/◌, ◌%◌, ◌≤◌, ◌<◌, length};
 ghost use Rattle.rules.specs.State.{thread_at, slot_at};
 ghost use Rattle.rules.specs.Races.{message_in, put_event};
 ghost use Rattle.table.specs.StateTable.{InTable, Sees, frame_at};

@@ -1,5 +1,5 @@
 // The turns of a run, played one by one: what each does is told before it is taken, and noted if it moves.
-ghost use Rattle.std.specs.Prelude.{◌≡◌, ◌≤◌, length};
+ghost use Rattle.std.specs.Prelude.{◌≤◌, length};
 ghost use Rattle.races.specs.Judged.{NothingMarked, Plays, JudgesTurns};
 
 use super::Race;

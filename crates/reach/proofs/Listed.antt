@@ -1,14 +1,6 @@
 -- The objects met, in rising order: each has its place in a list of zeros.
-use Prim.Native.Nat.{ℕ, ◌+◌, ◌≤◌, ◌<◌}
-use native.Mathlib.Numerals.{add-one}
-use native.Mathlib.Omega.{arith}
-use mathlib.Core.Path.{◌≡◌, refl, sym, ap, ◌∙◌, subst}
-use mathlib.Core.Bool.{Bool, true, false, not, cond}
-use mathlib.Core.List.{List, [], ◌∷◌, ◌++◌, append-nil}
-use lib.Dec.{eqb}
-use lib.ListN.{length, get_or, set, take, drop, replicate}
-use lib.Seq.{set-append_left, drop_at, length-take-le}
-use borrow.Author.Tests.{eq-eqb, ne_eqb}
+use Rattle.std.proofs.Common.{ℕ, ◌+◌, ◌≤◌, ◌<◌, add-one, arith, ◌≡◌, refl, sym, ap, ◌∙◌, subst, Bool, true, false, not, cond, List, [], ◌∷◌, ◌++◌, append-nil, eqb, length, get_or, set, take, drop, replicate, drop_at, length-take-le, eq-eqb, ne_eqb}
+use lib.Seq.{set-append_left}
 use Rattle.rules.specs.Mosts as Most
 use Rattle.rules.specs.Lists.{rising, pad}
 use Rattle.rules.specs.Calls.{list_words}

@@ -1,14 +1,6 @@
 -- The report: the objects met are what is reached, and in rising order they are the one list of it. Before it: what the run answers.
-use Prim.Native.Nat.{ℕ, ◌%◌, ◌≤◌, ◌<◌}
-use native.Mathlib.Nat.{mod-eq_of_lt}
-use native.Mathlib.Omega.{arith}
-use mathlib.Core.Path.{◌≡◌, refl, sym, ap, ◌∙◌, subst}
-use mathlib.Core.Bool.{Bool, true, not}
-use mathlib.Core.List.{List, [], ◌++◌}
-use mathlib.Core.Logic.{◌↔◌}
-use lib.Dec.{eqb, ltb}
-use lib.ListN.{length, get_or, drop, replicate}
-use borrow.Author.Tests.{eqb-true, eqb-false, lt-ltb, le-ltb, ltb-false}
+use Rattle.std.proofs.Common.{ℕ, ◌%◌, ◌≤◌, ◌<◌, mod-eq_of_lt, arith, ◌≡◌, refl, sym, ap, ◌∙◌, subst, Bool, true, not, List, [], ◌++◌, ◌↔◌, eqb, ltb, length, get_or, drop, replicate, eqb-true, lt-ltb, le-ltb, ltb-false, Result, Ok, Err}
+use borrow.Author.Tests.{eqb-false}
 use Rattle.rules.specs.declared.Value.{Value}
 use Rattle.rules.specs.Mosts as Most
 use Rattle.rules.specs.Mosts.{mosts}
@@ -29,7 +21,6 @@ use Rattle.rules.proofs.Reports.{rising_lists, roots_made, reached_range, reach_
 use Rattle.table.specs.StateTable.{Sees, Any}
 use Rattle.walk.specs.Walking.{Tally, tally}
 use Rattle.walk.proofs.Numbers.{number_met, no_number_not_met, none_numbered}
-use Rattle.std.specs.Prelude.{Result, Ok, Err}
 use Rattle.rules.specs.Refusals.{Refuses}
 use Rattle.rules.specs.declared.faults.Refusal.{Refusal}
 use Rattle.run.specs.declared.Outcome.{Outcome}

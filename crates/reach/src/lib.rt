@@ -11,8 +11,8 @@ use rules::{Fault, Refusal};
 use walk::Met;
 use walking::{list_met, walk_roots};
 
-// Runs the turns, then lists the objects that thread t reaches, in rising order: how many there are. A refusal by 1 to 9 changes no word; 17 leaves the
-// list as it was.
+// Runs the turns, then lists the objects that thread t reaches, in rising order: how many there are. A refusal by 1 to 9 changes no word; 17
+// leaves the list as it was.
 pub fn reach(
     text: &[u8],
     turns: &[u8],

@@ -11,4 +11,5 @@ returns-then-d-eq0 c = record { object_below = tt; turn_tells = frameless_quiet 
 
 pub returns : goal.returns
 returns c =
-    let place = locates c.frame_count-d.ensures.sees c.if-d-eq0.false c.locate-h.ensures.thread c.locate-h.ensures.stands in record { object_below = c.line_event.ensures.object_below; turn_tells = found_tells c.locate-h.ensures.thread place c.line_event.ensures.line_tells }
+    let place = locates c.frame_count-d.ensures.sees c.if-d-eq0.false c.locate-h.ensures.thread c.locate-h.ensures.stands in
+    record { object_below = c.line_event.ensures.object_below; turn_tells = found_tells c.locate-h.ensures.thread place c.line_event.ensures.line_tells }

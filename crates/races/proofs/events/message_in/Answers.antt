@@ -1,8 +1,7 @@
 -- `races::events::message_in` meets its contract: only a channel has a message, and it is read of the table.
-use mathlib.Core.Path.{refl}
+use Rattle.std.proofs.Common.{refl, rules}
 use Rattle.table.proofs.StateReads.{channel_in_table}
 use Rattle.races.proofs.EventLines.{message_seen}
-use Rattle.std.proofs.Common.{rules}
 use Rattle.races.proofs.events.message_in.Goals as goal
 
 pub message-requires : goal.message-requires

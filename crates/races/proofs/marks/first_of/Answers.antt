@@ -1,6 +1,5 @@
 -- `races::marks::first_of` meets its contract: the test is its condition.
-use borrow.Author.Tests.{eq-eqb, ne_eqb}
-use mathlib.Core.Path.{refl}
+use Rattle.std.proofs.Common.{eq-eqb, ne_eqb, refl}
 use Rattle.races.proofs.marks.first_of.Goals as goal
 
 pub returns-then-was-eq0 : goal.returns-then-was-eq0

@@ -1,8 +1,5 @@
 -- `reach::sending::in_flight` meets its contract: the thread has no frame, or stands at no send, or its send's target is no channel; else the channel tells.
-use native.Mathlib.Omega.{arith}
-use mathlib.Core.Path.{subst}
-use mathlib.Core.List.{[], ◌∷◌}
-use mathlib.Core.Logic.{⊎_elim}
+use Rattle.std.proofs.Common.{arith, subst, [], ◌∷◌, ⊎_elim}
 use Rattle.rules.specs.declared.forms.Form.TheVariants.{Send}
 use Rattle.rules.proofs.FormNumbers.{number_told, all_but, not_told}
 use Rattle.table.specs.StateTable.{InTable}
