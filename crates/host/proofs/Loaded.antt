@@ -1,6 +1,6 @@
 -- Bytes loaded as words: word i is made of the bytes 2 i and 2 i + 1.
-use Rattle.std.proofs.Common.{ℕ, zero, suc, ◌+◌, ◌*◌, ◌≤◌, ◌<◌, ◌≡◌, refl, sym, ◌∙◌, List, [], ◌∷◌, ◌++◌, append-nil, arith, add-one, length, take, drop, set, get_or, drop-cons, length-take-le, take-suc}
-use lib.Seq.{append_snoc, drop-length, set_at}
+use Rattle.std.proofs.Common.{ℕ, zero, suc, ◌+◌, ◌*◌, ◌≤◌, ◌<◌, ◌≡◌, refl, sym, ◌∙◌, List, [], ◌∷◌, ◌++◌, arith, add-one, length, take, drop, set, get_or, drop-cons, length-take-le, take-suc}
+use lib.Seq.{append_snoc, set_at}
 use Rattle.std.specs.Int.{w16, from_le_bytes}
 use Rattle.host.specs.Bytes.{words_of}
 
@@ -44,7 +44,3 @@ load_next w₀ bytes w i h long e =
     rw (e, drop-cons w₀ i 0 h, ← word_at bytes i (omega arith))
     (set_at (take i words) (get_or w₀ i 0) (drop (suc i) w₀) (get_or words i 0) i (length-take-le i words (omega arith))
     ∙ rw (add-one i, take-suc words i 0 (omega arith)) (sym (append_snoc (take i words) (get_or words i 0) (drop (suc i) w₀))))
-
--- each word is loaded
-pub load_all : (w₀ bytes w : List ℕ) (i : ℕ) → i ≡ length w₀ → w ≡ take i (words_of bytes) ++ drop i w₀ → w ≡ take (length w₀) (words_of bytes)
-load_all w₀ bytes w i all e = (rw (all, drop-length w₀) at e) ∙ append-nil (take (length w₀) (words_of bytes))

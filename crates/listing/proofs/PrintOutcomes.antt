@@ -70,11 +70,6 @@ short_is fault line = λ i. record { fault = fault i; line = line i }
 pub short_in : (room : ℕ) (text l : List ℕ) → length l < room → (Err short_refusal ≡ printed_in room text l) × (l ≡ output_in room text l)
 short_in room text l short = rw (lt-ltb (length l) room short) (refl, refl)
 
-pub long_in : (room : ℕ) (text l : List ℕ) {r : Result ℕ Refusal} {l₁ : List ℕ} → output_bytes ≤ room → room ≤ length l
-    → (r ≡ printed_of text l) × (l₁ ≡ output_after text l) → (r ≡ printed_in room text l) × (l₁ ≡ output_in room text l)
-unfolding printed_of output_after
-long_in room text l wide long told = rw (le-ltb (length l) room long) (rw (le-ltb (length l) output_bytes (omega arith)) at told)
-
 pub short_output : (text l : List ℕ) → length l < output_bytes → (Err short_refusal ≡ printed_of text l) × (l ≡ output_after text l)
 unfolding printed_of output_after
 short_output text l short = short_in output_bytes text l short

@@ -1,7 +1,7 @@
 -- The text of a refusal: the bytes of a line one after the other, its last byte, where it ends, what is shown of it.
-use Prim.Native.Nat.{ℕ, suc, ◌+◌, ◌-◌, ◌≤◌, ◌<◌}
+use Prim.Native.Nat.{ℕ, suc, ◌+◌, ◌-◌, ◌<◌}
 use native.Mathlib.Omega.{arith}
-use mathlib.Core.Path.{◌≡◌, refl, sym, ap, ◌∙◌}
+use mathlib.Core.Path.{◌≡◌, refl, sym, ap}
 use mathlib.Core.Bool.{Bool, true, false, ◌&&◌}
 use mathlib.Core.List.{List, [], ◌∷◌, ◌++◌, map, map-append, append_assoc}
 use lib.Dec.{eqb}
@@ -12,11 +12,10 @@ use Rattle.std.specs.Prelude.{min}
 use Rattle.std.specs.List.{ends_with}
 use Rattle.std.proofs.lemmas.List.{take_min}
 use Rattle.rules.proofs.Counts.{eqb_sym}
-use borrow.Author.Tests.{eqb-true, eqb-false, eq-eqb, ne_eqb}
+use borrow.Author.Tests.{eq-eqb, ne_eqb}
 use Rattle.rules.specs.Numbers as No
 use Rattle.rules.specs.Text.{bytes, find_line}
 use Rattle.rules.specs.Templates.{decimal}
-use Rattle.rules.proofs.ListLaws.{by_bool}
 use Rattle.buffer.specs.declared.Output.{Output}
 use Rattle.buffer.specs.Outputs.{Wrote}
 use Rattle.buffer.specs.Writing.{number_part}
@@ -46,12 +45,6 @@ ends_with_byte [] = refl
 ends_with_byte (c ∷ l) =
     let place : suc (length l) - 1 ≡ length l = omega arith in
     rw (place, last_drop c l, eqb_sym 13 (last_of (c ∷ l))) (and_true (eqb (last_of (c ∷ l)) 13))
-
--- a part from s on goes up to the end of a text where it is as long as what is left there
-pub up_to_end : (s n t : ℕ) → s ≤ t → eqb n (t - s) ≡ eqb (s + n) t
-up_to_end s n t h =
-    by_bool (eqb n (t - s)) (λ e. e ∙ sym (eq-eqb (s + n) t (omega (arith, eqb-true n (t - s) e))))
-    (λ e. e ∙ sym (ne_eqb (s + n) t (λ q. eqb-false n (t - s) e (omega (arith, q)))))
 
 pub shown_none : (k : ℕ) (l : List ℕ) → length l ≡ 0 → [] ≡ shown k l
 unfolding shown

@@ -43,6 +43,3 @@ module _ {old mid : Option (List ℕ)} {text rest : List ℕ} (w : Written old m
 
   pub written_same : Keeps mid new → Written old new text rest
   written_same kept = record { done = w.done; parts = w.parts; appended = nothing_more old mid new w.done w.appended kept }
-
-pub written_all : {old new : Option (List ℕ)} {text rest : List ℕ} → Written old new text rest → rest ≡ [] → Appends old new text
-written_all {old} {new} w empty = rw (w.parts, empty, append-nil w.done) w.appended
