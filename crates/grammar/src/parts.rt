@@ -219,6 +219,7 @@ fn items_at<F: Fn(usize) -> Option<Part>>(text: Text, at: usize, part: F, per: u
     ensures at_le_end { IfSome result (λ l. (at ≤ l.end) × (l.end ≤ 65800)) }
 {
     let mut l = no_items(at);
+    // no index is counted: each item tells where the next may stand
     while byte(text.bytes, l.end) == b' ' {
         let w = part(l.end + 1)?;
         let number = w.word / per;

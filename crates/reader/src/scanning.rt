@@ -112,6 +112,7 @@ pub fn scan_lines(
     };
     let mut n: usize = 0;
     let mut at: usize = 0;
+    // no index over the text is counted: each line tells where the next one stands
     while at < text.len() {
         let line = n + before;
         let Some(l) = grammar::line_at(text, at) else {

@@ -50,7 +50,7 @@ fn whole(fault: Fault) -> Misfit
     }
 }
 
-// Takes an input apart. The list is lent for the turns; one under 32,768 bytes is refused with 9.
+// Takes an input apart. The list, of a fixed length since there is no heap, is lent for the turns; one under 32,768 bytes is refused with 9.
 pub fn split(input: &[u8], turns: &mut [u8]) -> Result<Parts, Misfit>
     ensures { Splits input.now turns.old result turns.new }
 {
@@ -93,7 +93,7 @@ fn do_job<F: FnOnce(&[u8], &[u8], &[u8], &mut [u8]) -> Result<usize, Refusal>>(
 }
 
 // The same; a refusal, that of the input or the one that the job answers, is printed. An output that has not the room is refused with 9 and stays as
-// it was.
+// it was. (Three slices are lent to a job: a closure names them.)
 pub fn print_parts<F: FnOnce(&[u8], &[u8], &[u8], &mut [u8]) -> Result<usize, Refusal>>(
     input: &[u8],
     room: usize,

@@ -24,6 +24,7 @@ fn store_numbers(s: &[u8], at: usize, turns: &mut [u8]) -> Option<Numbers>
         over: false,
         end: at,
     };
+    // no index is counted: each number tells where the next may stand
     while grammar::byte(s, l.end) == b' ' {
         let w = grammar::number_at(s, l.end + 1)?;
         turns[l.count] = (w.word % 256) as u8;

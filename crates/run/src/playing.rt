@@ -116,6 +116,7 @@ pub fn play(p: &[u16], s: &mut [u16], turns: &[u8]) -> Result<u16, Stop>
     ensures { Plays p.now s.old turns.now result s.new }
 {
     let mut stretch = play_from(p, s, turns, 0, 0)?;
+    // nothing is counted: each stretch tells whether there is another
     loop {
         match stretch {
             Stretch::Through(moves) => {

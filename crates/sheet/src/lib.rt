@@ -1,4 +1,5 @@
 // The check sheet: the four conditions for one script and one list of turns, each with its tick.
+// A table is lent as a slice, and each contract says `8192 ≤ length` (kept: crate table says why).
 #![tactic(auto)]
 
 mod cap_lines;

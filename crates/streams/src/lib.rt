@@ -45,6 +45,7 @@ pub fn write_all<W: Write>(writer: &mut W, text: &[u8]) -> io::Result<()>
 {
     let mut rest = text;
     let mut tries = PATIENCE;
+    // as in reading: a call takes any number of bytes
     while !rest.is_empty() {
         match writer.write(rest) {
             Ok(0) if 0 < tries => tries -= 1,
