@@ -186,7 +186,7 @@ fn perform(rt: &HostRuntime, i: usize) -> Status
         Command::Print(job) => perform_job(rt, i + 1, job),
         Command::Check => on_input(rt, i + 1, |input| finish_check(rt, input)),
         Command::Reach => reach(rt, i + 1),
-        Command::Explain => explain_number(rt, number_argument(rt, i + 1).unwrap_or(0)),
+        Command::Explain => explain_number(rt, number_argument(rt, i + 1).unwrap_or(0)), // 0 is the number of nothing, as 22 is
         Command::Version => write_out(rt, b"box 1.8.0\n", Status::Well),
         Command::Help => write_out(rt, USAGE, Status::Well),
         Command::Unknown => usage(rt),

@@ -184,7 +184,8 @@ pub extern "C" fn box_run(
     tell(answer, number, thread, block, line, moves)
 }
 
-// Makes and stores a run, and lists the objects that a thread reaches: how many there are.
+// Makes and stores a run, and lists the objects that a thread reaches: how many there are. (This and the next two are four lines each, joined by `?`:
+// over a closure, each would say its two tables, its slices and its answer again.)
 fn list_reached(
     text: &[u8],
     turns: &[u8],

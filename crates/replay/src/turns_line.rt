@@ -5,7 +5,7 @@ ghost use Rattle.replay.specs.Told.{turns_told, NumbersStored};
 
 use rules::Fault;
 
-// The numbers of a line: how many there are, whether one is over 255, and the place after them.
+// The numbers of a line: how many there are, whether one is over 255 (which is told only where the line fits to its end), and the place after them.
 #[derive(Clone, Copy)]
 pub struct Numbers {
     pub count: usize,

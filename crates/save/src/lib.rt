@@ -15,6 +15,7 @@ fn save_script(text: &[u8], last: &[u8], output: &mut [u8]) -> Result<usize, Ref
 {
     let mut table = [0u16; 8192];
     reader::read(text, &mut table)?;
+    // a match, since through `map_err` the proof does not see which fault it is
     let at = match writer::write(&table, output) {
         Ok(n) => n,
         Err(fault) => return Err(fault.at(0)),

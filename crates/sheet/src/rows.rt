@@ -1,13 +1,13 @@
 // What came of the turns of each thread: a line for each that has one.
-ghost use Rattle.std.specs.Prelude.{◌≡◌, ◌*◌, ◌≤◌, ◌<◌, length};
+ghost use Rattle.std.specs.Prelude.{◌≡◌, ◌≤◌, ◌<◌};
 ghost use Rattle.buffer.specs.Outputs.{HasRoom, Wrote};
 ghost use Rattle.sheet.specs.SheetText.{fates_text, halted_text, played_text, row_name, row_text, rows_text, turns_in};
 
 use buffer::Output;
 
 // How many turns a row counts.
-fn turns_in(counts: &[u16], i: usize) -> usize
-    requires { (i ≤ 80) × (length counts.now ≡ 85) }
+fn turns_in(counts: &[u16; 85], i: usize) -> usize
+    requires { i ≤ 80 }
     ensures { result ≡ turns_in counts.now i }
 {
     counts[i] as usize
@@ -40,8 +40,8 @@ fn put_halted(out: &mut Output, stopped: u16, unplayed: u16)
     out.put_text(b" not played\n");
 }
 
-fn put_fates(out: &mut Output, counts: &[u16], i: usize)
-    requires { HasRoom 73 out.old × (i ≤ 80) × (length counts.now ≡ 85) }
+fn put_fates(out: &mut Output, counts: &[u16; 85], i: usize)
+    requires { HasRoom 73 out.old × (i ≤ 80) }
     ensures { Wrote 73 out.old out.new (fates_text counts.now i) }
 {
     put_played(out, counts[i], counts[i + 1], counts[i + 2]);
@@ -60,8 +60,8 @@ fn put_row_name(out: &mut Output, t: usize)
     }
 }
 
-fn put_row(out: &mut Output, counts: &[u16], t: usize)
-    requires { HasRoom 93 out.old × (t < 17) × (length counts.now ≡ 85) }
+fn put_row(out: &mut Output, counts: &[u16; 85], t: usize)
+    requires { HasRoom 93 out.old × (t < 17) }
     ensures { Wrote 93 out.old out.new (row_text counts.now t) }
 {
     let i = t * 5;
@@ -72,8 +72,8 @@ fn put_row(out: &mut Output, counts: &[u16], t: usize)
     put_fates(out, counts, i);
 }
 
-pub fn put_rows(out: &mut Output, counts: &[u16])
-    requires { HasRoom 1581 out.old × (length counts.now ≡ 85) }
+pub fn put_rows(out: &mut Output, counts: &[u16; 85])
+    requires { HasRoom 1581 out.old }
     ensures { Wrote 1581 out.old out.new (rows_text counts.now 17) }
 {
     for t in 0..17 {

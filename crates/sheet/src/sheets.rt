@@ -101,8 +101,8 @@ fn put_refused_end(out: &mut Output, n: usize)
 }
 
 // 3, of a list that was played.
-fn put_three(out: &mut Output, n: usize, counts: &[u16])
-    requires { HasRoom 1644 out.old × (length counts.now ≡ 85) }
+fn put_three(out: &mut Output, n: usize, counts: &[u16; 85])
+    requires { HasRoom 1644 out.old }
     ensures { Wrote 1644 out.old out.new (three_text n counts.now) }
 {
     put_tick(out, true, b"3. The list of turns is filed\n");

@@ -38,6 +38,7 @@ fn write_table(table: &[u16], last: &[u8], output: &mut [u8]) -> Result<usize, R
     ensures { Says (SaysAgain table.now last.now) output.old result output.new }
 {
     let mut text = [0u8; 16384];
+    // a match, since through `map_err` the proof does not see which fault it is
     let n = match writer::write(table, &mut text) {
         Ok(n) => n,
         Err(fault) => return Err(fault.at(0)),

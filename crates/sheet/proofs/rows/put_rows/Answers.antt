@@ -7,10 +7,10 @@ use Rattle.sheet.proofs.rows.put_rows.Goals as goal
 
 pub loop-t-init : goal.loop-t-init
 unfolding rows_text
-loop-t-init c = nothing 0 (omega (arith, c.requires.0))
+loop-t-init c = nothing 0 (omega (arith, c.requires))
 
 pub put_row-requires : goal.put_row-requires
-put_row-requires c = (omega (arith, c.requires.0, c.loop-t.invariant.most, c.loop-t.invariant.length_same, c.loop-t-test.true), c.loop-t-test.true, c.requires.1)
+put_row-requires c = (omega (arith, c.requires, c.loop-t.invariant.most, c.loop-t.invariant.length_same, c.loop-t-test.true), c.loop-t-test.true)
 
 pub loop-t-preserved : goal.loop-t-preserved
 unfolding rows_text
