@@ -1,5 +1,5 @@
 -- What a text begins with, as the library has it.
-use Rattle.std.specs.Prelude.{ℕ, List, [], ◌∷◌, ◌≡◌, ◌&&◌}
+use Rattle.std.specs.Prelude.{ℕ, List, [], ◌∷◌, ◌≡◌}
 use Rattle.std.proofs.Common.{refl, eqb}
 use Rattle.std.specs.List.{starts_with}
 use Rattle.rules.proofs.Counts.{eqb_sym}
