@@ -20,7 +20,8 @@ pub fn perform_copy(p: &[u16], s: &mut [u16], h: Here) -> Result<Move, Halt>
     super::copies::copy_line(s, h, k, h.part(p, 2))
 }
 
-// Performs the line where the thread stands.
+// Performs the line where the thread stands. (Written out where it is called: so the loop over the turns calls no function.)
+#[inline(always)]
 pub fn perform(p: &[u16], s: &mut [u16], h: Here) -> Result<Move, Halt>
     requires { (8192 ≤ length p.now) × (8192 ≤ length s.old) }
     ensures { PerformsHere p.now s.old h result s.new }
