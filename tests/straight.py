@@ -11,9 +11,8 @@ import sys
 
 ROOT = os.path.dirname(os.path.dirname(os.path.abspath(__file__)))
 DEFINITIONS = ['Templates', 'Input']
-# What a run takes and what boxrun prints, itself or by the job that it lends its output to: lists of bytes, and no text that is read.
-ALLOWED = {'replay': [r'let mut turns = \[0u8; 32768\];', r'\b(turns|output): &mut \[u8\]',
-                      r'<F: FnOnce\(&\[u8\], &\[u8\], &\[u8\], &mut \[u8\]\) -> Result<usize, Refusal>>\(']}
+# What a run takes and what boxrun prints: lists of bytes, and no text that is read.
+ALLOWED = {'replay': [r'let mut turns = \[0u8; 32768\];', r'\b(turns|output): &mut \[u8\]']}
 
 TABLE = '0u16; 8192'
 BYTES = r'b"(?:[^"\\]|\\.)*"'

@@ -1,4 +1,3 @@
--- What the input's reading says of the definitions: the line of turns; the input as a whole; what a job prints of its parts.
+-- What the input's reading says of the definitions: the line of turns; the input as a whole.
 pub mod Told
 pub mod Given
-pub mod Printing

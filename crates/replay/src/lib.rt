@@ -4,12 +4,11 @@
 mod ending;
 mod turns_line;
 
-ghost use Rattle.std.specs.Prelude.{◌≡◌, length, None};
+ghost use Rattle.std.specs.Prelude.{◌≡◌, None};
 ghost use Rattle.rules.specs.Mosts.{mosts};
 ghost use Rattle.rules.specs.Input.{boxrun};
 ghost use Rattle.listing.specs.Outputs.{printed_of, output_after};
 ghost use Rattle.replay.specs.Given.{Splits};
-ghost use Rattle.replay.specs.Printing.{TakesParts, DoesJob, PrintsParts};
 
 use ending::{last_start, lines_before};
 use rules::{Fault, Refusal};
@@ -73,51 +72,17 @@ pub fn split(input: &[u8], turns: &mut [u8]) -> Result<Parts, Misfit>
     }
 }
 
-// Takes an input apart and lets a job write what it makes of the parts: the script's text, the turns and the last line.
-fn do_job<F: FnOnce(&[u8], &[u8], &[u8], &mut [u8]) -> Result<usize, Refusal>>(
-    input: &[u8],
-    output: &mut [u8],
-    job: F,
-) -> Result<usize, Refusal>
-    requires { TakesParts (F.pre job) input.now (length output.old) }
-    ensures { DoesJob (F.post job) input.now output.old result output.new }
-{
-    let mut turns = [0u8; 32768];
-    let parts = split(input, &mut turns)?;
-    job(
-        &input[..parts.script],
-        &turns[..parts.turns],
-        &input[parts.script..],
-        output,
-    )
-}
-
-// The same; a refusal, that of the input or the one that the job answers, is printed. An output that has not the room is refused with 9 and stays as
-// it was. (Three slices are lent to a job: a closure names them.)
-pub fn print_parts<F: FnOnce(&[u8], &[u8], &[u8], &mut [u8]) -> Result<usize, Refusal>>(
-    input: &[u8],
-    room: usize,
-    output: &mut [u8],
-    job: F,
-) -> Result<usize, Refusal>
-    requires { TakesParts (F.pre job) input.now room }
-    ensures { PrintsParts (F.post job) input.now room output.old result output.new }
-{
-    if output.len() < room {
-        return Err(Fault::ShortTable.at(0));
-    }
-    match do_job(input, output, job) {
-        Ok(n) => Ok(n),
-        Err(refusal) => listing::print_refusal(refusal.fault.number(), refusal.line, output),
-    }
-}
-
-// Prints what boxrun prints of its input. An output under 32,768 bytes is refused with 9 and stays as it was.
+// Prints what boxrun prints of its input. An output under 32,768 bytes is refused with 9 and stays as it was. (Not by crate printing's `print_parts`: what
+// reads a script has no byte slice that is written to but its list of turns and its output, and so no job to which it would lend one.)
 pub fn print_input(input: &[u8], output: &mut [u8]) -> Result<usize, Refusal>
     ensures value { result ≡ printed_of (boxrun mosts input.now) output.old }
     ensures output_after { output.new ≡ output_after (boxrun mosts input.now) output.old }
 {
-    print_parts(input, 32768, output, |text, turns, _, output| {
-        listing::print_run(text, turns, output)
-    })
+    let mut turns = [0u8; 32768];
+    match split(input, &mut turns) {
+        Ok(parts) => listing::print_run(&input[..parts.script], &turns[..parts.turns], output),
+        Err(misfit) => {
+            listing::print_refusal(misfit.refusal.fault.number(), misfit.refusal.line, output)
+        }
+    }
 }

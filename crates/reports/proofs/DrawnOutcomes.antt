@@ -11,7 +11,7 @@ use Rattle.rules.specs.Mosts.{mosts}
 use Rattle.rules.specs.Calls.{inputs}
 use Rattle.rules.specs.Drawing.{Drawn, undrawn, drawn, draw_call, drawn_of}
 use Rattle.drawing.specs.Drawings.{Drew, HasDrawn}
-use Rattle.replay.specs.Printing.{Tells}
+use Rattle.printing.specs.Printing.{Tells}
 use Rattle.reports.specs.DrawnTexts.{drawn_as, graph_text}
 use Rattle.reports.proofs.ReportOutcomes.{none_short}
 

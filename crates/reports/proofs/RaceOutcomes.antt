@@ -22,7 +22,7 @@ use Rattle.buffer.proofs.Appends.{front_is}
 use Rattle.rules.proofs.ListLaws.{impossible}
 use Rattle.races.specs.declared.Race.{Race}
 use Rattle.races.specs.Judged.{race_of, Answers, HasJudged}
-use Rattle.replay.specs.Printing.{Tells}
+use Rattle.printing.specs.Printing.{Tells}
 use Rattle.reports.specs.RaceTexts.{race_line, norace_line, found_line, verdict_line, judged_as, race_inputs, verdict_text}
 
 -- ---- The lines

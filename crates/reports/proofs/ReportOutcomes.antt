@@ -27,7 +27,7 @@ use Rattle.rules.specs.declared.faults.Refusal.{Refusal}
 use Rattle.buffer.specs.Writing.{Wrote}
 use Rattle.buffer.proofs.Appends.{front_is}
 use Rattle.reach.specs.Reported.{Answers, Reports, Reached}
-use Rattle.replay.specs.Printing.{Tells}
+use Rattle.printing.specs.Printing.{Tells}
 use Rattle.reports.specs.ReachedLines.{reached_line, reported, report_text}
 
 -- ---- The inputs

@@ -2,7 +2,7 @@
 ghost use Rattle.std.specs.Prelude.{◌≡◌, ◌≤◌, length};
 ghost use Rattle.rules.specs.Mosts as Most;
 ghost use Rattle.listing.specs.Outputs.{printed_in, output_in};
-ghost use Rattle.replay.specs.Printing.{Tells};
+ghost use Rattle.printing.specs.Printing.{Tells};
 ghost use Rattle.reports.specs.DrawnTexts.{graph_text, drawn_text};
 
 use rules::Refusal;
@@ -23,7 +23,7 @@ pub fn print_drawn(input: &[u8], output: &mut [u8]) -> Result<usize, Refusal>
     ensures value { result ≡ printed_in Most.drawing (drawn_text input.now) output.old }
     ensures output_after { output.new ≡ output_in Most.drawing (drawn_text input.now) output.old }
 {
-    replay::print_parts(input, 65536, output, |text, turns, _, output| {
+    printing::print_parts(input, 65536, output, |text, turns, _, output| {
         write_graph(text, turns, output)
     })
 }

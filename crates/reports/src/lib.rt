@@ -7,7 +7,7 @@ mod raced;
 ghost use Rattle.std.specs.Prelude.{◌≡◌, ◌≤◌, length};
 ghost use Rattle.buffer.specs.Outputs.{HasRoom, Wrote};
 ghost use Rattle.listing.specs.Outputs.{printed_of, output_after};
-ghost use Rattle.replay.specs.Printing.{Tells};
+ghost use Rattle.printing.specs.Printing.{Tells};
 ghost use Rattle.reports.specs.ReachedLines.{numbers_text, reached_line, report_text, reached_text};
 
 use buffer::Output;
@@ -60,7 +60,7 @@ pub fn print_reached(input: &[u8], thread: usize, output: &mut [u8]) -> Result<u
     ensures value { result ≡ printed_of (reached_text input.now thread) output.old }
     ensures output_after { output.new ≡ output_after (reached_text input.now thread) output.old }
 {
-    replay::print_parts(input, 32768, output, |text, turns, _, output| {
+    printing::print_parts(input, 32768, output, |text, turns, _, output| {
         write_report(text, turns, thread, output)
     })
 }

@@ -2,7 +2,7 @@
 ghost use Rattle.std.specs.Prelude.{◌≡◌, ◌≤◌, length};
 ghost use Rattle.buffer.specs.Outputs.{HasRoom, Wrote};
 ghost use Rattle.listing.specs.Outputs.{printed_of, output_after};
-ghost use Rattle.replay.specs.Printing.{Tells};
+ghost use Rattle.printing.specs.Printing.{Tells};
 ghost use Rattle.reports.specs.RaceTexts.{race_line, found_line, verdict_text, race_text};
 
 use buffer::Output;
@@ -52,7 +52,7 @@ pub fn print_race(input: &[u8], output: &mut [u8]) -> Result<usize, Refusal>
     ensures value { result ≡ printed_of (race_text input.now) output.old }
     ensures output_after { output.new ≡ output_after (race_text input.now) output.old }
 {
-    replay::print_parts(input, 32768, output, |text, turns, _, output| {
+    printing::print_parts(input, 32768, output, |text, turns, _, output| {
         write_verdict(text, turns, output)
     })
 }

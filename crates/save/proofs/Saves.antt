@@ -30,7 +30,7 @@ use Rattle.buffer.specs.Writing.{over, Wrote}
 use Rattle.buffer.proofs.Appends.{◌▹◌, front_is}
 use Rattle.writer.specs.WriteAnswers as Told
 use Rattle.replay.specs.Given.{Given, away, faulty, given, given_by, given_of}
-use Rattle.replay.specs.Printing.{Tells}
+use Rattle.printing.specs.Printing.{Tells}
 use Rattle.save.specs.Saved.{saved_as, saved, script_saved_as, script_saved, saved_bytes}
 
 -- ---- The script

@@ -2,7 +2,7 @@
 #![tactic(auto)]
 
 ghost use Rattle.std.specs.Prelude.{◌≡◌, ◌+◌, ◌≤◌, length};
-ghost use Rattle.replay.specs.Printing.{Tells};
+ghost use Rattle.printing.specs.Printing.{Tells};
 ghost use Rattle.save.specs.Saved.{saved, script_saved, saved_in, saved_after};
 
 use buffer::Output;
@@ -30,7 +30,7 @@ pub fn print_saved(input: &[u8], output: &mut [u8]) -> Result<usize, Refusal>
     ensures value { result ≡ saved_in (saved input.now) output.old }
     ensures output_after { output.new ≡ saved_after (saved input.now) output.old }
 {
-    replay::print_parts(input, 65536, output, |text, _, last, output| {
+    printing::print_parts(input, 65536, output, |text, _, last, output| {
         save_script(text, last, output)
     })
 }

@@ -20,8 +20,8 @@ use Rattle.reader.specs.ReadAnswers.{Makes}
 use Rattle.reader.proofs.Outcome.{refused_is}
 use Rattle.run.proofs.Answering.{as_read}
 use Rattle.replay.specs.Given.{Given, away, faulty, given, given_of}
-use Rattle.replay.specs.Printing.{Tells, PrintsParts}
-use Rattle.replay.proofs.JobLaws.{Such, such_printed}
+use Rattle.printing.specs.Printing.{Tells, PrintsParts}
+use Rattle.printing.proofs.JobLaws.{Such, such_printed}
 use Rattle.stripping.specs.StrippedTexts.{SaysAgain, StrippedText, StrippedGiven, Says, PrintsStripped}
 use Rattle.stripping.proofs.StrippedRead.{long_away, read_stripped}
 use Rattle.stripping.proofs.StrippedPrints.{says_refusal}

@@ -13,7 +13,7 @@ use Rattle.rules.specs.Listing.{answer_line}
 use Rattle.rules.specs.declared.faults.Refusal.{Refusal}
 use Rattle.listing.specs.Outputs.{short_refusal}
 use Rattle.replay.specs.Given.{Given, away, faulty, given, given_of}
-use Rattle.replay.specs.Printing.{Tells}
+use Rattle.printing.specs.Printing.{Tells}
 
 -- ---- The text
 

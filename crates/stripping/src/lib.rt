@@ -76,5 +76,5 @@ fn write_stripped(
 pub fn print_stripped(input: &[u8], output: &mut [u8]) -> Result<usize, Refusal>
     ensures { PrintsStripped input.now output.old result output.new }
 {
-    replay::print_parts(input, 65536, output, write_stripped)
+    printing::print_parts(input, 65536, output, write_stripped)
 }

@@ -3,7 +3,7 @@ use native.Mathlib.Omega.{arith}
 use mathlib.Core.Path.{refl}
 use Rattle.std.proofs.Common.{rules}
 use Rattle.listing.specs.Outputs.{printed_of, output_after}
-use Rattle.replay.proofs.JobLaws.{text_printed}
+use Rattle.printing.proofs.JobLaws.{text_printed}
 use Rattle.reports.specs.ReachedLines.{reached_given, reached_text}
 use Rattle.reports.proofs.print_reached.Goals as goal
 

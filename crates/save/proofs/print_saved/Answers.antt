@@ -2,7 +2,7 @@
 use native.Mathlib.Omega.{arith}
 use mathlib.Core.Path.{refl}
 use Rattle.std.proofs.Common.{rules}
-use Rattle.replay.proofs.JobLaws.{text_printed}
+use Rattle.printing.proofs.JobLaws.{text_printed}
 use Rattle.save.specs.Saved.{saved_in, saved_after}
 use Rattle.save.proofs.Saves.{saved_given, saved_by_given, saved_parts}
 use Rattle.save.proofs.print_saved.Goals as goal

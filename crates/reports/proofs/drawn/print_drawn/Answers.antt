@@ -2,7 +2,7 @@
 use native.Mathlib.Omega.{arith}
 use mathlib.Core.Path.{refl}
 use Rattle.std.proofs.Common.{rules}
-use Rattle.replay.proofs.JobLaws.{text_printed}
+use Rattle.printing.proofs.JobLaws.{text_printed}
 use Rattle.reports.specs.DrawnTexts.{drawn_given, drawn_text}
 use Rattle.reports.proofs.drawn.print_drawn.Goals as goal
 

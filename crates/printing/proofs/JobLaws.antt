@@ -20,7 +20,7 @@ use Rattle.replay.specs.declared.Parts.{Parts}
 use Rattle.replay.specs.declared.Misfit.{Misfit}
 use Rattle.rules.specs.Refusals.{Refuses}
 use Rattle.replay.specs.Given.{Given, away, faulty, given, given_of, misfit_told, told_of, TellsNone, TellsLine, Splits}
-use Rattle.replay.specs.Printing.{Tells, Shows, JobDone, DoesGiven, DoesJob, Printed, PrintsParts}
+use Rattle.printing.specs.Printing.{Tells, Shows, JobDone, DoesGiven, DoesJob, Printed, PrintsParts}
 use Rattle.replay.proofs.GivenLaws.{given_told}
 
 -- ---- What a job is called on

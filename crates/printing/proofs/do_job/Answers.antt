@@ -4,8 +4,8 @@ use mathlib.Core.Path.{refl}
 use lib.Seq.{length-take-le}
 use Rattle.std.proofs.Common.{rules}
 use Rattle.replay.proofs.GivenLaws.{parts_fit, input_fits, whole_again}
-use Rattle.replay.proofs.JobLaws.{does_job, does_misfit}
-use Rattle.replay.proofs.do_job.Goals as goal
+use Rattle.printing.proofs.JobLaws.{does_job, does_misfit}
+use Rattle.printing.proofs.do_job.Goals as goal
 
 pub returns-in_err-parts : goal.returns-in_err-parts
 returns-in_err-parts g c =

@@ -1,0 +1,2 @@
+-- What a job prints of the parts of an input.
+pub mod Printing
