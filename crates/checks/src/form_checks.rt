@@ -9,7 +9,7 @@ ghost use Rattle.table.specs.StateTable.{InTable, Sees, frame_at};
 ghost use Rattle.checks.specs.declared.form_checks.Halt.TheVariants.{Stops};
 ghost use Rattle.checks.specs.Checked.{result_of, outcome_of, answered, checked, Made, Fielded, InObjects, Few, swap_into, put_into, MethodBlock, Checks};
 
-use rules::{Cap, Fault, Value};
+use rules::{Cap, Fault, Ground, Value};
 use table::Here;
 
 // What ends a line before it has moved: the thread waits, or the line stops the run.
@@ -85,13 +85,13 @@ pub fn permission_check(foreign: bool, alias: bool, other: bool) -> Result<(), F
     ensures { checked result ≡ permit foreign alias other }
 {
     if foreign {
-        return Err(Fault::Foreign);
+        return Err(Fault::from(Ground::Foreign));
     }
     if alias {
-        return Err(Fault::Alias);
+        return Err(Fault::from(Ground::Alias));
     }
     if other {
-        return Err(Fault::Permission);
+        return Err(Fault::from(Ground::Other));
     }
     Ok(())
 }

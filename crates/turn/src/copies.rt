@@ -12,7 +12,7 @@ ghost use Rattle.turn.specs.Copied.{AllMade, renamed_by, CopiesOne, CopiesAll, C
 
 use super::Move;
 use checks::Halt;
-use rules::{Cap, Fault, Value};
+use rules::{Cap, Fault, Ground, Value};
 use table::Here;
 
 // Whether any of the objects met is local to another thread than t.
@@ -108,7 +108,7 @@ fn copy_from(s: &mut [u16], t: usize, cap: u16, n: u16) -> Result<(), Fault>
     let foreign = any_foreign_met(s, t, &order[..count]);
     let used_up = 256 < first + count;
     if foreign {
-        return Err(Fault::Foreign);
+        return Err(Fault::from(Ground::Foreign));
     }
     if used_up {
         return Err(Fault::UsedUp);

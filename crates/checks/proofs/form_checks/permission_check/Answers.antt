@@ -5,15 +5,15 @@ use Rattle.checks.proofs.form_checks.permission_check.Goals as goal
 
 pub returns-then-foreign : goal.returns-then-foreign
 unfolding permit check ◌>>◌ ◌>>=◌
-returns-then-foreign c = rw c.if-foreign.true refl
+returns-then-foreign c = rw (c.if-foreign.true, c.from.ensures) refl
 
 pub returns-then-alias : goal.returns-then-alias
 unfolding permit check ◌>>◌ ◌>>=◌
-returns-then-alias c = rw (c.if-foreign.false, c.if-alias.true) refl
+returns-then-alias c = rw (c.if-foreign.false, c.if-alias.true, c.from-then-alias.ensures) refl
 
 pub returns-then-other : goal.returns-then-other
 unfolding permit check ◌>>◌ ◌>>=◌
-returns-then-other c = rw (c.if-foreign.false, c.if-alias.false, c.if-other.true) refl
+returns-then-other c = rw (c.if-foreign.false, c.if-alias.false, c.if-other.true, c.from-then-other.ensures) refl
 
 pub returns : goal.returns
 unfolding permit check ◌>>◌ ◌>>=◌

@@ -25,7 +25,7 @@ overflow_add-used_up c =
 
 pub returns-then-foreign : goal.returns-then-foreign
 returns-then-foreign c =
-    from_foreign c.walk-count.ensures.walks _ _ c.any_foreign_met-foreign.ensures c.object_count-first.ensures.sees c.if-foreign.true
+    rw c.from.ensures (from_foreign c.walk-count.ensures.walks _ _ c.any_foreign_met-foreign.ensures c.object_count-first.ensures.sees c.if-foreign.true)
 
 pub returns-then-used_up : goal.returns-then-used_up
 returns-then-used_up c =
