@@ -17,7 +17,7 @@ use lib.Seq.{take-suc, take_all, length-take-le}
 use borrow.Author.Tests.{eqb-true, eqb-false, eq-eqb, ne_eqb}
 use types.Run.{OneOf, miss}
 use Rattle.rules.specs.declared.forms.Form.{Form as Name}
-use Rattle.rules.specs.declared.forms.Form.TheVariants.{New, Cast, Copy}
+use Rattle.rules.specs.declared.forms.Form.TheVariants.{NoForm, Thread, Method, Kind, Give, Value, Field, Swap, Call, New, Cast, Spawn, Send, Recv, Copy}
 use Rattle.rules.specs.Forms.{form_of}
 use Rattle.rules.specs.Text.{space}
 use Rattle.rules.specs.Templates.{decimal, print_many}
@@ -43,6 +43,12 @@ namers = New ∷ Cast ∷ Copy ∷ []
 abbrev makers : List Name
 makers = New ∷ Copy ∷ []
 
+abbrev nameless : List Name
+nameless = NoForm ∷ Kind ∷ Thread ∷ Method ∷ Give ∷ Value ∷ Field ∷ Swap ∷ Call ∷ Spawn ∷ Send ∷ Recv ∷ []
+
+abbrev makeless : List Name
+makeless = NoForm ∷ Kind ∷ Thread ∷ Method ∷ Give ∷ Value ∷ Field ∷ Swap ∷ Call ∷ Cast ∷ Spawn ∷ Send ∷ Recv ∷ []
+
 abbrev form_at : Form → Name
 form_at F = form_of (get_or (row F) 0 0)
 
@@ -63,21 +69,21 @@ names_one (line (bind (send s w))) one = absurd (miss (map place namers) 12 tt o
 names_one (line (bind (recv s))) one = absurd (miss (map place namers) 13 tt one)
 names_one (line (bind (copy k s))) one = ap (λ c. suc (rank c)) (cap_of_rank k)
 
-names_none : (F : Form) → (form_at F ≡ New → ⊥) → (form_at F ≡ Cast → ⊥) → (form_at F ≡ Copy → ⊥) → 0 ≡ cap_named F
+names_none : (F : Form) → OneOf (map place nameless) (place (form_at F)) → 0 ≡ cap_named F
 unfolding row pad line_words
-names_none (kind K) n₁ n₂ n₃ = refl
-names_none (opens o) n₁ n₂ n₃ = refl
-names_none (line (give w)) n₁ n₂ n₃ = refl
-names_none (line (bind (value w))) n₁ n₂ n₃ = refl
-names_none (line (bind (field s f))) n₁ n₂ n₃ = refl
-names_none (line (bind (swap s f w))) n₁ n₂ n₃ = refl
-names_none (line (bind (call s i w))) n₁ n₂ n₃ = refl
-names_none (line (bind (new k n ws))) n₁ n₂ n₃ = absurd (n₁ refl)
-names_none (line (bind (cast k w))) n₁ n₂ n₃ = absurd (n₂ refl)
-names_none (line (bind (spawn b))) n₁ n₂ n₃ = refl
-names_none (line (bind (send s w))) n₁ n₂ n₃ = refl
-names_none (line (bind (recv s))) n₁ n₂ n₃ = refl
-names_none (line (bind (copy k s))) n₁ n₂ n₃ = absurd (n₃ refl)
+names_none (kind K) one = refl
+names_none (opens o) one = refl
+names_none (line (give w)) one = refl
+names_none (line (bind (value w))) one = refl
+names_none (line (bind (field s f))) one = refl
+names_none (line (bind (swap s f w))) one = refl
+names_none (line (bind (call s i w))) one = refl
+names_none (line (bind (new k n ws))) one = absurd (miss (map place nameless) 9 tt one)
+names_none (line (bind (cast k w))) one = absurd (miss (map place nameless) 10 tt one)
+names_none (line (bind (spawn b))) one = refl
+names_none (line (bind (send s w))) one = refl
+names_none (line (bind (recv s))) one = refl
+names_none (line (bind (copy k s))) one = absurd (miss (map place nameless) 14 tt one)
 
 makes_one : (F : Form) → OneOf (map place makers) (place (form_at F)) → suc (rank (cap_of (get_or (row F) 1 0))) ≡ cap_made F
 unfolding row pad line_words
@@ -96,21 +102,21 @@ makes_one (line (bind (send s w))) one = absurd (miss (map place makers) 12 tt o
 makes_one (line (bind (recv s))) one = absurd (miss (map place makers) 13 tt one)
 makes_one (line (bind (copy k s))) one = ap (λ c. suc (rank c)) (cap_of_rank k)
 
-makes_none : (F : Form) → (form_at F ≡ New → ⊥) → (form_at F ≡ Copy → ⊥) → 0 ≡ cap_made F
+makes_none : (F : Form) → OneOf (map place makeless) (place (form_at F)) → 0 ≡ cap_made F
 unfolding row pad line_words
-makes_none (kind K) n₁ n₂ = refl
-makes_none (opens o) n₁ n₂ = refl
-makes_none (line (give w)) n₁ n₂ = refl
-makes_none (line (bind (value w))) n₁ n₂ = refl
-makes_none (line (bind (field s f))) n₁ n₂ = refl
-makes_none (line (bind (swap s f w))) n₁ n₂ = refl
-makes_none (line (bind (call s i w))) n₁ n₂ = refl
-makes_none (line (bind (new k n ws))) n₁ n₂ = absurd (n₁ refl)
-makes_none (line (bind (cast k w))) n₁ n₂ = refl
-makes_none (line (bind (spawn b))) n₁ n₂ = refl
-makes_none (line (bind (send s w))) n₁ n₂ = refl
-makes_none (line (bind (recv s))) n₁ n₂ = refl
-makes_none (line (bind (copy k s))) n₁ n₂ = absurd (n₂ refl)
+makes_none (kind K) one = refl
+makes_none (opens o) one = refl
+makes_none (line (give w)) one = refl
+makes_none (line (bind (value w))) one = refl
+makes_none (line (bind (field s f))) one = refl
+makes_none (line (bind (swap s f w))) one = refl
+makes_none (line (bind (call s i w))) one = refl
+makes_none (line (bind (new k n ws))) one = absurd (miss (map place makeless) 9 tt one)
+makes_none (line (bind (cast k w))) one = refl
+makes_none (line (bind (spawn b))) one = refl
+makes_none (line (bind (send s w))) one = refl
+makes_none (line (bind (recv s))) one = refl
+makes_none (line (bind (copy k s))) one = absurd (miss (map place makeless) 14 tt one)
 
 -- of the words that were read
 module _ {t : List ℕ} {n w₀ : ℕ} {f : Name} (first : LineWord t n 0 w₀) (told : f ≡ form_of w₀) where
@@ -138,20 +144,11 @@ module _ {t : List ℕ} {n w₀ : ℕ} {f : Name} (first : LineWord t n 0 w₀) 
               cap_of_line counts rest Fs filled there ∙ makes_one (get_or Fs n no_form) (form_of_line makers one counts rest Fs filled there);
         }
 
-  other_form : {g : Name} → (f ≡ g → ⊥) → (counts rest : List ℕ) (Fs : List Form) → Filled t counts Fs rest → n < length Fs → form_at (get_or Fs n no_form) ≡ g → ⊥
-  other_form other counts rest Fs filled there e = other (told ∙ ap form_of (first.is counts rest Fs filled there) ∙ e)
+  pub named_none : IsOneOf nameless f → TellsLine t n cap_named 0
+  named_none one = record { is = λ counts rest Fs filled there. names_none (get_or Fs n no_form) (form_of_line nameless one counts rest Fs filled there) }
 
-  pub named_none : (f ≡ New → ⊥) → (f ≡ Cast → ⊥) → (f ≡ Copy → ⊥) → TellsLine t n cap_named 0
-  named_none a b c =
-      record {
-        is = λ counts rest Fs filled there. (
-            names_none (get_or Fs n no_form) (other_form a counts rest Fs filled there) (other_form b counts rest Fs filled there) (other_form c counts rest Fs filled there)
-            );
-      }
-
-  pub made_none : (f ≡ New → ⊥) → (f ≡ Copy → ⊥) → TellsLine t n cap_made 0
-  made_none a b =
-      record { is = λ counts rest Fs filled there. makes_none (get_or Fs n no_form) (other_form a counts rest Fs filled there) (other_form b counts rest Fs filled there) }
+  pub made_none : IsOneOf makeless f → TellsLine t n cap_made 0
+  made_none one = record { is = λ counts rest Fs filled there. makes_none (get_or Fs n no_form) (form_of_line makeless one counts rest Fs filled there) }
 
 -- ---- The capability that is asked for
 

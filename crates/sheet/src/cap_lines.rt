@@ -14,7 +14,18 @@ fn cap_named(p: &[u16], n: usize) -> Option<Cap>
 {
     match Form::from(table::line_word(p, n, 0)) {
         Form::New | Form::Cast | Form::Copy => Some(Cap::from(table::line_word(p, n, 1))),
-        _ => None,
+        Form::NoForm
+        | Form::Kind
+        | Form::Thread
+        | Form::Method
+        | Form::Give
+        | Form::Value
+        | Form::Field
+        | Form::Swap
+        | Form::Call
+        | Form::Spawn
+        | Form::Send
+        | Form::Recv => None,
     }
 }
 
@@ -25,7 +36,19 @@ fn cap_made(p: &[u16], n: usize) -> Option<Cap>
 {
     match Form::from(table::line_word(p, n, 0)) {
         Form::New | Form::Copy => Some(Cap::from(table::line_word(p, n, 1))),
-        _ => None,
+        Form::NoForm
+        | Form::Kind
+        | Form::Thread
+        | Form::Method
+        | Form::Give
+        | Form::Value
+        | Form::Field
+        | Form::Swap
+        | Form::Call
+        | Form::Cast
+        | Form::Spawn
+        | Form::Send
+        | Form::Recv => None,
     }
 }
 

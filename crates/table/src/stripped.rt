@@ -13,7 +13,21 @@ use rules::{Cap, Form};
 fn names_cap(form: Form) -> bool
     ensures { result ≡ names_cap form }
 {
-    matches!(form, Form::New | Form::Cast | Form::Copy)
+    match form {
+        Form::New | Form::Cast | Form::Copy => true,
+        Form::NoForm
+        | Form::Kind
+        | Form::Thread
+        | Form::Method
+        | Form::Give
+        | Form::Value
+        | Form::Field
+        | Form::Swap
+        | Form::Call
+        | Form::Spawn
+        | Form::Send
+        | Form::Recv => false,
+    }
 }
 
 // Line n with unsafe for its capability; a row past the last line has no form.
