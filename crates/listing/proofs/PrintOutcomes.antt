@@ -12,6 +12,7 @@ use Rattle.table.specs.ProgramTable.{fresh_table}
 use Rattle.table.specs.StateTable.{Any}
 use Rattle.run.specs.declared.Outcome.{Outcome}
 use Rattle.run.specs.Made.{Made, Makes}
+use Rattle.run.specs.RunAnswers.{told}
 use Rattle.run.proofs.AnswerTells.{made_is, refused_is}
 use Rattle.std.specs.Result.{is_ok}
 use Rattle.rules.specs.declared.faults.Fault.TheVariants.{ShortTable}
@@ -20,17 +21,17 @@ use Rattle.buffer.specs.declared.Output.{Output}
 use Rattle.buffer.specs.Writing.{Wrote as WroteAt}
 use Rattle.buffer.specs.Outputs.{Wrote}
 use Rattle.listing.specs.StateWriting.{Writes}
-use Rattle.listing.specs.Outputs.{run_text, output_bytes, short_refusal, printed_in, output_in, printed_of, output_after, answer_text}
+use Rattle.listing.specs.Outputs.{run_text, output_bytes, short_refusal, printed_in, output_in, printed_of, output_after}
 use Rattle.buffer.proofs.Appends.{front_is}
 use Rattle.buffer.proofs.Outputs.{◌▹◌, same_text, at_front}
 
 -- ---- The run's text, of what the inputs come to
 
 module _ (turns p s : List ℕ) {a : Result Outcome Refusal} where
-  refused_text : (C : Reading) {e : Refusal} → Made C turns a p s → a ≡ Err e → answer_text a ≡ printed (ran_on mosts turns C)
-  refused_text C made is = ap answer_text is ∙ sym (ap (λ (x : Reading). printed (ran_on mosts turns x)) (refused_is turns p s C made is))
+  refused_text : (C : Reading) {e : Refusal} → Made C turns a p s → a ≡ Err e → answer_line (told a) ≡ printed (ran_on mosts turns C)
+  refused_text C made is = ap (λ x. answer_line (told x)) is ∙ sym (ap (λ (x : Reading). printed (ran_on mosts turns x)) (refused_is turns p s C made is))
 
-  made_text : {o o₁ o₂ : Output} (C : Reading) {x : Outcome} → Made C turns a p s → a ≡ Ok x → Wrote 40 o o₁ (answer_text a)
+  made_text : {o o₁ o₂ : Output} (C : Reading) {x : Outcome} → Made C turns a p s → a ≡ Ok x → Wrote 40 o o₁ (answer_line (told a))
       → Writes 26368 s o₁ o₂ Any state_lines → Wrote 26408 o o₂ (printed (ran_on mosts turns C))
   unfolding listing
   made_text C made e w ws =
@@ -70,6 +71,11 @@ short_is fault line = λ i. record { fault = fault i; line = line i }
 pub short_in : (room : ℕ) (text l : List ℕ) → length l < room → (Err short_refusal ≡ printed_in room text l) × (l ≡ output_in room text l)
 short_in room text l short = rw (lt-ltb (length l) room short) (refl, refl)
 
+pub long_in : (room : ℕ) (text l : List ℕ) {r : Result ℕ Refusal} {l₁ : List ℕ} → output_bytes ≤ room → room ≤ length l
+    → (r ≡ printed_of text l) × (l₁ ≡ output_after text l) → (r ≡ printed_in room text l) × (l₁ ≡ output_in room text l)
+unfolding printed_of output_after
+long_in room text l wide long told = rw (le-ltb (length l) room long) (rw (le-ltb (length l) output_bytes (omega arith)) at told)
+
 pub short_output : (text l : List ℕ) → length l < output_bytes → (Err short_refusal ≡ printed_of text l) × (l ≡ output_after text l)
 unfolding printed_of output_after
 short_output text l short = short_in output_bytes text l short
@@ -80,7 +86,7 @@ module _ (text turns : List ℕ) {program state p s : List ℕ} (program-fresh :
   by_inputs made = made.makes program-fresh state-fresh
 
   module _ {l : List ℕ} {o o₁ : Output} (long : output_bytes ≤ length l) (start : o.at ≡ 0) (content : o.buf.now ≡ l) where
-    pub prints_refusal : (a : Result Outcome Refusal) {l₁ : List ℕ} → Makes text turns false program state a p s → Wrote 40 o o₁ (answer_text a)
+    pub prints_refusal : (a : Result Outcome Refusal) {l₁ : List ℕ} → Makes text turns false program state a p s → Wrote 40 o o₁ (answer_line (told a))
         → l₁ ≡ o₁.buf.now → is_ok a ≡ false → Prints (run_text text turns) l o₁.at l₁
     unfolding run_text
     prints_refusal (Ok x) made w left e = impossible cc
@@ -88,7 +94,7 @@ module _ (text turns : List ℕ) {program state p s : List ℕ} (program-fresh :
         in_output (run_text text turns) long
         (at_front start content left (same_text 40 (refused_text turns p s (reading mosts (long_text text || long_turns turns) false text) (by_inputs made) refl) (omega arith) w))
 
-    pub prints_run : (a : Result Outcome Refusal) {l₁ : List ℕ} {o₂ : Output} → Makes text turns false program state a p s → Wrote 40 o o₁ (answer_text a)
+    pub prints_run : (a : Result Outcome Refusal) {l₁ : List ℕ} {o₂ : Output} → Makes text turns false program state a p s → Wrote 40 o o₁ (answer_line (told a))
         → l₁ ≡ o₂.buf.now → is_ok a ≡ true → Writes 26368 s o₁ o₂ Any state_lines → Prints (run_text text turns) l o₂.at l₁
     unfolding run_text
     prints_run (Err e) made w left is ws = impossible cc

@@ -5,8 +5,10 @@ use Rattle.rules.specs.Reading.{reading}
 use Rattle.rules.specs.Calls.{long_text, long_turns}
 use Rattle.rules.specs.Listing.{answer_line}
 use Rattle.rules.specs.Input.{ran_on, printed}
-use Rattle.run.specs.declared.Outcome.{Outcome}
-use Rattle.run.specs.RunAnswers.{told}
+use Rattle.rules.specs.Run as R
+use Rattle.rules.specs.Run.{finished, stuck, open_end, refused, ended, halted}
+use Rattle.listing.specs.declared.answers.Answer.{Answer}
+use Rattle.listing.specs.declared.answers.Answer.TheVariants.{Refused, Finished, Stuck, Open, Stopped}
 use Rattle.rules.specs.declared.faults.Fault.TheVariants.{ShortTable}
 use Rattle.rules.specs.declared.faults.Refusal.{Refusal}
 
@@ -36,6 +38,14 @@ printed_of text output = printed_in output_bytes text output
 unfoldable pub output_after : (text output : List ℕ) → List ℕ
 output_after text output = output_in output_bytes text output
 
--- the line of what the run answers
-abbrev pub answer_text : Result Outcome Refusal → List ℕ
-answer_text r = answer_line (told r)
+-- what a run answers, in the code's numbers, as document 01's answer
+abbrev pub in_numbers : Answer → R.Answer
+in_numbers (Refused k n) = refused k n
+in_numbers (Finished m) = ended finished m
+in_numbers (Stuck m) = ended stuck m
+in_numbers (Open m) = ended open_end m
+in_numbers (Stopped k t b l m) = halted k t b l m
+
+-- and its line
+abbrev pub answer_text : Answer → List ℕ
+answer_text a = answer_line (in_numbers a)

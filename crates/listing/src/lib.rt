@@ -12,8 +12,8 @@ ghost use Rattle.rules.specs.Listing.{answer_line};
 ghost use Rattle.table.specs.ProgramTable.{fresh_table};
 ghost use Rattle.listing.specs.Outputs.{run_text, printed_of, output_after};
 
-pub use answers::put_answer;
 use answers::put_refused;
+pub use answers::{Answer, put_answer};
 use buffer::Output;
 use rules::{Fault, Refusal};
 use state_lines::put_state;
@@ -35,7 +35,7 @@ fn print_on(
     }
     let answer = run::make(text, turns, false, program, state);
     let mut out = Output::new(output);
-    put_answer(&mut out, answer);
+    put_answer(&mut out, Answer::from(answer));
     if answer.is_ok() {
         put_state(&mut out, state);
     }

@@ -9,6 +9,7 @@ ghost use Rattle.sheet.specs.SheetParts.{FirstNumber, WritesProgram};
 use super::cap_lines::{count_making, put_naming};
 use super::examined::Examined;
 use buffer::Output;
+use listing::Answer;
 use rules::Cap;
 use run::Outcome;
 
@@ -142,9 +143,9 @@ pub fn put_four(out: &mut Output, guarded: Outcome, found: &Examined)
 {
     put_tick(out, found.same, b"4. Guards change no result\n");
     out.put_text(b"       with guards: ");
-    listing::put_answer(out, Ok(guarded));
+    listing::put_answer(out, Answer::from(Ok(guarded)));
     out.put_text(b"       without:     ");
-    listing::put_answer(out, found.stripped);
+    listing::put_answer(out, Answer::from(found.stripped));
     put_compared(out, found.same, found.played);
 }
 

@@ -23,12 +23,12 @@ returns c =
     elim c.if-is_ok.branch [
       | then-is_ok w ↦
           let same = rw (← w.out-is) at w.put_state.ensures.buffer_same in
-          let x = prints_run a.text.now a.turns.now c.requires.0 c.requires.1 long new.start new.content _ c.make-answer.ensures c.put_answer.ensures
+          let x = prints_run a.text.now a.turns.now c.requires.0 c.requires.1 long new.start new.content _ c.make-answer.ensures (rw c.from.ensures at c.put_answer.ensures)
           (rw (← w.out-is) (search (rules, same))) (sym c.is_ok.ensures.value ∙ w.if-is_ok.true) w.put_state.ensures in
           rw w.out-is (record { value = x.answers; output_after = x.leaves })
       | else-is_ok w ↦
           let same = rw (← w.out-is) at c.put_answer.ensures.buffer_same in
-          let x = prints_refusal a.text.now a.turns.now c.requires.0 c.requires.1 long new.start new.content _ c.make-answer.ensures c.put_answer.ensures
+          let x = prints_refusal a.text.now a.turns.now c.requires.0 c.requires.1 long new.start new.content _ c.make-answer.ensures (rw c.from.ensures at c.put_answer.ensures)
           (rw (← w.out-is) (search (rules, same))) (sym c.is_ok.ensures.value ∙ w.if-is_ok.false) in
           rw w.out-is (record { value = x.answers; output_after = x.leaves })
     ]

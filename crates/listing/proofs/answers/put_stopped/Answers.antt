@@ -6,7 +6,7 @@ use Rattle.listing.proofs.answers.put_stopped.Goals as goal
 
 pub returns : goal.returns
 returns c =
-    let x = c.args.stop in
-    same_text 40 (stopped_line _ x.thread x.block x.line x.moves) (omega arith)
-    (c.put_text.ensures ▹ rw c.number.ensures at c.put_number.ensures ▹ c.put_number-2.ensures ▹ c.put_number-3.ensures ▹ c.put_number-4.ensures
-    ▹ c.put_number-5.ensures ▹ c.put_text-2.ensures)
+    let a = c.args in
+    same_text 40 (stopped_line a.number a.thread a.block a.line a.moves) (omega arith)
+    (c.put_text.ensures ▹ c.put_number.ensures ▹ c.put_number-2.ensures ▹ c.put_number-3.ensures ▹ c.put_number-4.ensures ▹ c.put_number-5.ensures
+    ▹ c.put_text-2.ensures)
