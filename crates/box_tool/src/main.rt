@@ -206,7 +206,9 @@ fn has_argument(rt: &HostRuntime, i: usize) -> bool {
 }
 
 // Argument i, at the front of a word that is lent for it; nothing where it is missing, or longer than the word.
-fn argument<'a>(rt: &HostRuntime, i: usize, word: &'a mut [u8]) -> &'a [u8] {
+fn argument<'a>(rt: &HostRuntime, i: usize, word: &'a mut [u8]) -> &'a [u8]
+    ensures { length result.now ≤ length word.old }
+{
     match rt.arg(i, word) {
         Ok(n) => &word[..n],
         Err(_) => &[],
