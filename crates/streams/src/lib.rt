@@ -33,6 +33,9 @@ pub fn read_all<R: Read>(reader: &mut R, buf: &mut [u8]) -> io::Result<usize>
             Ok(0) => break,
             Ok(n) => done += n,
             Err(error) if is_interrupted(&error) && 0 < patience => patience -= 1,
+            Err(error) if is_interrupted(&error) => return Err(Error::from_raw_os_error(
+                INTERRUPTED,
+            )),
             Err(error) => return Err(error),
         }
     }
@@ -52,6 +55,9 @@ pub fn write_all<W: Write>(writer: &mut W, text: &[u8]) -> io::Result<()>
             Ok(0) => return Err(Error::from_raw_os_error(INTERRUPTED)),
             Ok(n) => rest = &rest[n..],
             Err(error) if is_interrupted(&error) && 0 < tries => tries -= 1,
+            Err(error) if is_interrupted(&error) => return Err(Error::from_raw_os_error(
+                INTERRUPTED,
+            )),
             Err(error) => return Err(error),
         }
     }
