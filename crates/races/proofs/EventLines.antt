@@ -1,5 +1,5 @@
 -- The event of the line where a thread stands, as the tables tell it: the words of the line's row name the slot, which is filled, so that what the code reads is what the rule reads.
-use Rattle.std.proofs.Common.{ℕ, ◌/◌, ◌%◌, ◌≤◌, ◌<◌, arith, ◌≡◌, refl, sym, ap, ◌∙◌, ◌⊎◌, ⊎_elim, List, [], ◌∷◌, length, get_or}
+use Rattle.std.proofs.Common.{ℕ, ◌/◌, ◌%◌, ◌≤◌, ◌<◌, arith, ◌≡◌, refl, sym, ap, ◌∙◌, ◌⊎◌, ⊎_elim, List, [], ◌∷◌, length, get_or, replicate}
 use Rattle.rules.specs.declared.Value.{Value}
 use Rattle.rules.specs.declared.Value.TheVariants.{Absent, Obj, Chan}
 use Rattle.rules.specs.declared.Event.{Event}
@@ -18,12 +18,10 @@ use Rattle.checks.specs.Checked.{here_at, Stand}
 use Rattle.checks.proofs.Standing.{SlotSeen, MessageSeen, frame_is, slot_in_table, slot_place, slot_found, slot_read}
 use Rattle.turn.proofs.TurnSteps.{let_names, word_names}
 use Rattle.turn.proofs.Dispatch.{word_at, Tells, tells_field, tells_swap, tells_send, tells_recv, tells_copy}
-use Rattle.walk.specs.declared.Met.{Met}
-use Rattle.walk.specs.Walking.{Walks, Of}
-use Rattle.walk.specs.Walked.{tally_of}
+use Rattle.walk.specs.Walking.{Walks, Of, Tally, tally}
 use Rattle.walk.proofs.FromNothing.{walk_from_nothing}
 use Rattle.turn.proofs.Located.{no_frames, Finds}
-use Rattle.races.specs.Events.{ObjectBelow, OnObject, LineTells, TurnTells, NoneMet, Meets}
+use Rattle.races.specs.Events.{ObjectBelow, OnObject, LineTells, TurnTells, Meets}
 use Rattle.races.proofs.EventLaws.{event_at_lem, message_made}
 
 -- ---- What is read of the table
@@ -189,10 +187,9 @@ module _ {p s : List ℕ} {t : ℕ} where
 -- ---- The objects met
 
 -- its object is walked
-pub walk_meets : {s : List ℕ} {e : Event} (m m₁ : Met) (x : ℕ) → (e ≡ Puts x) ⊎ ((e ≡ Receives x) ⊎ (e ≡ Copies x)) → NoneMet m
-    → Walks s (tally_of m) (Of (Obj x)) (λ S. Obj x ∷ []) (tally_of m₁) → Meets s e m₁.order.now m₁.count
-walk_meets m m₁ x is nothing walks =
-    let from = rw nothing at walks in
+pub walk_meets : {s order : List ℕ} {e : Event} {w : Tally} (x : ℕ) → (e ≡ Puts x) ⊎ ((e ≡ Receives x) ⊎ (e ≡ Copies x))
+    → Walks s (tally (replicate 256 0) order 0) (Of (Obj x)) (λ S. Obj x ∷ []) w → Meets s e w.order w.count
+walk_meets x is from =
     record {
       meets = λ P n S rest held fits.
           ⊎_elim (λ a. rw a (λ there. (walk_from_nothing from held fits there).listed))

@@ -1,5 +1,5 @@
 -- What a turn does, read off the tables, and the objects that it meets.
-use Rattle.std.specs.Prelude.{ℕ, ◌<◌, ◌≡◌, List, [], ◌∷◌, length, take, replicate}
+use Rattle.std.specs.Prelude.{ℕ, ◌<◌, ◌≡◌, List, [], ◌∷◌, length, take}
 use Rattle.rules.specs.declared.Value.{Value}
 use Rattle.rules.specs.declared.Value.TheVariants.{Absent, Obj, Chan}
 use Rattle.rules.specs.declared.Event.{Event}
@@ -13,9 +13,6 @@ use Rattle.rules.specs.Fits.{Fits}
 use Rattle.rules.specs.Races.{line_event, event}
 use Rattle.table.specs.declared.standing.Here.{Here}
 use Rattle.table.specs.StateTable.{Held, OnLine}
-use Rattle.walk.specs.declared.Met.{Met}
-use Rattle.walk.specs.Walking.{tally}
-use Rattle.walk.specs.Walked.{tally_of}
 use Rattle.checks.specs.Checked.{here_at, Stand}
 use Rattle.turn.specs.Performed.{Loaded}
 
@@ -51,10 +48,6 @@ met_by os (Swaps x f) = []
 met_by os (Puts x) = met_from os (Obj x ∷ [])
 met_by os (Receives x) = met_from os (Obj x ∷ [])
 met_by os (Copies x) = met_from os (Obj x ∷ [])
-
--- no object is met yet
-abbrev pub NoneMet : Met → Type 0
-NoneMet m = tally_of m ≡ tally (replicate mosts.objects 0) m.order.now 0
 
 -- the first r words of a list are the objects met by an event, in any state of a run that has its object
 pub record Meets (s : List ℕ) (e : Event) (order : List ℕ) (r : ℕ) : Type 0 where

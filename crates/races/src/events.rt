@@ -3,11 +3,10 @@ ghost use Rattle.std.specs.Prelude.{◌/◌, ◌%◌, ◌≤◌, ◌<◌, length
 ghost use Rattle.rules.specs.State.{thread_at, slot_at};
 ghost use Rattle.rules.specs.Races.{message_in, put_event};
 ghost use Rattle.table.specs.StateTable.{InTable, Sees, frame_at};
-ghost use Rattle.races.specs.Events.{ObjectBelow, OnObject, LineTells, TurnTells, NoneMet, Meets};
+ghost use Rattle.races.specs.Events.{ObjectBelow, OnObject, LineTells, TurnTells, Meets};
 
 use rules::{Event, Form, Value};
 use table::Here;
-use walk::Met;
 
 // ---- A value, where it is an object
 
@@ -101,13 +100,18 @@ pub fn event(p: &[u16], s: &[u16], t: usize) -> Event
 
 // ---- The objects met
 
-// The objects met from the event's message, or from what it copies, in order.
-pub fn meet(met: &mut Met, s: &[u16], e: Event)
-    requires { (8192 ≤ length s.now) × ObjectBelow 256 e × NoneMet met.old }
-    ensures { Meets s.now e met.new.order.now met.new.count }
+// The objects met from the event's message, or from what it copies, put in order at the front of a list: how many. (A list and no `Met`: so the places
+// are cleared at an event that meets objects, and at no other turn.)
+pub fn meet(s: &[u16], e: Event, order: &mut [u16]) -> usize
+    requires { (8192 ≤ length s.now) × ObjectBelow 256 e × (256 ≤ length order.old) }
+    ensures few { result ≤ 256 }
+    ensures meets { Meets s.now e order.new result }
 {
     match e {
-        Event::Quiet | Event::Reads(_, _) | Event::Swaps(_, _) => {}
-        Event::Puts(n) | Event::Receives(n) | Event::Copies(n) => met.walk(s, Value::Obj(n)),
+        Event::Quiet | Event::Reads(_, _) | Event::Swaps(_, _) => 0,
+        Event::Puts(n) | Event::Receives(n) | Event::Copies(n) => {
+            let mut places = [0u16; 256];
+            walk::walk(s, &mut places, order, 0, Value::Obj(n))
+        }
     }
 }

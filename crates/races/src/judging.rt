@@ -6,7 +6,6 @@ use super::Race;
 use super::events::{event, meet};
 use super::marks::{Found, Marks, note};
 use tally::Fate;
-use walk::Met;
 
 // Takes the turn of thread t, and notes it under its mark: None where it stops the run, or else the turn that it races with, if there is one.
 fn play(p: &[u16], s: &mut [u16], t: usize, mark: u16, marks: &mut Marks) -> Option<Option<Found>>
@@ -14,12 +13,8 @@ fn play(p: &[u16], s: &mut [u16], t: usize, mark: u16, marks: &mut Marks) -> Opt
     ensures { Plays p.now s.old t mark marks.old result s.new marks.new }
 {
     let e = event(p, s, t);
-    let mut places = [0u16; 256];
     let mut order = [0u16; 256];
-    let mut met = Met::new(&mut places, &mut order);
-    meet(&mut met, s, e);
-    let count = met.count;
-    let order = met.order;
+    let count = meet(s, e, &mut order);
     match tally::take_turn(p, s, t) {
         Fate::Halted => None,
         Fate::Moved => Some(note(marks, e, &order[..count], t % 16, mark)),

@@ -7,7 +7,7 @@ pub returns-in-Halted : goal.returns-in-Halted
 returns-in-Halted c = halted_plays _ _ c.take_turn.ensures c.in-Halted.is
 
 pub returns-in-Moved : goal.returns-in-Moved
-returns-in-Moved c = moving_plays _ _ c.take_turn.ensures c.event-e.ensures.turn_tells c.meet.ensures c.in-Moved.is c.note.ensures.roomy c.note.ensures.notes
+returns-in-Moved c = moving_plays _ _ c.take_turn.ensures c.event-e.ensures.turn_tells c.meet-count.ensures.meets c.in-Moved.is c.note.ensures.roomy c.note.ensures.notes
 
 pub returns-in-Waited : goal.returns-in-Waited
 returns-in-Waited c = waiting_plays _ _ c.take_turn.ensures c.in-Waited.is refl
