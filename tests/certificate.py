@@ -66,10 +66,14 @@ def sources_of(crate):
         yield os.path.splitext(os.path.basename(path))[0], read(os.path.relpath(path, ROOT))
 
 
-def methods(source):
-    """The type and the name of each method that a source gives to one: its own that are pub, and those of its traits."""
+def methods(source, types=None):
+    """The type and the name of each method that a source gives to one: its own that are pub, and those of its traits; if types are given, where the
+    head of the impl names one of them."""
     for block in re.finditer(IMPL, source, re.M | re.S):
-        of_trait = ' for ' in block[0].partition('{')[0]
+        head = block[0].partition('{')[0]
+        if types is not None and not types.intersection(re.findall(r'\w+', head)):
+            continue
+        of_trait = ' for ' in head
         for name in re.findall(r'^    %sfn (\w+)' % ('' if of_trait else 'pub '), block[2], re.M):
             yield block[1], name
 
@@ -115,7 +119,7 @@ def stands(cited):
 
 
 def public_functions():
-    """Each function that a crate's lib.rt declares pub or passes on, and each method of such a type."""
+    """Each function that a crate's lib.rt declares pub or passes on, and each method of such a type, or of a trait over one."""
     for crate in re.findall(r'^(\w+)(?: staticlib)?:', read('crates.txt'), re.M):
         library = read('crates/%s/src/lib.rt' % crate)
         for name in re.findall(r'^pub (?:extern "C" )?fn (\w+)', library, re.M):
@@ -125,8 +129,8 @@ def public_functions():
                 yield '%s::%s' % (crate, name)
         types = set(re.findall(r'^pub (?:enum|struct) (\w+)', library, re.M)) | {name for _, name in passed_on(library)}
         for _, source in sources_of(crate):
-            for method in sorted(set(methods(source))):
-                if library and method[0] in types:
+            for method in sorted(set(methods(source, types))):
+                if library:
                     yield '%s::%s::%s' % ((crate,) + method)
 
 
